@@ -1,0 +1,25 @@
+-- Signed numbers: their size, and how they are read back from their bits. Assumes nothing.
+use Prim.Native.Nat.{ℕ, suc, _*_, _<_, _^_}
+use mathlib.Core.Path.{_≡_, refl, _∙_}
+use native.Mathlib.Omega.{arith}
+use lib.IntN.{ℤ, pos, negsuc, natAbs, _*ℤ_}
+use mir.Syntax.{Width, w32, w64}
+use mir.Val.{SFits, toZ, ofZ}
+use mir.Facts.{toZ-ofZ, sfits-widen}
+use Rattle.measure.specs.RoundingLaws.{abs-neg}
+
+pub abs-mul : (z : ℤ) (s : ℕ) → natAbs (z *ℤ pos s) ≡ natAbs z * s
+abs-mul (pos n) s = refl
+abs-mul (negsuc n) s = abs-neg (pos (suc n * s))
+
+pub small : (z : ℤ) → natAbs z < 2 ^ 63 → SFits w64 z
+small (pos n) h = record { sfits = h }
+small (negsuc n) h = record { sfits = omega arith }
+
+-- `x as i64` of an i32 is x
+pub widened : {z : ℤ} → SFits w32 z → toZ w64 (ofZ w64 (toZ w32 (ofZ w32 z))) ≡ z
+widened h = rw (toZ-ofZ h, toZ-ofZ {w = w64} (sfits-widen tt h))
+
+-- what a callee ensures of a signed argument and result
+pub called : {w : Width} {z r : ℤ} (f : ℤ → ℤ) → SFits w32 z → SFits w r → r ≡ f (toZ w32 (ofZ w32 z)) → toZ w (ofZ w r) ≡ f z
+called f h k e = toZ-ofZ k ∙ (rw (toZ-ofZ h) at e)

@@ -1,0 +1,6 @@
+pub mod Pitches
+pub mod Scales
+pub mod Rounding
+pub mod ScaleLaws
+pub mod RoundingLaws
+pub mod Worked
