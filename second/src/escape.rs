@@ -50,11 +50,12 @@ struct Scanner<'a> {
 }
 
 impl State {
-    /// The line as expanded; the first byte that earns a refusal decides.
-    pub fn expand(&mut self, line: &[u8], arguments: &Arguments, mode: Mode) -> Work<Vec<u8>> {
-        let expanded = Vec::with_capacity(line.len());
-        let mut scanner =
-            Scanner { state: self, arguments, mode, line, at: 0, nested: Vec::new(), scanned: 0, expanded };
+    /// The line as expanded from the place `at` on; the first byte that earns a refusal decides. The bytes before it, a
+    /// control byte and a name, stand as they are, and count as scanned and expanded.
+    pub fn expand(&mut self, line: &[u8], at: usize, arguments: &Arguments, mode: Mode) -> Work<Vec<u8>> {
+        let mut expanded = Vec::with_capacity(line.len());
+        expanded.extend_from_slice(&line[..at]);
+        let mut scanner = Scanner { state: self, arguments, mode, line, at, nested: Vec::new(), scanned: at, expanded };
         scanner.run()?;
         Ok(scanner.expanded)
     }

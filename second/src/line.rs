@@ -36,16 +36,18 @@ impl State {
             return self.body_line(line, given);
         }
         if !is_control(line) {
-            let expanded = self.expand(line, given, Mode::Plain)?;
+            let expanded = self.expand(line, 0, given, Mode::Plain)?;
             return self.text_line(expanded);
         }
         // ".. are ignored unexpanded"
         let Some(meaning) = self.meaning(line) else { return Ok(()) };
+        // The name is raw bytes: what follows it is expanded.
+        let behind = next_space(line, 1);
         if let Meaning::Request(Request::DefineString) = meaning {
-            let expanded = self.expand(line, given, Mode::Copy)?;
+            let expanded = self.expand(line, behind, given, Mode::Copy)?;
             return self.define_string_line(&expanded, false);
         }
-        let expanded = self.expand(line, given, Mode::Plain)?;
+        let expanded = self.expand(line, behind, given, Mode::Plain)?;
         self.control_line(meaning, expanded)
     }
 
@@ -55,7 +57,7 @@ impl State {
             self.close_definition();
             return Ok(());
         }
-        let stored = self.expand(line, given, Mode::Copy)?;
+        let stored = self.expand(line, 0, given, Mode::Copy)?;
         self.add_to_definition(&stored)
     }
 
