@@ -166,7 +166,12 @@ impl Scanner<'_> {
                 self.next_here()?;
                 self.put(byte)?;
             }
-            (Mode::Copy, _) => self.put(b'\\')?,
+            (Mode::Copy, Some(byte)) => {
+                self.next_here()?;
+                self.put(b'\\')?;
+                self.put(byte)?;
+            }
+            (Mode::Copy, None) => self.put(b'\\')?,
             // "\\ and \e print a backslash, \- a minus, \& a mark of no width [..], backslash-space a fixed blank"
             (Mode::Plain, _) => {
                 let printed = match self.needed()? {

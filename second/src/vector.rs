@@ -174,7 +174,7 @@ impl Outcome {
         text
     }
 
-    fn out(&self) -> &[u8] {
+    pub fn out(&self) -> &[u8] {
         match self {
             Outcome::Whole { out, .. } | Outcome::Called { out, .. } => out,
         }

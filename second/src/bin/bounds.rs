@@ -96,6 +96,17 @@ impl Bounds {
         };
         self.passes("8,192 bytes scanned", scanned(206), "x".repeat(206) + "\n");
         self.refuses("8,193 bytes scanned", scanned(207), 4, 3);
+
+        // An escape is read whole before it acts. In copy mode `\q` stays: here its backslash would be expanded byte 513,
+        // and its q is byte 8,192 or 8,193 scanned. Two strings u of 200 bytes, 106 bytes of its own and the `.ds t `
+        // make 512 bytes expanded and 518 scanned; 21 strings s make 7,623 scanned; the rest are undefined strings.
+        let kept = |few: usize, long: usize| {
+            let strings = format!(".ds s {}\n.ds u {}\n", "\\\\*z".repeat(120), "x".repeat(200));
+            let empty = format!("{}{}{}", "\\*s".repeat(21), "\\*z".repeat(few), "\\*(zz".repeat(long));
+            format!(".pl 1\n{strings}.ds t \\*u\\*u{}{empty}\\q\n", "x".repeat(106))
+        };
+        self.refuses("an escape cut by 8,192 bytes scanned", kept(15, 1), 4, 4);
+        self.refuses("an escape past 512 bytes expanded", kept(13, 2), 3, 4);
     }
 
     /// Refusal 6: sizes of numbers, and parentheses.

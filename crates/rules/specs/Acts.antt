@@ -1,0 +1,192 @@
+-- What each request does once its line is expanded and its break is made (document 01, 'Numbers' and 'Lines and escapes').
+use mathlib.Core.Bool.{Bool, true, false, not}
+use mathlib.Core.Option.{Option, none, some}
+use mathlib.Core.List.{List, [], _∷_}
+use Prim.Native.Nat.{ℕ}
+use lib.Dec.{leb}
+use lib.ListN.{length, getD}
+use lib.IntN.{ℤ, pos, negsuc, _+ℤ_}
+use Rattle.rules.specs.Printers.{Printer}
+use Rattle.rules.specs.declared.Name.{Name}
+use Rattle.rules.specs.Bytes.{isThere}
+use Rattle.rules.specs.Refusals.{Judged, value, bad, judge, _>>=_}
+use Rattle.rules.specs.Numbers.{cells, rows, units, signed, within}
+use Rattle.rules.specs.Registers.{lookup, predefined, valueOr0, stepOr0, setValue}
+use Rattle.rules.specs.Texts.{textOf, remove, defineString, openMacro}
+use Rattle.rules.specs.Escapes.{escaped}
+use Rattle.rules.specs.Names.{Named, one, tooLong, nameOf}
+use Rattle.rules.specs.Arguments.{Part, first, arguments, stringText, condition}
+use Rattle.rules.specs.Settings.{Layout, Setting, set, goBack, changed, lineRange, indentRange, offsetRange, pageRange, withLine, withIndent, withOffset, withPageLength, withTotal, withFilling, withAdjusting, withCentred}
+use Rattle.rules.specs.Traps.{plant, uproot}
+use Rattle.rules.specs.declared.Breaking.{Breaking}
+use Rattle.rules.specs.declared.Breaking.the-variants.{Br, Sp, Bp, Fi, Nf, Ce, In, Ti}
+use Rattle.rules.specs.declared.Unbreaking.{Unbreaking}
+use Rattle.rules.specs.declared.Unbreaking.the-variants.{Pl, Po, Ll, Ad, Na, Nr, De, Rm, Wh, If}
+use Rattle.rules.specs.State.{State, again, onStack, withStack, withLayout, withRegisters, withTexts, withOpened, withTraps}
+use Rattle.rules.specs.Rows.{Next, goes, refuses, skip, eject}
+use Rattle.rules.specs.Lines.{lineOf, holds}
+
+-- on with a value; a refusal closes
+abbrev pub given : {A : Type 0} → Judged A → State → (A → Next) → Next
+given (value a) s k = k a
+given (bad n) s k = refuses n s
+
+abbrev pub settles : Judged State → State → Next
+settles j s = given j s goes
+
+abbrev pub laidOut : Judged Layout → State → Next
+laidOut j s = given j s (λ y. goes (withLayout y s))
+
+-- the n-th argument, from 0: "to a request an empty one is missing"
+abbrev pub argument : ℕ → List ℕ → List ℕ
+argument n l = getD (arguments l) n []
+
+-- a name argument: "a missing one means no action or refusal"; "7: .. longer than two bytes"
+abbrev pub onName : Named → State → (Name → Judged State) → Judged State
+onName Named.none s k = value s
+onName tooLong s k = bad 7
+onName (one n) s k = k n
+
+-- "9: a text on the input stack redefined or removed"
+abbrev pub free : State → Name → Judged Name
+free s n = judge (not (onStack n (s .input .stack))) 9 n
+
+-- ds: "ds with a name only an empty string"; after an if the text is written back with escapes
+abbrev pub writtenBack : (afterIf : Bool) → List ℕ → List ℕ
+writtenBack true l = escaped l
+writtenBack false l = l
+
+abbrev pub defineText : State → List ℕ → Name → Judged State
+defineText s l n = do
+  m ← free s n
+  ts ← defineString m l (s .tables .texts)
+  value (withTexts ts s)
+
+abbrev pub defineFrom : Option Part → (afterIf : Bool) → State → Judged State
+defineFrom none i s = value s
+defineFrom (some f) i s = onName (nameOf (f .part)) s (defineText s (writtenBack i (stringText (f .rest))))
+
+unfoldable pub defines : (afterIf : Bool) → List ℕ → State → Judged State
+defines i l s = defineFrom (first l) i s
+
+-- de: its old text is gone, and its lines come next
+abbrev pub openText : State → Name → Judged State
+openText s n = do
+  m ← free s n
+  ts ← openMacro m (s .tables .texts)
+  value (withOpened (some (record { name = m; body = [] })) (withTexts ts s))
+
+-- "rm of a name with no user text does nothing"
+abbrev pub removeIf : (there : Bool) → State → Name → Judged State
+removeIf true s n = free s n >>= λ m. value (withTexts (remove m (s .tables .texts)) s)
+removeIf false s n = value s
+
+abbrev pub removeText : State → Name → Judged State
+removeText s n = removeIf (isThere (textOf n (s .tables .texts))) s n
+
+-- wh: "no name removes"; "11: .. 17th trap"
+abbrev pub plantAt : ℤ → Named → State → Judged State
+plantAt r Named.none s = value (withTraps (uproot r (s .tables .traps)) s)
+plantAt r tooLong s = bad 7
+plantAt r (one n) s = let ts = plant r n (s .tables .traps) in judge (leb (length ts) 16) 11 (withTraps ts s)
+
+-- if: "What follows its spaces, if anything, is dealt with as a line without second expansion"
+abbrev pub follows : Bool → List ℕ → State → State
+follows true [] s = s
+follows true (b ∷ l) s = withStack (again (lineOf (b ∷ l)) ∷ s .input .stack) s
+follows false l s = s
+
+-- nr: "The sum with the old value is a result in the sense of 6 for nr only"
+abbrev pub newValue : (signed : Bool) → (old change : ℤ) → Judged ℤ
+newValue true old v = within (old +ℤ v)
+newValue false old v = value v
+
+-- ce: "n of 0 or less ends centring"
+abbrev pub countOf : ℤ → ℕ
+countOf (pos n) = n
+countOf (negsuc n) = 0
+
+module _ (p : Printer) where
+  -- ll, in and po; missing, "the value before the last setting"
+  abbrev pub setting : (range : ℤ → Judged ℕ) → Setting → List ℕ → Judged Setting
+  setting range old [] = value (goBack old)
+  setting range old (b ∷ l) = do
+    v ← cells (p .pitch) (b ∷ l)
+    n ← range (changed (signed (b ∷ l)) (old .now) v)
+    value (set n old)
+
+  -- pl; missing, 66 rows
+  abbrev pub pageLength : (used old : ℕ) → List ℕ → Judged ℕ
+  pageLength used old [] = pageRange used (pos (p .page))
+  pageLength used old (b ∷ l) = do
+    v ← rows (p .pitch) (b ∷ l)
+    pageRange used (changed (signed (b ∷ l)) old v)
+
+  -- "for ti the old value is the indent at that moment, an unsigned ti is the total itself"
+  abbrev pub indentTotal : List ℕ → Layout → Judged Layout
+  indentTotal [] y = value y
+  indentTotal (b ∷ l) y = do
+    v ← cells (p .pitch) (b ∷ l)
+    n ← indentRange (changed (signed (b ∷ l)) (y .indent .now) v)
+    value (withTotal (some n) y)
+
+  -- sp and ce; missing, 1
+  abbrev pub spacing : List ℕ → Judged ℤ
+  spacing [] = value (pos 1)
+  spacing (b ∷ l) = rows (p .pitch) (b ∷ l)
+
+  abbrev pub centring : List ℕ → Judged ℕ
+  centring [] = value 1
+  centring (b ∷ l) = units (p .pitch) (b ∷ l) >>= λ v. value (countOf v)
+
+  -- A request that breaks, after its break.
+  unfoldable pub act : Breaking → List ℕ → State → Next
+  act Br l s = goes s
+  act Sp l s = given (spacing (argument 0 l)) s (λ n. skip n s)
+  act Bp l s = eject (s .page .number) s
+  act Fi l s = goes (withLayout (withFilling true (s .layout)) s)
+  act Nf l s = goes (withLayout (withFilling false (s .layout)) s)
+  act Ce l s = laidOut (centring (argument 0 l) >>= λ n. value (withCentred n (s .layout))) s
+  act In l s = laidOut (setting indentRange (s .layout .indent) (argument 0 l) >>= λ v. value (withIndent v (s .layout))) s
+  act Ti l s = laidOut (indentTotal (argument 0 l) (s .layout)) s
+
+  -- "nr without a step the old step (0 at first)"
+  abbrev pub newStep : List ℕ → ℤ → Judged ℤ
+  newStep [] old = value old
+  newStep (b ∷ l) old = units (p .pitch) (b ∷ l)
+
+  -- "7: .. a predefined register written"
+  abbrev pub writeIf : (predefined : Bool) → (new step : List ℕ) → State → Name → Judged State
+  writeIf true v l s n = bad 7
+  writeIf false v l s n = do
+    x ← units (p .pitch) v
+    y ← newValue (signed v) (valueOr0 (lookup n (s .tables .registers))) x
+    z ← newStep l (stepOr0 (lookup n (s .tables .registers)))
+    rs ← setValue n y z (s .tables .registers)
+    value (withRegisters rs s)
+
+  abbrev pub writeRegister : (new step : List ℕ) → State → Name → Judged State
+  writeRegister [] l s n = value s
+  writeRegister (b ∷ v) l s n = writeIf (predefined n) (b ∷ v) l s n
+
+  abbrev pub plantTrap : (row name : List ℕ) → State → Judged State
+  plantTrap [] n s = value s
+  plantTrap (b ∷ r) n s = rows (p .pitch) (b ∷ r) >>= λ v. plantAt v (nameOf n) s
+
+  -- `.if` alone does nothing
+  abbrev pub ifLine : (condition rest : List ℕ) → State → Judged State
+  ifLine [] l s = value s
+  ifLine (b ∷ c) l s = holds p (s .page .number) (b ∷ c) >>= λ v. value (follows v l s)
+
+  -- A request that does not break.
+  unfoldable pub perform : Unbreaking → List ℕ → State → Judged State
+  perform Pl l s = pageLength (s .page .used) (s .layout .page) (argument 0 l) >>= λ n. value (withLayout (withPageLength n (s .layout)) s)
+  perform Po l s = setting offsetRange (s .layout .offset) (argument 0 l) >>= λ v. value (withLayout (withOffset v (s .layout)) s)
+  perform Ll l s = setting lineRange (s .layout .line) (argument 0 l) >>= λ v. value (withLayout (withLine v (s .layout)) s)
+  perform Ad l s = value (withLayout (withAdjusting true (s .layout)) s)
+  perform Na l s = value (withLayout (withAdjusting false (s .layout)) s)
+  perform Nr l s = onName (nameOf (argument 0 l)) s (writeRegister (argument 1 l) (argument 2 l) s)
+  perform De l s = onName (nameOf (argument 0 l)) s (openText s)
+  perform Rm l s = onName (nameOf (argument 0 l)) s (removeText s)
+  perform Wh l s = plantTrap (argument 0 l) (argument 1 l) s
+  perform If l s = let c = condition l in ifLine (c .part) (c .rest) s

@@ -1,0 +1,104 @@
+-- Control lines, arguments and names (document 01, 'Lines and escapes'). Assumes nothing.
+use mathlib.Core.Bool.{true, false}
+use mathlib.Core.List.{List, [], _∷_}
+use mathlib.Core.Option.{Option, some}
+use Prim.Native.Nat.{ℕ, zero, suc}
+use lib.Dec.{eqb}
+use Rattle.rules.specs.Bytes.{byte, bytes, space, firstWhere, entry}
+use Rattle.rules.specs.declared.Name.{Name}
+use Rattle.rules.specs.Names.{oneByte, twoBytes}
+
+-- A part of a line, and what follows it.
+pub record Part : Type 0 where
+  pub part : List ℕ
+  pub rest : List ℕ
+
+abbrev pub part : List ℕ → List ℕ → Part
+part a r = record { part = a; rest = r }
+
+abbrev pub push : ℕ → Part → Part
+push b p = part (b ∷ p .part) (p .rest)
+
+unfoldable pub afterSpaces : List ℕ → List ℕ
+afterSpaces [] = []
+afterSpaces (b ∷ l) = elim (eqb b space) [ true ↦ afterSpaces l | false ↦ b ∷ l ]
+
+-- Where in an argument a byte stands: in a bare one, in a quoted one, or there behind a quote that may be a lone one.
+pub data Place : Type 0 where
+  bare quoted behind : Place
+
+pub data Byte : Type 0 where
+  blank quote other : Byte
+
+abbrev pub byteOf : ℕ → Byte
+unfolding firstWhere
+byteOf b = entry ((space, blank) ∷ (byte "\"", quote) ∷ []) other b
+
+-- A byte is kept or dropped, or the argument has ended before it.
+pub data Fate : Type 0 where
+  keeps drops : Place → Fate
+  ended : Fate
+
+-- "Arguments part at spaces; one that starts with a double quote runs to the next lone one .., "" inside being one quote"
+abbrev pub fate : Place → Byte → Fate
+fate bare blank = ended
+fate bare quote = keeps bare
+fate bare other = keeps bare
+fate quoted blank = keeps quoted
+fate quoted quote = drops behind
+fate quoted other = keeps quoted
+fate behind blank = ended
+fate behind quote = keeps quoted
+fate behind other = ended
+
+unfoldable pub upTo : Place → List ℕ → Part
+unfolding firstWhere
+upTo p [] = part [] []
+upTo p (b ∷ l) = elim (fate p (byteOf b)) [ keeps q ↦ push b (upTo q l) | drops q ↦ upTo q l | ended ↦ part [] (b ∷ l) ]
+
+-- the first argument and what follows it, if there is one
+abbrev pub firstBy : Byte → ℕ → List ℕ → Part
+firstBy quote b l = upTo quoted l
+firstBy blank b l = upTo bare (b ∷ l)
+firstBy other b l = upTo bare (b ∷ l)
+
+abbrev pub firstOf : List ℕ → Option Part
+firstOf [] = Option.none
+firstOf (b ∷ l) = some (firstBy (byteOf b) b l)
+
+unfoldable pub first : List ℕ → Option Part
+unfolding afterSpaces upTo
+first l = firstOf (afterSpaces l)
+
+-- "past nine are dropped": at most n arguments
+unfoldable pub argumentsUpTo : ℕ → List ℕ → List (List ℕ)
+argumentsUpTo zero l = []
+argumentsUpTo (suc n) l = elim (first l) [ Option.none ↦ [] | some p ↦ p .part ∷ argumentsUpTo n (p .rest) ]
+
+unfoldable pub arguments : List ℕ → List (List ℕ)
+unfolding argumentsUpTo first
+arguments l = argumentsUpTo 9 l
+
+-- ds: "In ds one leading " is dropped", after the spaces behind the name
+abbrev pub withoutQuoteBy : Byte → ℕ → List ℕ → List ℕ
+withoutQuoteBy quote b l = l
+withoutQuoteBy blank b l = b ∷ l
+withoutQuoteBy other b l = b ∷ l
+
+abbrev pub withoutQuote : List ℕ → List ℕ
+withoutQuote [] = []
+withoutQuote (b ∷ l) = withoutQuoteBy (byteOf b) b l
+
+unfoldable pub stringText : List ℕ → List ℕ
+unfolding afterSpaces firstWhere
+stringText l = withoutQuote (afterSpaces l)
+
+-- the bytes up to a space, and those from it on: a control line's "name is the raw bytes directly after that one up to a space"
+unfoldable pub word : List ℕ → Part
+unfolding upTo
+word l = upTo bare l
+
+-- if: "The condition of an if ends at a space"; "What follows its spaces" is the rest
+unfoldable pub condition : List ℕ → Part
+unfolding word afterSpaces
+condition l = let c = word (afterSpaces l) in part (c .part) (afterSpaces (c .rest))

@@ -1,0 +1,216 @@
+-- The expansion of a line (document 01, 'Lines and escapes'), byte by byte: "the first event that earns one decides". Assumes nothing.
+use mathlib.Core.Bool.{Bool, true, false, _&&_}
+use mathlib.Core.List.{List, [], _∷_, _++_}
+use mathlib.Core.Option.{Option, none, some}
+use Prim.Native.Nat.{ℕ, zero, suc, _-_}
+use lib.Dec.{leb}
+use lib.ListN.{length, getD}
+use Rattle.rules.specs.Bytes.{byte, bytes, space, backslash, mark, fixedBlank, firstWhere, entry}
+use Rattle.rules.specs.declared.Name.{Name}
+use Rattle.rules.specs.Names.{oneByte, twoBytes}
+use Rattle.rules.specs.Refusals.{Judged, value, bad}
+use Rattle.rules.specs.Registers.{Register, Seen, Reference, stepRegister, decimal}
+use Rattle.rules.specs.declared.Turn.{Turn}
+use Rattle.rules.specs.declared.Turn.the-variants.{Still, Up, Down}
+use Rattle.rules.specs.declared.Kind.{Kind}
+use Rattle.rules.specs.declared.Kind.the-variants.{Macro, String}
+use Rattle.rules.specs.declared.Mode.{Mode}
+use Rattle.rules.specs.declared.Mode.the-variants.{Plain, Copy}
+use Rattle.rules.specs.Texts.{Text, textOf}
+
+-- What a line is expanded with: what the read-only registers show, the texts, and the arguments of the text called by name.
+pub record Surroundings : Type 0 where
+  pub seen : Seen
+  pub texts : List Text
+  pub arguments : List (List ℕ)
+
+-- The expanded line and the registers after its steps, or a refusal.
+pub data Scanned : Type 0 where
+  scanned : List ℕ → List Register → Scanned
+  refused : ℕ → List Register → Scanned
+
+-- What a name stands for: a register to be shown, or a string.
+pub data Wanted : Type 0 where
+  number : Turn → Wanted
+  aString : Wanted
+
+-- What has been read of an escape.
+pub data Escape : Type 0 where
+  -- nothing; \; \n; \n+ \n- or \*; these or \n and (; the same and one byte; \$
+  outside slash numbering : Escape
+  naming long : Wanted → Escape
+  longer : Wanted → ℕ → Escape
+  argument : Escape
+
+-- What the next byte does.
+pub data Action : Type 0 where
+  -- bytes come into the expanded line, and the escape is over
+  writes : List ℕ → Action
+  -- a backslash begins an escape; the escape goes on
+  begins : Action
+  holds : Escape → Action
+  -- a register or string is named; an argument is, counted from 0
+  wants : Wanted → Name → Action
+  gives : ℕ → Action
+  -- the line ends
+  ends : Action
+  -- "5: an escape not listed"
+  unlisted : Action
+
+-- "\" ends the line", "\nx \n(xx .. \*x \*(xx .. \$1 to \$9": those that act in both modes
+abbrev pub acting : List (ℕ × Action)
+acting = (byte "\"", ends) ∷ (byte "n", holds numbering) ∷ (byte "*", holds (naming aString)) ∷ (byte "$", holds argument) ∷ []
+
+-- "\\ and \e print a backslash, \- a minus, \& a mark of no width .., backslash-space a fixed blank"
+abbrev pub listed : List (ℕ × Action)
+listed =
+    (backslash, writes (backslash ∷ [])) ∷ (byte "e", writes (backslash ∷ [])) ∷ (byte "-", writes (byte "-" ∷ []))
+    ∷ (byte "&", writes (mark ∷ [])) ∷ (space, writes (fixedBlank ∷ [])) ∷ acting
+
+-- "\\ becomes \, \. becomes a period, \n \* \$ \" act"
+abbrev pub listedInCopy : List (ℕ × Action)
+listedInCopy = (backslash, writes (backslash ∷ [])) ∷ (byte ".", writes (byte "." ∷ [])) ∷ acting
+
+abbrev pub named : Wanted → ℕ → Action
+unfolding firstWhere
+named w b = entry ((byte "(", holds (long w)) ∷ []) (wants w (oneByte b)) b
+
+abbrev pub numbered : (listed : Bool) → ℕ → Action
+numbered true b = gives (b - byte "1")
+numbered false b = unlisted
+
+unfoldable pub actionOf : Mode → Escape → ℕ → Action
+unfolding firstWhere
+actionOf m outside b = entry ((backslash, begins) ∷ []) (writes (b ∷ [])) b
+actionOf Plain slash b = entry listed unlisted b
+actionOf Copy slash b = entry listedInCopy (writes (backslash ∷ b ∷ [])) b
+actionOf m numbering b = entry ((byte "+", holds (naming (number Up))) ∷ (byte "-", holds (naming (number Down))) ∷ []) (named (number Still) b) b
+actionOf m (naming w) b = named w b
+actionOf m (long w) b = holds (longer w b)
+actionOf m (longer w a) b = wants w (twoBytes a b)
+actionOf m argument b = numbered (leb (byte "1") b && leb b (byte "9")) b
+
+-- Where a scan stands.
+pub record Scan : Type 0 where
+  -- what is unread of each text, the innermost string first and the line last
+  pub unread : List (List ℕ)
+  pub escape : Escape
+  -- bytes that may still come into the expanded line
+  pub room : ℕ
+  pub registers : List Register
+
+abbrev pub withUnread : List (List ℕ) → Scan → Scan
+withUnread u s = record { unread = u; escape = s .escape; room = s .room; registers = s .registers }
+
+abbrev pub withEscape : Escape → Scan → Scan
+withEscape e s = record { unread = s .unread; escape = e; room = s .room; registers = s .registers }
+
+abbrev pub withRegisters : List Register → Scan → Scan
+withRegisters r s = record { unread = s .unread; escape = s .escape; room = s .room; registers = r }
+
+-- after bytes came into the line
+abbrev pub wrote : List ℕ → Scan → Scan
+wrote l s = record { unread = s .unread; escape = outside; room = s .room - length l; registers = s .registers }
+
+-- What an action leads to: bytes of the expanded line and the scan after them, or the end of the scan.
+pub data Effect : Type 0 where
+  goes : List ℕ → Scan → Effect
+  stops : Scanned → Effect
+
+abbrev pub refuse : ℕ → Scan → Effect
+refuse n s = stops (refused n (s .registers))
+
+-- "3: .. expanded line passes 512 bytes"
+abbrev pub writeBy : Bool → List ℕ → Scan → Effect
+writeBy true l s = goes l (wrote l s)
+writeBy false l s = refuse 3 s
+
+abbrev pub write : List ℕ → Scan → Effect
+write l s = writeBy (leb (length l) (s .room)) l s
+
+-- "5: an escape .. cut short in its line or string"; in copy mode "a lone backslash at the end too, stays"
+abbrev pub atEnd : List (List ℕ) → Bool
+atEnd [] = true
+atEnd ([] ∷ u) = true
+atEnd ((b ∷ l) ∷ u) = false
+
+abbrev pub holdBy : Bool → Escape → Scan → Effect
+holdBy true e s = refuse 5 s
+holdBy false e s = goes [] (withEscape e s)
+
+abbrev pub beginBy : Bool → Mode → Scan → Effect
+beginBy false m s = goes [] (withEscape slash s)
+beginBy true Plain s = refuse 5 s
+beginBy true Copy s = write (backslash ∷ []) s
+
+-- "4: strings nested past 8"; the line itself is the first of the texts
+abbrev pub enterBy : Bool → List ℕ → Scan → Effect
+enterBy true l s = goes [] (withEscape outside (withUnread (l ∷ s .unread) s))
+enterBy false l s = refuse 4 s
+
+-- "a string, scanned in place"; "9: .. a macro named as a string"; "Undefined ones give .. nothing"
+abbrev pub enter : Option Text → Scan → Effect
+enter none s = goes [] (withEscape outside s)
+enter (some t) s = elim (t .kind) [ Macro ↦ refuse 9 s | String ↦ enterBy (leb (length (s .unread)) 8) (t .bytes) s ]
+
+abbrev pub showIt : Reference → Scan → Effect
+showIt (value x) s = write (decimal (x .0)) (withRegisters (x .1) s)
+showIt (bad n) s = refuse n s
+
+abbrev pub want : Surroundings → Wanted → Name → Scan → Effect
+want w (number t) n s = showIt (stepRegister (w .seen) t n (s .registers)) s
+want w aString n s = enter (textOf n (w .texts)) s
+
+-- "There \$, and ds after an if, write backslash, mark and fixed blank as \e, \& and backslash-space"
+unfoldable pub escaped : List ℕ → List ℕ
+unfolding firstWhere
+escaped [] = []
+escaped (b ∷ l) = entry ((backslash, bytes "\\e") ∷ (mark, bytes "\\&") ∷ (fixedBlank, bytes "\\ ") ∷ []) (b ∷ []) b ++ escaped l
+
+-- "\$1 to \$9 an argument, not scanned again"; there are none inside a string
+abbrev pub given : Mode → List (List ℕ) → List ℕ → List ℕ
+given m (t ∷ u ∷ us) a = []
+given Plain [] a = a
+given Plain (t ∷ []) a = a
+given Copy [] a = escaped a
+given Copy (t ∷ []) a = escaped a
+
+-- The next byte: of the innermost text that has one.
+pub data Next : Type 0 where
+  reads : ℕ → Scan → Next
+  over : List Register → Next
+
+abbrev pub next : List (List ℕ) → Scan → Next
+next [] s = over (s .registers)
+next ([] ∷ u) s = next u s
+next ((b ∷ l) ∷ u) s = reads b (withUnread (l ∷ u) s)
+
+abbrev pub before : List ℕ → Scanned → Scanned
+before l (scanned r rs) = scanned (l ++ r) rs
+before l (refused n rs) = refused n rs
+
+abbrev pub follow : Effect → (Scan → Scanned) → Scanned
+follow (goes l s) k = before l (k s)
+follow (stops r) k = r
+
+module _ (w : Surroundings) (m : Mode) where
+  abbrev pub effectOf : Action → Scan → Effect
+  effectOf (writes l) s = write l s
+  effectOf begins s = beginBy (atEnd (s .unread)) m s
+  effectOf (holds e) s = holdBy (atEnd (s .unread)) e s
+  effectOf (wants x n) s = want w x n s
+  effectOf (gives k) s = write (given m (s .unread) (getD (w .arguments) k [])) s
+  effectOf ends s = stops (scanned [] (s .registers))
+  effectOf unlisted s = refuse 5 s
+
+  -- "4: .. or past 8,192 bytes scanned for one line": `left` is how many may still be
+  unfoldable pub run : ℕ → Next → Scanned
+  run zero (over rs) = scanned [] rs
+  run zero (reads b s) = refused 4 (s .registers)
+  run (suc left) (over rs) = scanned [] rs
+  run (suc left) (reads b s) = follow (effectOf (actionOf m (s .escape) b) s) (λ s'. run left (next (s' .unread) s'))
+
+  -- the line l, of which `prefix` bytes that stand before it are already counted
+  unfoldable pub scan : List Register → (prefix : ℕ) → List ℕ → Scanned
+  unfolding run actionOf stepRegister decimal textOf escaped
+  scan rs prefix l = run (8192 - prefix) (next (l ∷ []) (record { unread = l ∷ []; escape = outside; room = 512 - prefix; registers = rs }))

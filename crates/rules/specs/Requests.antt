@@ -1,0 +1,49 @@
+-- The requests (document 01, 'What is built'), which of them break, and which start the first page ('Rows, pages, traps').
+use mathlib.Core.Bool.{Bool, true, false}
+use mathlib.Core.Option.{Option, none, some}
+use mathlib.Core.List.{List, [], _∷_}
+use Prim.Native.Char.{Char}
+use Rattle.rules.specs.Bytes.{byte, firstWhere, entryOf}
+use Rattle.rules.specs.Names.{twoBytes, sameName}
+use Rattle.rules.specs.declared.Name.{Name}
+use Rattle.rules.specs.declared.Mode.{Mode}
+use Rattle.rules.specs.declared.Mode.the-variants.{Plain, Copy}
+use Rattle.rules.specs.declared.Breaking.{Breaking}
+use Rattle.rules.specs.declared.Breaking.the-variants.{Br, Sp, Bp, Fi, Nf, Ce, In, Ti}
+use Rattle.rules.specs.declared.Unbreaking.{Unbreaking}
+use Rattle.rules.specs.declared.Unbreaking.the-variants.{Pl, Po, Ll, Ad, Na, Nr, De, Rm, Wh, If}
+use Rattle.rules.specs.declared.Request.{Request}
+use Rattle.rules.specs.declared.Request.the-variants.{Breaks, Keeps, Ds}
+
+abbrev pub is : Char → Char → Request → Name × Request
+is a b r = (twoBytes (byte a) (byte b), r)
+
+-- "Requests: br sp bp pl po ll in ti fi nf ad na ce nr ds de rm wh if"; "br sp bp fi nf ce in ti break"
+abbrev pub requests : List (Name × Request)
+requests =
+    is "b" "r" (Breaks Br) ∷ is "s" "p" (Breaks Sp) ∷ is "b" "p" (Breaks Bp) ∷ is "p" "l" (Keeps Pl) ∷ is "p" "o" (Keeps Po)
+    ∷ is "l" "l" (Keeps Ll) ∷ is "i" "n" (Breaks In) ∷ is "t" "i" (Breaks Ti) ∷ is "f" "i" (Breaks Fi) ∷ is "n" "f" (Breaks Nf)
+    ∷ is "a" "d" (Keeps Ad) ∷ is "n" "a" (Keeps Na) ∷ is "c" "e" (Breaks Ce) ∷ is "n" "r" (Keeps Nr) ∷ is "d" "s" Ds
+    ∷ is "d" "e" (Keeps De) ∷ is "r" "m" (Keeps Rm) ∷ is "w" "h" (Keeps Wh) ∷ is "i" "f" (Keeps If) ∷ []
+
+unfoldable pub requestOf : Name → Option Request
+unfolding firstWhere
+requestOf n = entryOf (firstWhere (λ e. sameName n (e .0)) requests)
+
+-- "The first page starts at the first text line, break, sp or bp": a break is a breaking request called with a period
+abbrev pub startsPage : (period : Bool) → Breaking → Bool
+startsPage true r = true
+startsPage false Br = false
+startsPage false Sp = true
+startsPage false Bp = true
+startsPage false Fi = false
+startsPage false Nf = false
+startsPage false Ce = false
+startsPage false In = false
+startsPage false Ti = false
+
+-- "ds lines, are in copy mode"
+abbrev pub modeOf : Request → Mode
+modeOf (Breaks r) = Plain
+modeOf (Keeps r) = Plain
+modeOf Ds = Copy

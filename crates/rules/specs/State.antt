@@ -1,0 +1,147 @@
+-- The state between two pieces of work (document 01, 'A session'). It holds lists and live things only.
+use mathlib.Core.Bool.{Bool, false, _||_}
+use mathlib.Core.Option.{Option, none, some}
+use mathlib.Core.List.{List, [], _∷_}
+use Prim.Native.Nat.{ℕ, _*_}
+use lib.IntN.{pos}
+use Rattle.rules.specs.declared.Name.{Name}
+use Rattle.rules.specs.Names.{sameName}
+use Rattle.rules.specs.Printers.{Printer}
+use Rattle.rules.specs.Registers.{Register, Seen}
+use Rattle.rules.specs.Texts.{Text}
+use Rattle.rules.specs.Settings.{Layout, startLayout}
+use Rattle.rules.specs.Filling.{Word, Collected}
+use Rattle.rules.specs.Traps.{Page, Trap, noPage}
+use Rattle.rules.specs.declared.Breaking.{Breaking}
+use Rattle.stream.specs.Answers.{Closing, refused}
+
+-- A line: text, or a control line with its name and what follows that, from the space on; lines whose name has no or more than two bytes are ignored.
+pub data Line : Type 0 where
+  text : List ℕ → Line
+  control : (period : Bool) → Name → List ℕ → Line
+  ignored : Line
+
+-- What lies on the input stack, over the end, if that has begun (`last` of the page).
+pub data Item : Type 0 where
+  -- a text: its name, its unread lines, the arguments of its call
+  reading : Name → List (List ℕ) → List (List ℕ) → Item
+  -- a source line as it was taken
+  fresh : List ℕ → Item
+  -- an expanded line: held at the start of the first page, to be dealt with afresh after its own break, or what followed an if
+  again : Line → Item
+  -- the other words of a text line in which a trap sprang, and the gap that its ending asks for
+  others : List Word → ℕ → Item
+  -- a request after its break, with its expanded arguments
+  acts : Breaking → List ℕ → Item
+  -- a bp that ejects this page
+  ejects : (page : ℕ) → Item
+
+pub record Input : Type 0 where
+  -- the bytes of the source line being taken
+  pub gathered : List ℕ
+  -- the source lines begun
+  pub line : ℕ
+  -- the end was read
+  pub ended : Bool
+  -- the stored lines read for this source line
+  pub stored : ℕ
+  pub stack : List Item
+
+-- a definition that is open: its name, and the body lines so far, a newline each
+pub record Definition : Type 0 where
+  pub name : Name
+  pub body : List ℕ
+
+pub record Tables : Type 0 where
+  pub registers : List Register
+  pub texts : List Text
+  pub opened : Option Definition
+  -- in the order in which they were planted
+  pub traps : List Trap
+
+pub record State : Type 0 where
+  pub input : Input
+  pub tables : Tables
+  pub layout : Layout
+  pub page : Page
+  pub collected : Option Collected
+  pub closing : Option Closing
+
+abbrev pub start : Printer → State
+start p = record {
+  input = record { gathered = []; line = 0; ended = false; stored = 0; stack = [] };
+  tables = record { registers = []; texts = []; opened = none; traps = [] };
+  layout = startLayout p;
+  page = noPage;
+  collected = none;
+  closing = none;
+}
+
+abbrev pub withInput : Input → State → State
+withInput v s = record { input = v; tables = s .tables; layout = s .layout; page = s .page; collected = s .collected; closing = s .closing }
+
+abbrev pub withTables : Tables → State → State
+withTables v s = record { input = s .input; tables = v; layout = s .layout; page = s .page; collected = s .collected; closing = s .closing }
+
+abbrev pub withLayout : Layout → State → State
+withLayout v s = record { input = s .input; tables = s .tables; layout = v; page = s .page; collected = s .collected; closing = s .closing }
+
+abbrev pub withPage : Page → State → State
+withPage v s = record { input = s .input; tables = s .tables; layout = s .layout; page = v; collected = s .collected; closing = s .closing }
+
+abbrev pub withCollected : Option Collected → State → State
+withCollected v s = record { input = s .input; tables = s .tables; layout = s .layout; page = s .page; collected = v; closing = s .closing }
+
+abbrev pub close : Closing → State → State
+close v s = record { input = s .input; tables = s .tables; layout = s .layout; page = s .page; collected = none; closing = some v }
+
+-- a refusal: "number, source line from 1, for the end the last"; "A refusal drops the collected line"
+abbrev pub refuse : ℕ → State → State
+refuse n s = close (refused n (s .input .line)) s
+
+abbrev pub input : List ℕ → ℕ → Bool → ℕ → List Item → Input
+input g l e r k = record { gathered = g; line = l; ended = e; stored = r; stack = k }
+
+abbrev pub withStack : List Item → State → State
+withStack v s = let i = s .input in withInput (input (i .gathered) (i .line) (i .ended) (i .stored) v) s
+
+abbrev pub withStored : ℕ → State → State
+withStored v s = let i = s .input in withInput (input (i .gathered) (i .line) (i .ended) v (i .stack)) s
+
+abbrev pub tables : List Register → List Text → Option Definition → List Trap → Tables
+tables r t o p = record { registers = r; texts = t; opened = o; traps = p }
+
+abbrev pub withRegisters : List Register → State → State
+withRegisters v s = let t = s .tables in withTables (tables v (t .texts) (t .opened) (t .traps)) s
+
+abbrev pub withTexts : List Text → State → State
+withTexts v s = let t = s .tables in withTables (tables (t .registers) v (t .opened) (t .traps)) s
+
+abbrev pub withOpened : Option Definition → State → State
+withOpened v s = let t = s .tables in withTables (tables (t .registers) (t .texts) v (t .traps)) s
+
+abbrev pub withTraps : List Trap → State → State
+withTraps v s = let t = s .tables in withTables (tables (t .registers) (t .texts) (t .opened) v) s
+
+-- what the read-only registers show: "% page (0 before the first), nl rows used, .l .i .p, all but % in units"
+abbrev pub seen : Printer → State → Seen
+seen p s = record {
+  page = pos (s .page .number);
+  rows = pos (s .page .used * p .pitch .row);
+  length = pos (s .layout .line .now * p .pitch .cell);
+  indent = pos (s .layout .indent .now * p .pitch .cell);
+  pageLength = pos (s .layout .page * p .pitch .row);
+}
+
+-- whether a text of this name lies on the input stack
+abbrev pub isReading : Name → Item → Bool
+isReading n (reading m ls l) = sameName n m
+isReading n (fresh l) = false
+isReading n (again l) = false
+isReading n (others ws g) = false
+isReading n (acts r l) = false
+isReading n (ejects p) = false
+
+unfoldable pub onStack : Name → List Item → Bool
+onStack n [] = false
+onStack n (i ∷ k) = isReading n i || onStack n k

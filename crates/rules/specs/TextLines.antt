@@ -1,0 +1,81 @@
+-- What a text line does (document 01, 'Filling', and 'Rows, pages, traps' for what a trap interrupts). The line is expanded.
+use mathlib.Core.Bool.{Bool, true, false, not, _||_}
+use mathlib.Core.Option.{Option, none, some}
+use mathlib.Core.List.{List, [], _∷_}
+use Prim.Native.Nat.{ℕ, zero, suc, _-_}
+use lib.Dec.{leb}
+use lib.IntN.{pos}
+use Rattle.stream.specs.Machine.{works}
+use Rattle.rules.specs.Settings.{Layout, withCentred}
+use Rattle.rules.specs.Filling.{Word, words, leads, standing, after, gapAfter, Collected, withNext, begin, begun, Placed, all, full, place, fullRow, standingRow}
+use Rattle.rules.specs.declared.Breaking.the-variants.{Sp}
+use Rattle.rules.specs.State.{State, Item, again, others, acts, text, withLayout, withCollected}
+use Rattle.rules.specs.Rows.{Next, goes, break, down, skip, startPage}
+
+-- What a line of words asks for: the first page is to start; it is empty; a collected line is written first; it is written as it stands, or filled.
+pub data Way : Type 0 where
+  starts blank stands fills : Way
+  breaks : Collected → Way
+
+abbrev pub breaksIf : (leading : Bool) → Collected → Way
+breaksIf true c = breaks c
+breaksIf false c = fills
+
+abbrev pub wayOf : (page : ℕ) → List Word → Option Collected → (asItStands : Bool) → Way
+wayOf zero ws c n = starts
+wayOf (suc p) [] c n = blank
+wayOf (suc p) (w ∷ ws) none true = stands
+wayOf (suc p) (w ∷ ws) none false = fills
+wayOf (suc p) (w ∷ ws) (some c) true = breaks c
+wayOf (suc p) (w ∷ ws) (some c) false = breaksIf (leads (w ∷ ws)) c
+
+-- a line under nf or ce is written as it stands; ce counts it "when the row is written"
+abbrev pub asItStands : Layout → Bool
+asItStands y = not (y .filling) || leb 1 (y .centred)
+
+abbrev pub counted : Layout → Layout
+counted y = withCentred (y .centred - 1) (begun y)
+
+-- "If a trap springs inside a text line, the word that did not fit is placed, then the macro read, then the other words"
+abbrev pub othersOf : List Word → ℕ → List Item
+othersOf [] g = []
+othersOf (w ∷ ws) g = others (w ∷ ws) g ∷ []
+
+-- the gap to what a trap's macro puts next: the line has ended only if no words are left
+abbrev pub nextGap : List Word → ℕ → ℕ
+nextGap [] g = g
+nextGap (w ∷ ws) g = 1
+
+abbrev pub filled : Placed → ℕ → State → Next
+filled (all c) g s = goes (withCollected (some (withNext g c)) s)
+filled (full c w ws) g s =
+    works (fullRow (s .layout) c)
+    (down 1 (othersOf ws g) (withCollected (some (withNext (nextGap ws g) (begin (s .layout) w))) (withLayout (begun (s .layout)) s)))
+
+abbrev pub fillFrom : Option Collected → Word → List Word → ℕ → State → Next
+fillFrom none w ws g s = filled (place (begin (s .layout) w) ws) g (withLayout (begun (s .layout)) s)
+fillFrom (some c) w ws g s = filled (place c (w ∷ ws)) g s
+
+-- words are placed one by one; g is the gap that the line's ending asks for
+unfoldable pub fill : List Word → ℕ → State → Next
+fill [] g s = goes s
+fill (w ∷ ws) g s = fillFrom (s .collected) w ws g s
+
+-- "A line that, as expanded, has no bytes or only spaces acts as sp 1", its break too
+abbrev pub blankFrom : Option Collected → State → Next
+blankFrom none s = skip (pos 1) s
+blankFrom (some c) s = break c (acts Sp [] ∷ []) s
+
+abbrev pub gapHere : Option Collected → ℕ
+gapHere none = 0
+gapHere (some c) = c .next
+
+abbrev pub textWay : Way → List Word → List ℕ → State → Next
+textWay starts ws l s = goes (startPage (again (text l) ∷ []) s)
+textWay blank ws l s = blankFrom (s .collected) s
+textWay (breaks c) ws l s = break c (again (text l) ∷ []) s
+textWay stands ws l s = works (standingRow (s .layout) ws) (down 1 [] (withLayout (counted (s .layout)) s))
+textWay fills ws l s = fill (after (gapHere (s .collected)) (standing ws)) (gapAfter ws) s
+
+unfoldable pub textLine : List ℕ → State → Next
+textLine l s = textWay (wayOf (s .page .number) (words l) (s .collected) (asItStands (s .layout))) (words l) l s

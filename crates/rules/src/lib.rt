@@ -1,0 +1,75 @@
+// The types that the rules of document 01 and the code share. What the rules say is in specs/, in document 01's order.
+
+// A name of one or two bytes; the second byte of a one-byte name is 0.
+pub struct Name {
+    pub first: u8,
+    pub second: u8,
+}
+
+// The operators of an expression.
+pub enum Operator {
+    Add,
+    Subtract,
+    Multiply,
+    Divide,
+    Remainder,
+    Less,
+    Greater,
+    AtMost,
+    AtLeast,
+    Equal,
+    And,
+    Or,
+}
+
+// How a reference steps its register first.
+pub enum Turn {
+    Still,
+    Up,
+    Down,
+}
+
+// What a text is.
+pub enum Kind {
+    Macro,
+    String,
+}
+
+// How a line is expanded.
+pub enum Mode {
+    Plain,
+    Copy,
+}
+
+// The requests that break.
+pub enum Breaking {
+    Br,
+    Sp,
+    Bp,
+    Fi,
+    Nf,
+    Ce,
+    In,
+    Ti,
+}
+
+// The requests that do not break, save ds.
+pub enum Unbreaking {
+    Pl,
+    Po,
+    Ll,
+    Ad,
+    Na,
+    Nr,
+    De,
+    Rm,
+    Wh,
+    If,
+}
+
+// Any request. ds stands apart, as its line is read in copy mode.
+pub enum Request {
+    Breaks(Breaking),
+    Keeps(Unbreaking),
+    Ds,
+}
