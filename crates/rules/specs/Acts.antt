@@ -17,7 +17,7 @@ use Rattle.rules.specs.Escapes.{escaped}
 use Rattle.rules.specs.Names.{Named, one, tooLong, nameOf}
 use Rattle.rules.specs.Arguments.{Part, first, arguments, stringText, condition}
 use Rattle.rules.specs.Settings.{Layout, Setting, set, goBack, changed, lineRange, indentRange, offsetRange, pageRange, withLine, withIndent, withOffset, withPageLength, withTotal, withFilling, withAdjusting, withCentred}
-use Rattle.rules.specs.Traps.{plant, uproot}
+use Rattle.rules.specs.Traps.{plant, removeTrap}
 use Rattle.rules.specs.declared.Breaking.{Breaking}
 use Rattle.rules.specs.declared.Breaking.the-variants.{Br, Sp, Bp, Fi, Nf, Ce, In, Ti}
 use Rattle.rules.specs.declared.Unbreaking.{Unbreaking}
@@ -86,7 +86,7 @@ removeText s n = removeIf (isThere (textOf n (s .tables .texts))) s n
 
 -- wh: "no name removes"; "11: .. 17th trap"
 abbrev pub plantAt : ℤ → Named → State → Judged State
-plantAt r Named.none s = value (withTraps (uproot r (s .tables .traps)) s)
+plantAt r Named.none s = value (withTraps (removeTrap r (s .tables .traps)) s)
 plantAt r tooLong s = bad 7
 plantAt r (one n) s = let ts = plant r n (s .tables .traps) in judge (leb (length ts) 16) 11 (withTraps ts s)
 

@@ -25,7 +25,7 @@ use Rattle.rules.specs.Arguments.{Part, part, push, afterSpaces, Place, 
 use Rattle.rules.specs.Lines.{named, lineBy, lineOf, isClosing, holds}
 use Rattle.stream.specs.Machine.{Below, Falls}
 use Rattle.rules.specs.Filling.{Word, joinWord, joinByte, words, leads, standing, after, gapAfter, Collected, withNext, joined, begin, begun as begunLayout, Placed, all, full, fits, place}
-use Rattle.rules.specs.Traps.{Trap, rowOf, seenAt, lower, nearer, nearestTrap, plant, uproot}
+use Rattle.rules.specs.Traps.{Trap, rowOf, seenAt, lower, nearer, nearestTrap, plant, removeTrap}
 use Rattle.rules.specs.State.{State, Line, text, control, ignored, Item, reading, fresh, again, others, acts, ejects, refuse, close, withStack, withPage, withLayout, withCollected, withStored, withInput, withRegisters, withTexts, withOpened, withTraps, Definition, seen}
 use Rattle.stream.specs.Answers.{Closing, done}
 use Rattle.rules.specs.Rows.{Next, linesOf, theEnd as endItem, pushIf, call, userText, springText, spring, startIf, startPage, endPage, withUsed, reach, down, break, rowsBelow, fewer, skip, heldIf, ejectIf, eject, lastPage, ejectLast, endFrom, beginEnd}
@@ -420,7 +420,7 @@ module _ (p : Printer) where
   remove-every false s n m g h = here (under s m g h)
 
   plantAt-every : (r : ℤ) (n : Named) (s : State) (m : ℕ) → Good s → suc (baseLoad s + stackLoad (s .input .stack)) < m → Every (Under m) (plantAt r n s)
-  plantAt-every r Named.none s m g h = here (under (withTraps (uproot r (s .tables .traps)) s) m g h)
+  plantAt-every r Named.none s m g h = here (under (withTraps (removeTrap r (s .tables .traps)) s) m g h)
   plantAt-every r tooLong s m g h = refused
   plantAt-every r (one n) s m g h = judge-every (leb (length (plant r n (s .tables .traps))) 16) 11 (withTraps (plant r n (s .tables .traps)) s) (under (withTraps (plant r n (s .tables .traps)) s) m g h)
 

@@ -63,9 +63,9 @@ unfoldable pub plant : ℤ → Name → List Trap → List Trap
 plant p n [] = record { place = p; name = n } ∷ []
 plant p n (t ∷ ts) = elim (equalZ p (t .place)) [ true ↦ record { place = p; name = n } ∷ ts | false ↦ t ∷ plant p n ts ]
 
-unfoldable pub uproot : ℤ → List Trap → List Trap
-uproot p [] = []
-uproot p (t ∷ ts) = elim (equalZ p (t .place)) [ true ↦ ts | false ↦ t ∷ uproot p ts ]
+unfoldable pub removeTrap : ℤ → List Trap → List Trap
+removeTrap p [] = []
+removeTrap p (t ∷ ts) = elim (equalZ p (t .place)) [ true ↦ ts | false ↦ t ∷ removeTrap p ts ]
 
 abbrev pub blankRows : Down → List ℕ
 blankRows n = replicate n newline

@@ -1,0 +1,197 @@
+//! The documents stay true: docs/RULES.md quotes every sentence of document 01's rules, in its order, and what it and
+//! docs/DECISIONS.md name exists.
+
+use std::collections::HashSet;
+use std::fs;
+use std::path::{Path, PathBuf};
+
+use second::json::Json;
+
+fn root() -> PathBuf {
+    Path::new(env!("CARGO_MANIFEST_DIR")).join("..")
+}
+
+fn read(path: &str) -> String {
+    fs::read_to_string(root().join(path)).unwrap_or_else(|error| panic!("{path}: {error}"))
+}
+
+/// The three cells of each row of the tables in docs/RULES.md, without their heads.
+fn rules() -> Vec<[String; 3]> {
+    let text = read("docs/RULES.md");
+    let rows = text.lines().filter(|line| line.starts_with("| \""));
+    let cells = |line: &str| -> [String; 3] {
+        let inner = line.trim_start_matches("| ").trim_end_matches('|').trim_end();
+        let cells: Vec<String> = inner.split(" |").map(|cell| cell.trim().to_string()).collect();
+        cells.try_into().unwrap_or_else(|cells| panic!("not three cells: {cells:?}"))
+    };
+    rows.map(cells).collect()
+}
+
+fn quotes() -> Vec<String> {
+    let unquoted = |cell: String| cell.strip_prefix('"').and_then(|cell| cell.strip_suffix('"')).map(str::to_string);
+    rules().into_iter().map(|[cell, ..]| unquoted(cell.clone()).unwrap_or_else(|| panic!("no quote: {cell}"))).collect()
+}
+
+/// What stands between backquotes.
+fn spans(cell: &str) -> Vec<&str> {
+    cell.split('`').skip(1).step_by(2).collect()
+}
+
+#[test]
+fn the_quotes_stand_in_document_01_in_order() {
+    let (document, mut at) = (read("docs/document-01.md"), 0);
+    let quotes = quotes();
+    assert!(quotes.len() > 140, "{} quotes", quotes.len());
+    for quote in quotes {
+        let found = document[at..].find(&quote);
+        at += found.unwrap_or_else(|| panic!("not in document 01, or out of order: {quote}"));
+    }
+}
+
+/// The sentences of the sections that hold rules.
+fn sentences() -> Vec<String> {
+    let document = read("docs/document-01.md");
+    let rules = document.split("## ").filter(|section| {
+        let title = section.lines().next().unwrap_or_default();
+        [
+            "What is built",
+            "A session",
+            "Refusal numbers",
+            "Numbers",
+            "Lines and escapes",
+            "Filling",
+            "Rows, pages, traps",
+        ]
+        .contains(&title)
+    });
+    let lines = rules
+        .flat_map(|section| section.lines().skip(1))
+        .filter(|line| !line.is_empty() && !line.starts_with("|---") && !line.starts_with("| No."));
+    let mut sentences = Vec::new();
+    for line in lines {
+        let mut start = 0;
+        for (place, _) in line.match_indices(". ") {
+            // A period before a lower-case letter is in the middle of a sentence (". ? !").
+            if line[place + 2..].starts_with(|letter: char| !letter.is_lowercase() && letter != '?') {
+                sentences.push(line[start..=place].to_string());
+                start = place + 2;
+            }
+        }
+        sentences.push(line[start..].to_string());
+    }
+    sentences
+}
+
+#[test]
+fn no_sentence_of_the_rules_is_missing() {
+    let (sentences, quotes) = (sentences(), quotes());
+    assert!(sentences.len() > 80, "{} sentences", sentences.len());
+    for sentence in sentences {
+        assert!(quotes.iter().any(|quote| sentence.contains(quote.as_str())), "no row quotes: {sentence}");
+    }
+}
+
+/// Whether a file of definitions declares a name.
+fn declares(text: &str, name: &str) -> bool {
+    text.lines().any(|line| {
+        let mut rest = line.trim_start();
+        while let Some(shorter) =
+            ["abbrev ", "unfoldable ", "pub ", "data ", "record "].iter().find_map(|word| rest.strip_prefix(word))
+        {
+            rest = shorter;
+        }
+        rest.strip_prefix(name).is_some_and(|behind| behind.starts_with(" :") || behind.starts_with(" ("))
+    })
+}
+
+#[test]
+fn the_definitions_exist() {
+    let mut named = 0;
+    for [quote, definitions, theorem] in rules() {
+        for span in spans(&definitions).into_iter().chain(spans(&theorem)) {
+            let (crate_name, place) = span.split_once('/').unwrap_or(("rules", span));
+            let Some((module, name)) = place.split_once('.') else { continue };
+            if !module.starts_with(|letter: char| letter.is_uppercase()) {
+                continue;
+            }
+            let text = read(&format!("crates/{crate_name}/specs/{module}.antt"));
+            assert!(declares(&text, name), "{quote}: {span} is not declared");
+            named += 1;
+        }
+    }
+    assert!(named > 200, "{named} definitions");
+}
+
+/// The names of all vectors.
+fn vectors() -> HashSet<String> {
+    let mut names = HashSet::new();
+    for entry in fs::read_dir(root().join("tests/vectors")).expect("tests/vectors") {
+        let text = fs::read_to_string(entry.expect("an entry").path()).expect("a vector file");
+        for line in text.lines() {
+            if let Some(Json::Text(name)) = Json::parse(line).expect("a vector").get("name") {
+                names.insert(name.clone());
+            }
+        }
+    }
+    names
+}
+
+/// The names in a text that look like those of vectors: R, S or M and a number.
+fn vector_names(text: &str) -> Vec<&str> {
+    let words = text.split(|letter: char| !letter.is_ascii_alphanumeric() && letter != '.');
+    let words = words.map(|word| word.trim_end_matches('.'));
+    words
+        .filter(|word| {
+            let number = word.strip_prefix(['R', 'S', 'M']).unwrap_or_default();
+            number.len() >= 2 && number.starts_with(|letter: char| letter.is_ascii_digit())
+        })
+        .collect()
+}
+
+#[test]
+fn the_vectors_exist() {
+    let names = vectors();
+    let known = |wanted: &str| {
+        names
+            .iter()
+            .any(|name| name.strip_prefix(wanted).is_some_and(|rest| rest.is_empty() || rest.starts_with(['.', ' '])))
+    };
+    let mut shown = 0;
+    for [quote, _, cell] in rules() {
+        for wanted in vector_names(&cell) {
+            assert!(known(wanted), "{quote}: no vector {wanted}");
+            shown += 1;
+        }
+        for wanted in cell.split('"').skip(1).step_by(2) {
+            assert!(names.contains(wanted), "{quote}: no vector named {wanted}");
+            shown += 1;
+        }
+        for span in spans(&cell).into_iter().filter(|span| span.contains('/') && span.contains("tests")) {
+            assert!(root().join(span).exists(), "{quote}: no file {span}");
+        }
+    }
+    assert!(shown > 150, "{shown} vectors");
+    let decisions = read("docs/DECISIONS.md");
+    let cited = vector_names(&decisions);
+    assert!(cited.len() > 200, "{} vectors in docs/DECISIONS.md", cited.len());
+    for wanted in cited {
+        assert!(known(wanted), "docs/DECISIONS.md: no vector {wanted}");
+    }
+}
+
+/// The edits that the tables name are there.
+#[test]
+fn the_edits_exist() {
+    for [quote, _, cell] in rules() {
+        for span in spans(&cell) {
+            if let Some((crate_name, edit)) =
+                span.split_once('/').filter(|(name, _)| ["rules", "stream"].contains(name))
+            {
+                if !edit.contains('.') {
+                    let path = format!("crates/{crate_name}/must-fail/{edit}.edit");
+                    assert!(root().join(&path).exists(), "{quote}: no {path}");
+                }
+            }
+        }
+    }
+}
