@@ -13,12 +13,11 @@ use Rattle.rules.specs.Escapes.{Scanned, scanned, refused, scan}
 use Rattle.rules.specs.Arguments.{arguments}
 use Rattle.rules.specs.Filling.{Collected}
 use Rattle.rules.specs.declared.Breaking.{Breaking}
-use Rattle.rules.specs.declared.Breaking.the-variants.{Br, Sp, Bp, Fi, Nf, Ce, In, Ti}
 use Rattle.rules.specs.declared.Request.{Request}
-use Rattle.rules.specs.Requests.{requestOf, startsPage, modeOf}
+use Rattle.rules.specs.Requests.{requestOf, traits, startsPage, modeOf}
 use Rattle.rules.specs.declared.Request.the-variants.{Breaks, Keeps, Ds}
 use Rattle.rules.specs.State.{State, Line, text, control, ignored, Item, again, acts, Definition, seen, withRegisters, withTexts, withOpened}
-use Rattle.rules.specs.Rows.{Next, goes, refuses, call, break, startPage}
+use Rattle.rules.specs.Rows.{Next, goes, refuses, call, break, startPage, heldIf}
 use Rattle.rules.specs.TextLines.{textLine}
 use Rattle.rules.specs.Lines.{lineOf, isClosing}
 use Rattle.rules.specs.Acts.{given, settles, act, perform, defines}
@@ -40,27 +39,13 @@ textMeaning none n = requestMeaning (requestOf n)
 abbrev pub meaningOf : Name → State → Meaning
 meaningOf n s = textMeaning (textOf n (s .tables .texts)) n
 
--- "If that break springs a trap, the request acts after its macro is read"; br has nothing left to do
+-- "If that break springs a trap, the request acts after its macro is read"
 abbrev pub heldAfter : Breaking → List ℕ → List Item
-heldAfter Br l = []
-heldAfter Sp l = acts Sp l ∷ []
-heldAfter Bp l = acts Bp l ∷ []
-heldAfter Fi l = acts Fi l ∷ []
-heldAfter Nf l = acts Nf l ∷ []
-heldAfter Ce l = acts Ce l ∷ []
-heldAfter In l = acts In l ∷ []
-heldAfter Ti l = acts Ti l ∷ []
+heldAfter r l = heldIf (traits r .acts) (acts r l)
 
--- "that line, as expanded, is dealt with after the top macro"; "A bp that starts the first page does no more"
+-- "that line, as expanded, is dealt with after the top macro"
 abbrev pub heldFirst : Breaking → Line → List Item
-heldFirst Br x = again x ∷ []
-heldFirst Sp x = again x ∷ []
-heldFirst Bp x = []
-heldFirst Fi x = again x ∷ []
-heldFirst Nf x = again x ∷ []
-heldFirst Ce x = again x ∷ []
-heldFirst In x = again x ∷ []
-heldFirst Ti x = again x ∷ []
+heldFirst r x = heldIf (traits r .again) (again x)
 
 -- the control byte and the name, which count in the expanded line
 abbrev pub nameLength : (second : ℕ) → ℕ

@@ -36,7 +36,7 @@ use Rattle.rules.specs.declared.Unbreaking.{Unbreaking}
 use Rattle.rules.specs.declared.Unbreaking.the-variants.{Pl, Po, Ll, Ad, Na, Nr, De, Rm, Wh, If}
 use Rattle.rules.specs.declared.Request.{Request}
 use Rattle.rules.specs.declared.Request.the-variants.{Breaks, Keeps, Ds}
-use Rattle.rules.specs.Requests.{startsPage, modeOf}
+use Rattle.rules.specs.Requests.{traits, startsPage, modeOf}
 use Rattle.rules.specs.Settings.{Layout, changed, inRange, lineRange, indentRange, offsetRange, withFilling, withAdjusting, withLine, withOffset, withPageLength}
 use Rattle.rules.specs.Acts.{given, settles, argument, onName, free, setting, pageLength, indentTotal, spacing, centring, laidOut, act, newValue, newStep, writeIf, writeRegister, writtenBack, defineText, defineFrom, openText, removeIf, removeText, plantAt, plantTrap, follows, ifLine, perform, defines}
 use Rattle.rules.specs.ControlLines.{Meaning, calls, requests, nothing, meaningOf, prefixOf, heldAfter, heldFirst, breakOrAct, startOrBreak, obey, onScan, expand, controlLine, freshLine, keepBody, bodyLine, dealFrom, deal, dealAgain}
@@ -464,29 +464,13 @@ module _ (p : Printer) where
   perform-every If l s m g h = if-every (condition l .part) (condition l .rest) s m (length l) g (condition-short l) h
 
   -- control lines
-  first-load : (r : Breaking) (q : Bool) (n : Name) (l : List ℕ) (k : List Item) → stackLoad (heldFirst r (control q n l) ++ k) ≤ lineLoad (length l) + stackLoad k
-  first-load Br q n l k = omega arith
-  first-load Sp q n l k = omega arith
-  first-load Bp q n l k = omega arith
-  first-load Fi q n l k = omega arith
-  first-load Nf q n l k = omega arith
-  first-load Ce q n l k = omega arith
-  first-load In q n l k = omega arith
-  first-load Ti q n l k = omega arith
-
-  after-load : (r : Breaking) (l : List ℕ) (k : List Item) → stackLoad (heldAfter r l ++ k) ≤ 1003 + stackLoad k
-  after-load Br l k = omega arith
-  after-load Sp l k = omega arith
-  after-load Bp l k = omega arith
-  after-load Fi l k = omega arith
-  after-load Nf l k = omega arith
-  after-load Ce l k = omega arith
-  after-load In l k = omega arith
-  after-load Ti l k = omega arith
+  held-load : (t : Bool) (i : Item) (k : List Item) → stackLoad (heldIf t i ++ k) ≤ itemLoad i + stackLoad k
+  held-load true i k = omega arith
+  held-load false i k = omega arith
 
   break-or-act-low : (q : Bool) (c : Option Collected) (r : Breaking) (l : List ℕ) (s : State) (m : ℕ) → Good s → s .collected ≡ c
       → baseLoad s + stackLoad (s .input .stack) + 1101 < m → Low (breakOrAct p q c r l s) m
-  break-or-act-low true (some c) r l s m g e h = broken-low c (heldAfter r l) s m g e (omega (arith, after-load r l (s .input .stack)))
+  break-or-act-low true (some c) r l s m g e h = broken-low c (heldAfter r l) s m g e (omega (arith, held-load (traits r .acts) (acts r l) (s .input .stack)))
   break-or-act-low true none r l s m g e h = act-low r l s m g (omega arith)
   break-or-act-low false c r l s m g e h = act-low r l s m g (omega arith)
 
@@ -494,7 +478,7 @@ module _ (p : Printer) where
       → baseLoad s + stackLoad (s .input .stack) + lineLoad (length l) < m → Low (startOrBreak p (a && b) q r n l s) m
   request-low true true q r n l s m g e h =
       startPage-low (heldFirst r (control q n l)) s m g
-      (omega (arith, first-load r q n l (s .input .stack), ap firstLoad (eqb-true (s .page .number) 0 e)))
+      (omega (arith, held-load (traits r .again) (again (control q n l)) (s .input .stack), ap firstLoad (eqb-true (s .page .number) 0 e)))
   request-low true false q r n l s m g e h = break-or-act-low q (s .collected) r l s m g refl (omega arith)
   request-low false b q r n l s m g e h = break-or-act-low q (s .collected) r l s m g refl (omega arith)
 

@@ -1,5 +1,5 @@
 -- The requests (document 01, 'What is built'), which of them break, and which start the first page ('Rows, pages, traps').
-use mathlib.Core.Bool.{Bool, true, false}
+use mathlib.Core.Bool.{Bool, true, false, _||_}
 use mathlib.Core.Option.{Option, none, some}
 use mathlib.Core.List.{List, [], _∷_}
 use Prim.Native.Char.{Char}
@@ -30,17 +30,31 @@ unfoldable pub requestOf : Name → Option Request
 unfolding firstWhere
 requestOf n = entryOf (firstWhere (λ e. sameName n (e .0)) requests)
 
+-- What sets the breaking requests apart.
+pub record Traits : Type 0 where
+  -- it starts the first page when called with ' too: "sp or bp"
+  pub starts : Bool
+  -- it has something left to do after its break: all but br
+  pub acts : Bool
+  -- where it starts the first page, its line is dealt with after the top macro: "A bp that starts the first page does no more"
+  pub again : Bool
+
+abbrev pub these : Bool → Bool → Bool → Traits
+these s t a = record { starts = s; acts = t; again = a }
+
+abbrev pub traits : Breaking → Traits
+traits Br = these false false true
+traits Sp = these true true true
+traits Bp = these true true false
+traits Fi = these false true true
+traits Nf = these false true true
+traits Ce = these false true true
+traits In = these false true true
+traits Ti = these false true true
+
 -- "The first page starts at the first text line, break, sp or bp": a break is a breaking request called with a period
 abbrev pub startsPage : (period : Bool) → Breaking → Bool
-startsPage true r = true
-startsPage false Br = false
-startsPage false Sp = true
-startsPage false Bp = true
-startsPage false Fi = false
-startsPage false Nf = false
-startsPage false Ce = false
-startsPage false In = false
-startsPage false Ti = false
+startsPage period r = period || traits r .starts
 
 -- "ds lines, are in copy mode"
 abbrev pub modeOf : Request → Mode

@@ -52,6 +52,11 @@ abbrev pub pushIf : Bool → List Item → State → State
 pushIf true k s = withStack k s
 pushIf false k s = refuse 10 s
 
+-- what is held while a trap's macro is read, if work is left
+abbrev pub heldIf : (left : Bool) → Item → List Item
+heldIf true i = i ∷ []
+heldIf false i = []
+
 -- A text goes onto the stack; what is held for after it goes on first.
 abbrev pub call : Text → (arguments : List (List ℕ)) → (held : List Item) → State → State
 call t args held s = let k = reading (t .name) (linesOf (t .kind) (t .bytes)) args ∷ (held ++ s .input .stack) in
@@ -116,10 +121,6 @@ skip (pos (suc n)) s = blank (fewer (ltb n (rowsBelow s)) (suc n) (rowsBelow s))
 skip (negsuc n) s = goes s
 
 -- "blank rows to the next trap, its macro, and on until the page has changed"
-abbrev pub heldIf : Bool → Item → List Item
-heldIf true i = i ∷ []
-heldIf false i = []
-
 abbrev pub ejectIf : (same : Bool) → ℕ → State → Next
 ejectIf true p s = blank (rowsBelow s) (heldIf (ltb (s .page .used + rowsBelow s) (s .layout .page)) (ejects p)) s
 ejectIf false p s = goes s
