@@ -25,7 +25,8 @@ use Rattle.rules.specs.Arguments.{Part, part, push, afterSpaces, Place, 
 use Rattle.rules.specs.Lines.{named, lineBy, lineOf, isClosing, holds}
 use Rattle.stream.specs.Machine.{Below, Falls}
 use Rattle.rules.specs.Filling.{Word, joinWord, joinByte, words, leads, standing, after, gapAfter, Collected, withNext, joined, begin, begun as begunLayout, Placed, all, full, fits, place}
-use Rattle.rules.specs.Traps.{Trap, rowOf, seenAt, lower, nearer, nearestTrap, plant, removeTrap}
+use Rattle.rules.specs.Traps.{seenAt, plant, removeTrap}
+use Rattle.rules.specs.TrapLaws.{nearest-above}
 use Rattle.rules.specs.State.{State, Line, text, control, ignored, Item, reading, fresh, again, others, acts, ejects, refuse, close, withStack, withPage, withLayout, withCollected, withStored, withInput, withRegisters, withTexts, withOpened, withTraps, Definition, seen}
 use Rattle.stream.specs.Answers.{Closing, done}
 use Rattle.rules.specs.Rows.{Next, linesOf, theEnd as endItem, pushIf, call, userText, springText, spring, startIf, startPage, endPage, withUsed, reach, down, break, rowsBelow, fewer, skip, heldIf, ejectIf, eject, lastPage, ejectLast, endFrom, beginEnd}
@@ -123,20 +124,6 @@ down-low n held s m g h = reach-low (ltb (s .page .used + n) (s .layout .page)) 
 break-low : (c : Collected) (held : List Item) (s : State) (m : ℕ) → Good s → s .collected ≡ some c
     → baseLoad s + stackLoad (held ++ s .input .stack) ≤ m → Under m (down 1 held (withCollected none s))
 break-low c held s m g e h = down-low 1 held (withCollected none s) m g (omega (arith, ap collectedLoad e))
-
-lower-above : (r n k : ℕ) (a b : Bool) → ltb r n ≡ a → ltb n k ≡ b → r < k → r < lower (a && b) n k
-lower-above r n k true true e f h = ltb-true r n e
-lower-above r n k true false e f h = h
-lower-above r n k false b e f h = h
-
-nearer-above : (r : ℕ) (o : Option ℕ) (k : ℕ) → r < k → r < nearer r o k
-nearer-above r none k h = h
-nearer-above r (some n) k h = lower-above r n k (ltb r n) (ltb n k) refl refl h
-
-nearest-above : (n r best : ℕ) (ts : List Trap) → r < best → r < nearestTrap n r best ts
-unfolding nearestTrap
-nearest-above n r best [] h = h
-nearest-above n r best (t ∷ ts) h = nearest-above n r (nearer r (rowOf n (t .place)) best) ts (nearer-above r (rowOf n (t .place)) best h)
 
 rows-below : (s : State) → Good s → 0 < rowsBelow s
 rows-below s g = let h = nearest-above (s .layout .page) (s .page .used) (s .layout .page) (s .tables .traps) (g .0) in omega arith

@@ -3,13 +3,16 @@
 -- what every file uses: bytes, names, and values that may be refused
 pub mod Bytes
 pub mod Names
+pub mod NameLaws
 pub mod Refusals
+pub mod RefusalLaws
 -- 'What is built': the printer and the requests
 pub mod Printers
 pub mod Requests
 -- 'A session': the state, and one piece of work on it, which uses all that follows
 pub mod State
 pub mod Session
+pub mod SessionLaws
 -- 'Refusal numbers': the ranges and the start. The number of each other refusal stands where its case is judged
 pub mod Settings
 -- 'Numbers'
@@ -18,6 +21,7 @@ pub mod Numbers
 pub mod Registers
 pub mod RegisterLaws
 pub mod Texts
+pub mod TextLaws
 pub mod Escapes
 pub mod EscapesFit
 pub mod Arguments
@@ -27,9 +31,11 @@ pub mod Acts
 -- 'Filling': words and rows, and what a text line does with them
 pub mod Filling
 pub mod LineLaws
+pub mod FillingLaws
 pub mod TextLines
 -- 'Rows, pages, traps': traps; rows, springing, breaks, sp, eject and the end
 pub mod Traps
+pub mod TrapLaws
 pub mod Rows
 -- 'How far a promise reaches': the work left falls at each step, so that every document has pages and a closing answer; condition 3
 pub mod Load

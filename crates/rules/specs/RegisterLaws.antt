@@ -6,9 +6,10 @@ use mathlib.Core.Option.{Option, none, some}
 use Prim.Native.Nat.{ℕ}
 use lib.Dec.{eqb, ltb}
 use native.Mathlib.Omega.{arith}
-use borrow.Author.Tests.{eqb-true, eq-eqb, ne-eqb, ltb-true}
+use borrow.Author.Tests.{eqb-true, ne-eqb, ltb-true}
 use Rattle.rules.specs.declared.Name.{Name}
 use Rattle.rules.specs.Names.{sameName, Order, earlier, same, later, order, orderBy}
+use Rattle.rules.specs.NameLaws.{same-self}
 use Rattle.rules.specs.Bytes.{firstWhere}
 use Rattle.rules.specs.Registers.{Register, lookup, put}
 
@@ -17,9 +18,6 @@ abbrev Means : Order → Name → Name → Type 0
 Means earlier n m = sameName n m ≡ false
 Means same n m = n ≡ m
 Means later n m = sameName n m ≡ false
-
-self : (n : Name) → sameName n n ≡ true
-self n = rw (eq-eqb (n .first) (n .first) refl, eq-eqb (n .second) (n .second) refl)
 
 less : (a b : ℕ) → ltb a b ≡ true → eqb a b ≡ false
 less a b h = ne-eqb a b (λ e. omega (arith, ltb-true a b h))
@@ -37,12 +35,12 @@ means n m = go (ltb (n .first) (m .first)) (eqb (n .first) (m .first)) (ltb (n .
 
 pub found-put : (r : Register) (rs : List Register) → lookup (r .name) (put r rs) ≡ some r
 unfolding lookup put firstWhere
-found-put r [] = rw (lookup, firstWhere, self (r .name))
+found-put r [] = rw (lookup, firstWhere, same-self (r .name))
 found-put r (x ∷ xs) = go (order (r .name) (x .name)) refl (means (r .name) (x .name)) (found-put r xs)
   where
     go : (o : Order) → order (r .name) (x .name) ≡ o → Means o (r .name) (x .name) → lookup (r .name) (put r xs) ≡ some r → lookup (r .name) (put r (x ∷ xs)) ≡ some r
-    go earlier e h ih = rw (put, e, lookup, firstWhere, self (r .name))
-    go same e h ih = rw (put, e, lookup, firstWhere, self (r .name))
+    go earlier e h ih = rw (put, e, lookup, firstWhere, same-self (r .name))
+    go same e h ih = rw (put, e, lookup, firstWhere, same-self (r .name))
     go later e h ih = rw (put, e, lookup, firstWhere, h) ih
 
 pub kept-put : (n : Name) (r : Register) (rs : List Register) → sameName n (r .name) ≡ false → lookup n (put r rs) ≡ lookup n rs
