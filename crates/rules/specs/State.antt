@@ -11,7 +11,8 @@ use Rattle.rules.specs.Registers.{Register, Seen}
 use Rattle.rules.specs.Texts.{Text}
 use Rattle.rules.specs.Settings.{Layout, startLayout}
 use Rattle.rules.specs.Filling.{Word, Collected}
-use Rattle.rules.specs.Traps.{Page, Trap, noPage}
+use Rattle.rules.specs.Traps.{Page, noPage}
+use Rattle.rules.specs.declared.Trap.{Trap}
 use Rattle.rules.specs.declared.Breaking.{Breaking}
 use Rattle.stream.specs.Answers.{Closing, refused}
 

@@ -11,7 +11,8 @@ use lib.IntN.{ℤ, pos, negsuc}
 use borrow.Author.Tests.{eqb-true, eq-eqb, ltb-true, ltb-false, ne-eqb}
 use Rattle.rules.specs.declared.Name.{Name}
 use Rattle.rules.specs.Numbers.{equalZ}
-use Rattle.rules.specs.Traps.{Trap, rowOf, isRow, seenAt, lower, nearer, nearestTrap, plant, removeTrap}
+use Rattle.rules.specs.Traps.{rowOf, isRow, seenAt, lower, nearer, nearestTrap, plant, removeTrap}
+use Rattle.rules.specs.declared.Trap.{Trap}
 
 -- the trap of an N and a name
 abbrev pub trap : ℤ → Name → Trap

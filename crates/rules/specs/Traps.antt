@@ -7,6 +7,7 @@ use lib.Dec.{ltb, eqb}
 use lib.ListN.{replicate}
 use lib.IntN.{ℤ, pos, negsuc}
 use Rattle.rules.specs.declared.Name.{Name}
+use Rattle.rules.specs.declared.Trap.{Trap}
 use Rattle.rules.specs.Bytes.{newline}
 use Rattle.rules.specs.Numbers.{equalZ}
 use Rattle.rules.specs.Settings.{Down}
@@ -21,11 +22,6 @@ pub record Page : Type 0 where
 
 abbrev pub noPage : Page
 noPage = record { number = 0; used = 0; last = false }
-
--- a trap: a row and a name
-pub record Trap : Type 0 where
-  pub place : ℤ
-  pub name : Name
 
 abbrev pub someIf : (awake : Bool) → Down → Option Down
 someIf true n = some n

@@ -6,6 +6,12 @@ pub struct Name {
     pub second: u8,
 }
 
+// A planted trap: its row, a negative one counted up from the page end, and the name of its text.
+pub struct Trap {
+    pub place: i32,
+    pub name: Name,
+}
+
 // The operators of an expression.
 pub enum Operator {
     Add,
