@@ -1,9 +1,12 @@
 pub mod Bytes
+pub mod TableLaws
 pub mod Names
 pub mod Refusals
+pub mod Judging
 pub mod Printers
 pub mod Requests
 pub mod Numbers
+pub mod NumberLaws
 pub mod Registers
 pub mod RegisterLaws
 pub mod Texts
