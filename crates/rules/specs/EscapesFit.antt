@@ -9,8 +9,8 @@ use lib.ListN.{length, length-append, getD}
 use lib.Dec.{leb}
 use borrow.Author.Tests.{leb-true}
 use Rattle.rules.specs.declared.Name.{Name}
-use Rattle.rules.specs.Refusals.{Judged, value, bad}
-use Rattle.rules.specs.Bytes.{backslash}
+use Rattle.rules.specs.Refusals.{value, bad}
+use Rattle.rules.specs.Bytes.{bytes, backslash}
 use Rattle.rules.specs.Registers.{Register, stepRegister, Reference, decimal}
 use Rattle.rules.specs.Texts.{Text, text, textOf}
 use Rattle.rules.specs.declared.Kind.{Kind}

@@ -12,7 +12,8 @@ use borrow.Author.Tests.{eqb-true, leb-true, ltb-true}
 use Rattle.rules.specs.Printers.{Printer}
 use Rattle.rules.specs.declared.Name.{Name}
 use Rattle.rules.specs.Bytes.{isThere, byte, newline, space}
-use Rattle.rules.specs.Refusals.{Judged, value, bad, judge, _>>=_}
+use Rattle.rules.specs.Refusals.{Judged, value, bad, judge}
+use Rattle.rules.specs.RefusalLaws.{Every, here, refused, every, every-of, judge-every}
 use Rattle.rules.specs.Numbers.{cells, rows, units, signed}
 use Rattle.rules.specs.Registers.{lookup, valueOr0, stepOr0, setValue, predefined}
 use Rattle.rules.specs.Texts.{Text, textOf, remove, defineString, openMacro, keepLine, closeMacro}
@@ -216,23 +217,6 @@ line-load : (l : List ℕ) → itemLoad (again (lineOf l)) ≤ lineLoad (length 
 unfolding lineOf
 line-load [] = omega arith
 line-load (b ∷ l) = lineBy-load (eqb b (byte ".")) (eqb b (byte "'")) b l
-
--- what holds of a value, if it is not refused
-data Every {A : Type 0} (P : A → Type 0) : Judged A → Type 0 where
-  here : {a : A} → P a → Every P (value a)
-  refused : {n : ℕ} → Every P (bad n)
-
-every : {A B : Type 0} {P : B → Type 0} (j : Judged A) (k : A → Judged B) → ((a : A) → Every P (k a)) → Every P (j >>= k)
-every (value a) k f = f a
-every (bad n) k f = refused
-
-judge-every : {A : Type 0} {P : A → Type 0} (t : Bool) (n : ℕ) (a : A) → P a → Every P (judge t n a)
-judge-every true n a h = here h
-judge-every false n a h = refused
-
-every-of : {A B : Type 0} {Q : A → Type 0} {P : B → Type 0} {j : Judged A} (k : A → Judged B) → Every Q j → ((a : A) → Q a → Every P (k a)) → Every P (j >>= k)
-every-of k (here {a = a} h) f = f a h
-every-of k refused f = refused
 
 module _ (p : Printer) where
   -- what a piece of work leads to keeps the limits and falls below m

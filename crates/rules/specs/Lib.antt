@@ -2,6 +2,7 @@
 
 -- what every file uses: bytes, names, and values that may be refused
 pub mod Bytes
+pub mod TableLaws
 pub mod Names
 pub mod NameLaws
 pub mod Refusals
@@ -17,6 +18,7 @@ pub mod SessionLaws
 pub mod Settings
 -- 'Numbers'
 pub mod Numbers
+pub mod NumberLaws
 -- 'Lines and escapes': registers, texts, the expansion of a line, arguments, lines and conditions, control lines, and what requests do
 pub mod Registers
 pub mod RegisterLaws
@@ -24,6 +26,7 @@ pub mod Texts
 pub mod TextLaws
 pub mod Escapes
 pub mod EscapesFit
+pub mod EscapeLaws
 pub mod Arguments
 pub mod Lines
 pub mod ControlLines
