@@ -13,7 +13,8 @@ use Rattle.rules.specs.declared.Name.{Name}
 use Rattle.rules.specs.RefusalLaws.{Every, here, refused as bare, every-map}
 use Rattle.rules.specs.Bytes.{byte, bytes, backslash, mark, fixedBlank, entry}
 use Rattle.rules.specs.TableLaws.{entry-each}
-use Rattle.rules.specs.Registers.{Register, stepRegister, Reference, decimalBy, decimal}
+use Rattle.rules.specs.Registers.{stepRegister, Reference, decimalBy, decimal}
+use Rattle.rules.specs.declared.Register.{Register}
 use Rattle.rules.specs.declared.Turn.{Turn}
 use Rattle.rules.specs.RegisterLaws.{names, Sorted, names-sorted, same-length, step-names, BoundedSeen, BoundedTable, step-bounded}
 use Rattle.rules.specs.Texts.{Text, text, textOf}

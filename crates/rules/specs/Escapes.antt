@@ -9,7 +9,8 @@ use Rattle.rules.specs.Bytes.{byte, bytes, space, backslash, mark, fixed
 use Rattle.rules.specs.declared.Name.{Name}
 use Rattle.rules.specs.Names.{oneByte, twoBytes}
 use Rattle.rules.specs.Refusals.{Judged, value, bad}
-use Rattle.rules.specs.Registers.{Register, Seen, Reference, stepRegister, decimal}
+use Rattle.rules.specs.Registers.{Seen, Reference, stepRegister, decimal}
+use Rattle.rules.specs.declared.Register.{Register}
 use Rattle.rules.specs.declared.Turn.{Turn}
 use Rattle.rules.specs.declared.Turn.the-variants.{Still, Up, Down}
 use Rattle.rules.specs.declared.Kind.{Kind}

@@ -11,7 +11,8 @@ use borrow.Author.Tests.{leb-true}
 use Rattle.rules.specs.declared.Name.{Name}
 use Rattle.rules.specs.Refusals.{value, bad}
 use Rattle.rules.specs.Bytes.{bytes, backslash}
-use Rattle.rules.specs.Registers.{Register, stepRegister, Reference, decimal}
+use Rattle.rules.specs.Registers.{stepRegister, Reference, decimal}
+use Rattle.rules.specs.declared.Register.{Register}
 use Rattle.rules.specs.Texts.{Text, text, textOf}
 use Rattle.rules.specs.declared.Kind.{Kind}
 use Rattle.rules.specs.declared.Kind.the-variants.{Macro, String}

@@ -17,7 +17,8 @@ use Rattle.rules.specs.TableLaws.{Each, OfSome, first-each, first-passes
 use Rattle.rules.specs.RefusalLaws.{Every, here, refused, every, every-of, judge-every, tested-every, every-map}
 use Rattle.rules.specs.Numbers.{within}
 use Rattle.rules.specs.NumberLaws.{Bounded, within-bounded}
-use Rattle.rules.specs.Registers.{Register, register, lookup, put, setValue, Seen, readOnly, shown, stepTo, referBy, stepRegister}
+use Rattle.rules.specs.Registers.{register, lookup, put, setValue, Seen, readOnly, shown, stepTo, referBy, stepRegister}
+use Rattle.rules.specs.declared.Register.{Register}
 use Rattle.rules.specs.declared.Turn.{Turn}
 use Rattle.rules.specs.declared.Turn.the-variants.{Still, Up, Down}
 

@@ -11,13 +11,9 @@ use Rattle.rules.specs.declared.Name.{Name}
 use Rattle.rules.specs.Names.{oneByte, twoBytes, sameName, Order, earlier, same, later, order}
 use Rattle.rules.specs.Refusals.{Judged, value, bad, judge, _>>=_}
 use Rattle.rules.specs.Numbers.{within}
+use Rattle.rules.specs.declared.Register.{Register}
 use Rattle.rules.specs.declared.Turn.{Turn}
 use Rattle.rules.specs.declared.Turn.the-variants.{Still, Up, Down}
-
-pub record Register : Type 0 where
-  pub name : Name
-  pub value : ℤ
-  pub step : ℤ
 
 abbrev pub register : Name → ℤ → ℤ → Register
 register n v s = record { name = n; value = v; step = s }

@@ -7,7 +7,8 @@ use lib.IntN.{pos}
 use Rattle.rules.specs.declared.Name.{Name}
 use Rattle.rules.specs.Names.{sameName}
 use Rattle.rules.specs.Printers.{Printer}
-use Rattle.rules.specs.Registers.{Register, Seen}
+use Rattle.rules.specs.Registers.{Seen}
+use Rattle.rules.specs.declared.Register.{Register}
 use Rattle.rules.specs.Texts.{Text}
 use Rattle.rules.specs.Settings.{Layout, startLayout}
 use Rattle.rules.specs.Filling.{Word, Collected}

@@ -6,6 +6,13 @@ pub struct Name {
     pub second: u8,
 }
 
+// A number register: its name, its value, and what a step adds or takes away.
+pub struct Register {
+    pub name: Name,
+    pub value: i32,
+    pub step: i32,
+}
+
 // A planted trap: its row, a negative one counted up from the page end, and the name of its text.
 pub struct Trap {
     pub place: i32,
