@@ -161,7 +161,7 @@ impl Scanner<'_> {
                 self.next_here()?;
                 return Ok(false);
             }
-            // "There [..] \\ becomes \, \. becomes a period, [..] the rest, a lone backslash at the end too, stays."
+            // "\\ becomes \, \. becomes a period, \n \* \$ \" act, the rest, a lone backslash at the end too, stays."
             (Mode::Copy, Some(byte @ (b'\\' | b'.'))) => {
                 self.next_here()?;
                 self.put(byte)?;

@@ -174,6 +174,7 @@ impl Reader<'_> {
             Some(b'u') => {
                 let digits =
                     self.bytes.get(self.at + 1..self.at + 5).and_then(|digits| std::str::from_utf8(digits).ok());
+                let digits = digits.filter(|digits| digits.bytes().all(|digit| digit.is_ascii_hexdigit()));
                 let code = digits.and_then(|digits| u32::from_str_radix(digits, 16).ok());
                 let Some(found) = code.and_then(char::from_u32) else {
                     return Err(self.message("four hexadecimal digits of a character"));
@@ -214,10 +215,10 @@ pub fn quoted(text: &str) -> String {
         match letter {
             '"' => quoted.push_str("\\\""),
             '\\' => quoted.push_str("\\\\"),
-            ' '..='~' => quoted.push(letter),
-            other => other.encode_utf16(&mut [0; 2]).iter().for_each(|unit| {
-                let _ = write!(quoted, "\\u{unit:04x}");
-            }),
+            control @ '\0'..='\u{1f}' => {
+                let _ = write!(quoted, "\\u{:04x}", control as u32);
+            }
+            other => quoted.push(other),
         }
     }
     quoted.push('"');
@@ -253,6 +254,8 @@ mod tests {
             "\"a",
             "\"\\x\"",
             "\"\\u12\"",
+            "\"\\u+041\"",
+            "\"\\u+041\"",
             "1.5",
             "1e3",
             "-",
@@ -279,9 +282,7 @@ mod tests {
 
     #[test]
     fn quoted_text_is_read_back() {
-        let text = "a\"b\\c\n\u{1f600}é";
-        let plain = "a\"b\\c\né";
-        assert!(Json::parse(&quoted(text)).is_err(), "characters of two units are not read");
-        assert_eq!(Json::parse(&quoted(plain)), Ok(Json::Text(plain.to_string())));
+        let text = "a\"b\\c\n\u{1f600}é\u{7f}";
+        assert_eq!(Json::parse(&quoted(text)), Ok(Json::Text(text.to_string())));
     }
 }

@@ -2,7 +2,7 @@
 
 use crate::argument::{arguments, next_space, skip_spaces};
 use crate::escape::Mode;
-use crate::number::{evaluate, Default};
+use crate::number::{evaluate, DefaultScale};
 use crate::refusal::Work;
 use crate::request::Request;
 use crate::state::{Arguments, Expanded, Item, Name, State};
@@ -142,7 +142,7 @@ impl State {
             b"e" => self.page.is_multiple_of(2),
             b"t" => false,
             b"n" => true,
-            expression => evaluate(expression, Default::Units)? > 0,
+            expression => evaluate(expression, DefaultScale::Units)? > 0,
         };
         Ok(holds != negated)
     }

@@ -12,7 +12,7 @@ use second::state::State;
 use second::vector::{Question, Vector};
 
 const USAGE: &str = "usage: second batch              answer one JSON object a line from standard input
-       second check FILE..         run vector files and print the differences
+       second check [--least N] FILE..  run vector files (at least N vectors) and print the differences
        second format FILE          write the pages of a document to standard output
        second show FILE..          print vector files readably
        second generate SEED COUNT  write random documents, one JSON object a line
@@ -28,21 +28,29 @@ impl From<io::Error> for Misuse {
 }
 
 fn main() -> ExitCode {
-    let words: Option<Vec<String>> = std::env::args_os().skip(1).map(|word| word.into_string().ok()).collect();
-    let words = words.unwrap_or_default();
+    let words: Result<Vec<String>, _> = std::env::args_os().skip(1).map(|word| word.into_string()).collect();
+    let words = match words {
+        Ok(words) => words,
+        Err(word) => return misused(&format!("{}: not a word of UTF-8", word.to_string_lossy())),
+    };
     let words: Vec<&str> = words.iter().map(String::as_str).collect();
     let result = match words.as_slice() {
         ["batch"] => batch(),
-        ["check", files @ ..] if !files.is_empty() => check(files),
+        ["check", "--least", least, files @ ..] if !files.is_empty() => {
+            number(least).and_then(|least| check(files, least))
+        }
+        ["check", files @ ..] if !files.is_empty() => check(files, 1),
         ["format", file] => format(file),
         ["show", files @ ..] if !files.is_empty() => show(files),
         ["generate", seed, count] => generate(seed, count),
         _ => Err(Misuse(USAGE.to_string())),
     };
-    result.unwrap_or_else(|Misuse(message)| {
-        let _ = writeln!(io::stderr(), "second: {message}");
-        ExitCode::from(2)
-    })
+    result.unwrap_or_else(|Misuse(message)| misused(&message))
+}
+
+fn misused(message: &str) -> ExitCode {
+    let _ = writeln!(io::stderr(), "second: {message}");
+    ExitCode::from(2)
 }
 
 fn open(file: &str) -> Result<Box<dyn Read>, Misuse> {
@@ -74,16 +82,17 @@ fn batch() -> Result<ExitCode, Misuse> {
     let mut out = BufWriter::with_capacity(1 << 16, io::stdout().lock());
     let result = lines("-", |_, line| {
         let answer = Question::from_json(&Json::parse(line)?)?.answer().to_json();
-        writeln!(out, "{answer}").map_err(|error| error.to_string())
+        writeln!(out, "{answer}").map_err(|error| format!("the answer cannot be written: {error}"))
     });
     out.flush()?;
     result.map(|()| ExitCode::SUCCESS)
 }
 
-fn check(files: &[&str]) -> Result<ExitCode, Misuse> {
+fn check(files: &[&str], least: u64) -> Result<ExitCode, Misuse> {
     let mut out = BufWriter::new(io::stdout().lock());
     let (mut passed, mut failed) = (0, 0);
     for file in files {
+        let before = passed + failed;
         lines(file, |number, line| {
             let vector = Vector::parse(line)?;
             let Some(difference) = vector.difference() else {
@@ -93,11 +102,19 @@ fn check(files: &[&str]) -> Result<ExitCode, Misuse> {
             failed += 1;
             write!(out, "{file}:{number}: {}\n{difference}", vector.name).map_err(|error| error.to_string())
         })?;
+        // A file without a vector shows nothing, so it is no success.
+        if passed + failed == before {
+            failed += 1;
+            writeln!(out, "{file}: no vectors")?;
+        }
+    }
+    if passed + failed < least {
+        failed += 1;
+        writeln!(out, "fewer than {least} vectors")?;
     }
     writeln!(out, "{passed} passed, {failed} failed")?;
     out.flush()?;
-    // A run without a vector shows nothing, so it is no success.
-    Ok(if failed == 0 && passed > 0 { ExitCode::SUCCESS } else { ExitCode::from(1) })
+    Ok(if failed == 0 { ExitCode::SUCCESS } else { ExitCode::from(1) })
 }
 
 fn show(files: &[&str]) -> Result<ExitCode, Misuse> {
@@ -136,15 +153,18 @@ fn format(file: &str) -> Result<ExitCode, Misuse> {
             }
             Ending::Refused { number, line } => {
                 out.flush()?;
-                writeln!(io::stderr(), "refused {number} at line {line}")?;
+                let _ = writeln!(io::stderr(), "refused {number} at line {line}");
                 return Ok(ExitCode::from(1));
             }
         }
     }
 }
 
+fn number(word: &str) -> Result<u64, Misuse> {
+    word.parse().map_err(|_| Misuse(format!("{word}: not a whole number")))
+}
+
 fn generate(seed: &str, count: &str) -> Result<ExitCode, Misuse> {
-    let number = |word: &str| word.parse::<u64>().map_err(|_| Misuse(format!("{word}: not a whole number")));
     let (seed, count) = (number(seed)?, number(count)?);
     let mut out = BufWriter::with_capacity(1 << 16, io::stdout().lock());
     for index in 0..count {

@@ -6,20 +6,20 @@ use crate::refusal::{Work, BAD_NUMBER, NUMBER_LIMIT, PARENTHESES_LIMIT};
 pub const CELL: i64 = 24;
 pub const ROW: i64 = 40;
 
-/// "Default scale: m for ll in ti po; v for sp pl wh; u for nr, ce and if."
+/// "DefaultScale scale: m for ll in ti po; v for sp pl wh; u for nr, ce and if."
 #[derive(Clone, Copy, Debug, PartialEq, Eq)]
-pub enum Default {
+pub enum DefaultScale {
     Across,
     Down,
     Units,
 }
 
-impl Default {
+impl DefaultScale {
     fn letter(self) -> u8 {
         match self {
-            Default::Across => b'm',
-            Default::Down => b'v',
-            Default::Units => b'u',
+            DefaultScale::Across => b'm',
+            DefaultScale::Down => b'v',
+            DefaultScale::Units => b'u',
         }
     }
 }
@@ -59,7 +59,7 @@ pub fn round(units: i64, size: i64) -> i64 {
 }
 
 /// The value of a whole argument. Anything behind the expression makes it malformed.
-pub fn evaluate(argument: &[u8], default: Default) -> Work<i64> {
+pub fn evaluate(argument: &[u8], default: DefaultScale) -> Work<i64> {
     let mut reader = Reader { bytes: argument, at: 0, default };
     let value = reader.expression(0)?;
     if reader.at == argument.len() {
@@ -93,7 +93,7 @@ enum Operator {
 struct Reader<'a> {
     bytes: &'a [u8],
     at: usize,
-    default: Default,
+    default: DefaultScale,
 }
 
 impl Reader<'_> {
@@ -206,7 +206,7 @@ mod tests {
     use super::*;
 
     fn units(argument: &str) -> Work<i64> {
-        evaluate(argument.as_bytes(), Default::Units)
+        evaluate(argument.as_bytes(), DefaultScale::Units)
     }
 
     #[test]

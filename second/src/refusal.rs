@@ -7,7 +7,8 @@ pub enum Stop {
     Refused(u8),
 }
 
-/// The result of a piece of work that may stop the formatter.
+/// The result of a piece of work that may stop the formatter. "The others come in reading order: the first event that
+/// earns one decides."
 pub type Work<T> = Result<T, Stop>;
 
 /// "store not 8,192 long, or the record breaks a limit below"
@@ -49,22 +50,3 @@ pub const TRAP_LIMIT: usize = 16;
 pub const LIVE_TEXT_LIMIT: usize = 8192;
 pub const SOURCE_LINE_LIMIT: u32 = 1_000_000;
 pub const PAGE_LIMIT: u32 = 1_000_000;
-
-/// The phrase that goes with a refusal number in messages.
-pub fn phrase(number: u8) -> &'static str {
-    match number {
-        1 => "store or record not as lent",
-        2 => "bad source byte",
-        3 => "line too long",
-        4 => "strings nested or scanned too far",
-        5 => "bad escape",
-        6 => "bad number",
-        7 => "value out of range",
-        8 => "definition not ended",
-        9 => "text in use, or a macro named as a string",
-        10 => "input stack or stored lines past their limit",
-        11 => "table or store full",
-        12 => "too many lines or pages",
-        _ => "unknown refusal",
-    }
-}

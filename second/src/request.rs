@@ -1,8 +1,8 @@
-//! Document 01, 'What is built' and 'Lines and escapes': the eighteen requests, each with its arguments.
+//! Document 01, 'What is built' and 'Lines and escapes': the requests, each with its arguments.
 
 use crate::argument::{argument, next_space, skip_spaces};
 use crate::escape::written_back;
-use crate::number::{evaluate, is_change, round, within_limit, Default, CELL, ROW};
+use crate::number::{evaluate, is_change, round, within_limit, DefaultScale, CELL, ROW};
 use crate::refusal::{Work, BAD_VALUE, REGISTER_LIMIT, TABLE_FULL, TRAP_LIMIT};
 use crate::state::{Arguments, Name, Register, State, Trap};
 
@@ -83,11 +83,11 @@ fn in_range(value: i64, least: i64, most: i64) -> Work<i64> {
 }
 
 fn cells(argument: &[u8]) -> Work<i64> {
-    Ok(round(evaluate(argument, Default::Across)?, CELL))
+    Ok(round(evaluate(argument, DefaultScale::Across)?, CELL))
 }
 
 fn rows(argument: &[u8]) -> Work<i64> {
-    Ok(round(evaluate(argument, Default::Down)?, ROW))
+    Ok(round(evaluate(argument, DefaultScale::Down)?, ROW))
 }
 
 /// The number as it stands, or added to the old value where a leading sign marks a change. The sum "is judged by 7".
@@ -97,7 +97,8 @@ fn new_value(argument: &[u8], old: i64, number: Work<i64>) -> Work<i64> {
 }
 
 impl State {
-    /// What a request does once its break, if any, is over.
+    /// What a request does once its break, if any, is over. "Arguments not needed, and all of br bp fi nf ad na, are
+    /// dropped (H). For the others a missing one means no action or refusal".
     pub fn act(&mut self, request: Request, arguments: &Arguments) -> Work<()> {
         let first = present(arguments, 0);
         match request {
@@ -113,7 +114,7 @@ impl State {
             }
             Request::BeginPage => return self.eject(self.page),
             Request::Centre => {
-                let count = first.map_or(Ok(1), |argument| evaluate(argument, Default::Units))?;
+                let count = first.map_or(Ok(1), |argument| evaluate(argument, DefaultScale::Units))?;
                 // "n of 0 or less ends centring"
                 self.centring = count.max(0);
             }
@@ -125,6 +126,7 @@ impl State {
                 };
                 self.page_length = in_range(length, (self.row + 1).max(1), 500)?;
             }
+            // "Ranges: ll 1 to 240 cells, in and the ti total 0 to 239, po 0 to 120"
             Request::LineLength => {
                 // "ll in po the value before the last setting (start value at first)" where missing
                 let setting = self.line_length;
@@ -178,9 +180,9 @@ impl State {
         let place = self.registers.iter().position(|register| register.name == name);
         let old = place.map_or(Register { name, value: 0, step: 0 }, |place| self.registers[place]);
         // "The sum with the old value is a result in the sense of 6 for nr only"
-        let value = within_limit(new_value(argument, old.value, evaluate(argument, Default::Units))?)?;
+        let value = within_limit(new_value(argument, old.value, evaluate(argument, DefaultScale::Units))?)?;
         // "nr without a step the old step (0 at first)"
-        let step = step.map_or(Ok(old.step), |argument| evaluate(argument, Default::Units))?;
+        let step = step.map_or(Ok(old.step), |argument| evaluate(argument, DefaultScale::Units))?;
         let register = Register { name, value, step };
         match place {
             Some(place) => self.registers[place] = register,

@@ -29,8 +29,7 @@ impl State {
     pub fn call(&mut self, store_length: usize, block: &[u8], last: bool, room: usize, out: &mut Vec<u8>) -> Answer {
         // "1 comes first, gives line 0, takes and writes nothing and changes nothing."
         if store_length != STORE_LENGTH {
-            let ending = refused(BAD_STORE, 0);
-            return Answer { taken: 0, written: 0, ending };
+            return Answer { taken: 0, written: 0, ending: ending(BAD_STORE, 0) };
         }
         let (mut taken, mut written) = (0, 0);
         loop {
@@ -50,7 +49,7 @@ impl State {
             // "Waiting output is delivered before done or a refusal." "After done or refused (repeated) [..] no byte is
             // taken."
             if let Some(stop) = self.closed {
-                return Answer { taken, written, ending: refused(stop, self.line_number) };
+                return Answer { taken, written, ending: ending(stop, self.line_number) };
             }
             let work = if let Some(work) = self.work() {
                 // "else deal with the top of the input stack"
@@ -143,8 +142,8 @@ impl State {
     }
 }
 
-/// "refused (number, source line from 1, for the end the last)"
-fn refused(stop: Stop, line: u32) -> Ending {
+/// "done, or refused (number, source line from 1, for the end the last)"
+fn ending(stop: Stop, line: u32) -> Ending {
     match stop {
         Stop::Done => Ending::Done,
         Stop::Refused(number) => Ending::Refused { number, line },

@@ -53,6 +53,7 @@ impl State {
         self.texts.iter().filter(|text| text.name != name).count()
     }
 
+    /// "The room of redefined or removed text is used again".
     fn forget(&mut self, name: Name) {
         self.texts.retain(|text| text.name != name);
     }

@@ -4,7 +4,7 @@ use std::fmt::Write;
 
 use crate::json::{from_hex, to_hex, Json};
 use crate::refusal::STORE_LENGTH;
-use crate::session::{pages, Answer, Ending};
+use crate::session::{Answer, Ending};
 use crate::state::State;
 
 /// One call: the block's length, the last mark, the room.
@@ -103,7 +103,11 @@ impl Question {
     }
 
     pub fn answer(&self) -> Outcome {
-        let Some(calls) = &self.calls else { return self.whole() };
+        let Some(calls) = &self.calls else {
+            let mut out = Vec::new();
+            let answer = State::new().call(self.store, &self.document, true, usize::MAX, &mut out);
+            return Outcome::Whole { out, end: answer.ending };
+        };
         let (mut state, mut out, mut at) = (State::new(), Vec::new(), 0);
         let answer = |call: &Call| {
             // Each block is that many bytes, clipped, from the first untaken byte on.
@@ -114,16 +118,6 @@ impl Question {
         };
         let answers = calls.iter().map(answer).collect();
         Outcome::Called { out, answers }
-    }
-
-    fn whole(&self) -> Outcome {
-        if self.store == STORE_LENGTH {
-            let (out, end) = pages(&self.document);
-            return Outcome::Whole { out, end };
-        }
-        let mut out = Vec::new();
-        let answer = State::new().call(self.store, &self.document, true, usize::MAX, &mut out);
-        Outcome::Whole { out, end: answer.ending }
     }
 }
 

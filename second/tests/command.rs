@@ -24,7 +24,7 @@ fn text(bytes: &[u8]) -> &str {
     std::str::from_utf8(bytes).expect("text")
 }
 
-/// A misuse has exit status 2, one clear message and no output.
+/// A misuse has exit status 2 and one clear message.
 fn misuse(words: &[&str], input: &str, message: &str) {
     let output = run(words, input.as_bytes());
     assert_eq!(output.status.code(), Some(2), "{words:?}");
@@ -51,6 +51,7 @@ fn bad_use_gets_a_message_and_status_2() {
     misuse(&["check", "/nowhere/at-all"], "", "/nowhere/at-all");
     misuse(&["format", "/"], "", "/");
     misuse(&["generate", "one", "2"], "", "one");
+    misuse(&["check", "--least", "x", "-"], "", "x");
 }
 
 #[test]
@@ -136,7 +137,11 @@ fn check_counts_and_shows_differences() {
         assert!(report.ends_with("\n1 passed, 1 failed\n"), "{report}");
     }
     let output = run(&["check", "-"], b"");
-    assert_eq!((output.status.code(), text(&output.stdout)), (Some(1), "0 passed, 0 failed\n"));
+    assert_eq!((output.status.code(), text(&output.stdout)), (Some(1), "-: no vectors\n0 passed, 1 failed\n"));
+    let output = run(&["check", "--least", "3", "-"], good.repeat(2).as_bytes());
+    assert_eq!((output.status.code(), text(&output.stdout)), (Some(1), "fewer than 3 vectors\n2 passed, 1 failed\n"));
+    let output = run(&["check", "--least", "2", "-"], good.repeat(2).as_bytes());
+    assert_eq!((output.status.code(), text(&output.stdout)), (Some(0), "2 passed, 0 failed\n"));
 }
 
 #[test]

@@ -64,16 +64,22 @@ fn cutting_changes_nothing() {
 /// The beginning of the pages is written whatever the call list, also when it stops early.
 #[test]
 fn what_is_written_is_the_beginning_of_the_pages() {
-    let mut random = Random::new(SEED + 1);
+    let (mut random, mut total) = (Random::new(SEED + 1), 0);
     for index in 0..2_000 {
         let document = document(SEED + 1, index);
         let (whole, _) = pages(&document);
         let (mut state, mut out, mut at) = (State::new(), Vec::new(), 0);
-        for _ in 0..random.below(30) {
-            let end = document.len().min(at + random.below(9));
-            let answer = state.call(STORE_LENGTH, &document[at..end], end == document.len(), random.below(5), &mut out);
+        let mut written = 0;
+        for _ in 0..random.below(60) {
+            let end = document.len().min(at + random.below(40));
+            let answer =
+                state.call(STORE_LENGTH, &document[at..end], end == document.len(), random.below(20), &mut out);
             at += answer.taken;
+            written += answer.written;
             assert!(whole.starts_with(&out), "document {index}: {}", document.escape_ascii());
         }
+        assert_eq!(written, out.len());
+        total += written;
     }
+    assert!(total > 10_000, "{total} bytes written");
 }

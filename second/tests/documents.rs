@@ -127,7 +127,7 @@ fn vectors() -> HashSet<String> {
     let mut names = HashSet::new();
     for entry in fs::read_dir(root().join("tests/vectors")).expect("tests/vectors") {
         let text = fs::read_to_string(entry.expect("an entry").path()).expect("a vector file");
-        for line in text.lines() {
+        for line in text.lines().filter(|line| !line.trim().is_empty()) {
             if let Some(Json::Text(name)) = Json::parse(line).expect("a vector").get("name") {
                 names.insert(name.clone());
             }

@@ -12,6 +12,7 @@ use std::io::{self, BufRead, BufReader, BufWriter, Read, Write};
 use std::path::Path;
 use std::process::ExitCode;
 
+use second::refusal::STORE_LENGTH;
 use second::session::{Answer, Ending};
 use second::vector::{Outcome, Vector};
 
@@ -94,15 +95,19 @@ fn reply(ending: Ending) -> String {
 
 /// The statement of a vector, without its name. Nothing where it asks for what the rules do not say (refusal 1).
 fn statement(vector: &Vector) -> Option<String> {
+    if vector.question.store != STORE_LENGTH {
+        return None;
+    }
     let document = quoted(&vector.question.document);
     match (&vector.expected, &vector.question.calls) {
         (Outcome::Whole { out, end }, _) => Some(format!("Gives ({document}) ({}) {}", quoted(out), closing(*end)?)),
         (Outcome::Called { out, answers }, Some(calls)) => {
             let lent = calls.iter().map(|call| format!("lent {} {} {} ∷ ", call.block, call.last, call.room));
-            let mut at = 0;
+            let mut at: usize = 0;
             let told = answers.iter().map(|&Answer { taken, written, ending }| {
-                let bytes = out.get(at..at + written).unwrap_or_default();
-                at += written;
+                let end = at.saturating_add(written).min(out.len());
+                let bytes = &out[at..end];
+                at = end;
                 format!("told {taken} ({}) {} ∷ ", quoted(bytes), reply(ending))
             });
             let (lent, told): (String, String) = (lent.collect(), told.collect());
