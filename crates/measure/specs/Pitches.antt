@@ -1,6 +1,6 @@
 -- The pitch of a printer: the units of its cell and of its row. Assumes nothing.
 use mathlib.Core.Path.{_≡_, refl}
-use Prim.Native.Nat.{ℕ, _%_}
+use Prim.Native.Nat.{ℕ, _%_, _<_}
 use Rattle.measure.specs.declared.Pitch.{Pitch}
 
 -- "A cell is 24 units, a row 40"
@@ -17,3 +17,8 @@ pub record Whole (p : Pitch) : Type 0 where
 
 pub ten-whole : Whole tenPitch
 ten-whole = record { cells = refl; rows = refl }
+
+-- the cell and the row of a printer have units
+pub record Sized (p : Pitch) : Type 0 where
+  pub cell : 0 < p .cell
+  pub row : 0 < p .row

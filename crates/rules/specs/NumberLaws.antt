@@ -6,9 +6,9 @@ use mathlib.Core.Option.{Option, none, some}
 use Prim.Native.Nat.{ℕ, zero, suc, _+_, _-_, _*_, _≤_, _<_}
 use native.Mathlib.Omega.{arith}
 use lib.Dec.{leb, eqb}
-use lib.ListN.{length, drop}
+use lib.ListN.{length, drop, getD}
 use lib.IntN.{ℤ, pos, natAbs, negℤ}
-use borrow.Author.Tests.{leb-true}
+use borrow.Author.Tests.{leb-true, ne-eqb}
 use Rattle.measure.specs.declared.Pitch.{Pitch}
 use Rattle.measure.specs.declared.Scale.{Scale}
 use Rattle.measure.specs.declared.Scale.the-variants.{Em, LineSpace, Unit as BasicUnit}
@@ -20,7 +20,7 @@ use Rattle.rules.specs.Bytes.{byte, firstWhere, inTable}
 use Rattle.rules.specs.TableLaws.{entry-each}
 use Rattle.rules.specs.Refusals.{value, bad, _>>=_}
 use Rattle.rules.specs.RefusalLaws.{Every, here, refused, every, every-of, judge-every, tested-every, every-map, of-value, same-after}
-use Rattle.rules.specs.Numbers.{Read, within, truth, divisor, operate, operators, Joint, joins, stops, joinsOr, oneByteJoint, operatorBefore, jointOf, isDigit, digits, scaled, scaledOr, scaledBy, literalAt, Start, literal, opens, plus, minus, noTerm, startBy, startOf, closed, expressionBy, whole, term, onward, evaluate, cells, rows, units}
+use Rattle.rules.specs.Numbers.{Read, within, truth, divisor, operate, operators, operatorsBeforeEqual, Joint, joins, stops, joinsOr, oneByteJoint, operatorBefore, jointOf, isDigit, digits, scaled, scaledOr, scaledBy, literalAt, Start, literal, opens, plus, minus, noTerm, startBy, startOf, closed, expressionBy, whole, term, onward, evaluate, cells, rows, units}
 use Rattle.rules.specs.declared.Operator.{Operator}
 use Rattle.rules.specs.declared.Operator.the-variants.{Add, Subtract, Multiply, Divide, Remainder, Less, Greater, AtMost, AtLeast, Equal, And, Or}
 
@@ -374,3 +374,55 @@ module _ (p : Pitch) (d : Scale) where
   -- and so does not depend on the number of steps
   pub evaluate-fuel : (n : ℕ) (l : List ℕ) → length l < n → evaluate p d l ≡ (expressionBy (term p d n 8) (onward p d n 8) l >>= λ x. whole (x .0) (x .1))
   evaluate-fuel n l h = evaluate-any (term p d) (onward p d) (record { terms = term-step; onwards = onward-step }) n l h
+
+-- An operator in a line. One byte, where no operator of two begins with it.
+one-by : (t : Bool) (b : ℕ) (l : List ℕ) (j : Joint) → inTable operatorsBeforeEqual b ≡ none → joinsOr (operatorBefore t b) l j ≡ j
+one-by true b l j h = rw h
+one-by false b l j h = refl
+
+pub joint-one : (b : ℕ) (l : List ℕ) → inTable operatorsBeforeEqual b ≡ none → jointOf (b ∷ l) ≡ oneByteJoint b l
+unfolding jointOf
+joint-one b [] h = refl
+joint-one b (c ∷ l) h = one-by (eqb c (byte "=")) b l (oneByteJoint b (c ∷ l)) h
+
+-- One byte, where no = follows.
+pub joint-alone : (b : ℕ) (l : List ℕ) → (getD l 0 0 ≡ byte "=" → ⊥) → jointOf (b ∷ l) ≡ oneByteJoint b l
+unfolding jointOf
+joint-alone b [] h = refl
+joint-alone b (c ∷ l) h = rw (ne-eqb c (byte "=") h)
+
+-- Two bytes.
+pub joint-two : (b : ℕ) (o : Operator) (l : List ℕ) → inTable operatorsBeforeEqual b ≡ some o → jointOf (b ∷ byte "=" ∷ l) ≡ joins o l
+unfolding jointOf
+joint-two b o l h = rw h
+
+-- A digit more, no digit, and that more digits make no smaller number.
+pub digits-more : (n b : ℕ) (l : List ℕ) → isDigit b ≡ true → digits n (b ∷ l) ≡ digits (n * 10 + (b - byte "0")) l
+unfolding digits
+digits-more n b l e = rw (digits, e)
+
+pub digits-stop : (n b : ℕ) (l : List ℕ) → isDigit b ≡ false → digits n (b ∷ l) ≡ (n, b ∷ l)
+unfolding digits
+digits-stop n b l e = rw (digits, e)
+
+pub digits-grow : (n : ℕ) (l : List ℕ) → n ≤ digits n l .0
+unfolding digits
+digits-grow n [] = omega arith
+digits-grow n (b ∷ l) = go (isDigit b) refl (digits-grow (n * 10 + (b - byte "0")) l)
+  where
+    go : (t : Bool) → isDigit b ≡ t → n * 10 + (b - byte "0") ≤ digits (n * 10 + (b - byte "0")) l .0 → n ≤ digits n (b ∷ l) .0
+    go true e h = rw (digits-more n b l e) (omega arith)
+    go false e h = rw (digits-stop n b l e) (omega arith)
+
+-- How a term starts, by its first byte.
+pub start-digit : (b : ℕ) (l : List ℕ) → isDigit b ≡ true → startOf (b ∷ l) ≡ literal (b ∷ l)
+unfolding startOf
+start-digit b l e = rw e
+
+pub start-other : (b : ℕ) (l : List ℕ) → isDigit b ≡ false → startOf (b ∷ l) ≡ startBy false b l
+unfolding startOf
+start-other b l e = rw e
+
+pub start-none : startOf [] ≡ noTerm
+unfolding startOf
+start-none = refl

@@ -1,11 +1,11 @@
 -- Laws of tables: what holds of each of a list holds of the one that is found. Assumes nothing.
-use mathlib.Core.Path.{_≡_, refl}
+use mathlib.Core.Path.{_≡_, refl, ap}
 use mathlib.Core.Bool.{Bool, true, false}
 use mathlib.Core.List.{List, [], _∷_}
 use mathlib.Core.Option.{Option, none, some}
 use Prim.Native.Nat.{ℕ}
 use lib.Dec.{eqb}
-use Rattle.rules.specs.Bytes.{firstWhere, entryOf, orElse, entry}
+use Rattle.rules.specs.Bytes.{firstWhere, entryOf, inTable, orElse, entry}
 
 -- it holds of each of a list
 abbrev pub Each : {A : Type 0} → (A → Type 0) → List A → Type 0
@@ -50,3 +50,14 @@ else-of P (some e) d h i = h
 pub entry-each : {A : Type 0} (P : A → Type 0) (t : List (ℕ × A)) (d : A) (b : ℕ) → Each (λ e. P (e .1)) t → P d → P (entry t d b)
 unfolding firstWhere
 entry-each P t d b h i = else-of P (firstWhere (λ e. eqb b (e .0)) t) d (first-each (λ e. P (e .1)) (λ e. eqb b (e .0)) t h) i
+
+-- where none passes the test, none is first
+pub first-none : {A : Type 0} (test : A → Bool) (l : List A) → Each (λ x. test x ≡ false) l → firstWhere test l ≡ none
+unfolding firstWhere
+first-none test [] h = refl
+first-none test (x ∷ l) h = rw (firstWhere, h .0) (first-none test l (h .1))
+
+-- a byte that is none of a table's keys has no entry there
+pub absent : {A : Type 0} (t : List (ℕ × A)) (b : ℕ) → Each (λ e. eqb b (e .0) ≡ false) t → inTable t b ≡ none
+unfolding firstWhere
+absent {A} t b h = ap (λ (o : Option (ℕ × A)). entryOf o) (first-none (λ e. eqb b (e .0)) t h)

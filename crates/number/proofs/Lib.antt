@@ -1,0 +1,5 @@
+pub mod Laws
+pub mod Places
+pub mod Literals
+pub mod Cases
+pub mod Arguments
