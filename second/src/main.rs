@@ -6,7 +6,8 @@ use std::process::ExitCode;
 
 use second::generate::document;
 use second::json::{to_hex, Json};
-use second::refusal::STORE_LENGTH;
+use second::number::{evaluate, is_change, round, DefaultScale, CELL, ROW};
+use second::refusal::{Work, STORE_LENGTH};
 use second::session::Ending;
 use second::state::State;
 use second::vector::{Question, Vector};
@@ -16,6 +17,7 @@ const USAGE: &str = "usage: second batch              answer one JSON object a l
        second format FILE          write the pages of a document to standard output
        second show FILE..          print vector files readably
        second generate SEED COUNT  write random documents, one JSON object a line
+       second numbers              the values of arguments from standard input, one to a line, in units, cells and rows
 A FILE may be - for standard input.";
 
 /// Bad use, a file that cannot be read, or broken input: a message, and exit status 2.
@@ -43,6 +45,7 @@ fn main() -> ExitCode {
         ["format", file] => format(file),
         ["show", files @ ..] if !files.is_empty() => show(files),
         ["generate", seed, count] => generate(seed, count),
+        ["numbers"] => numbers(),
         _ => Err(Misuse(USAGE.to_string())),
     };
     result.unwrap_or_else(|Misuse(message)| misused(&message))
@@ -158,6 +161,22 @@ fn format(file: &str) -> Result<ExitCode, Misuse> {
             }
         }
     }
+}
+
+fn numbers() -> Result<ExitCode, Misuse> {
+    let mut input = Vec::new();
+    io::stdin().lock().read_to_end(&mut input)?;
+    let mut out = BufWriter::new(io::stdout().lock());
+    let shown = |value: Work<i64>| value.map_or("refused".to_string(), |value| value.to_string());
+    for line in input.strip_suffix(b"\n").unwrap_or(&input).split(|&byte| byte == b'\n') {
+        let units = evaluate(line, DefaultScale::Units);
+        let cells = evaluate(line, DefaultScale::Across).map(|value| round(value, CELL));
+        let rows = evaluate(line, DefaultScale::Down).map(|value| round(value, ROW));
+        let change = if is_change(line) { " a change" } else { "" };
+        writeln!(out, "{} {} {}{change}", shown(units), shown(cells), shown(rows))?;
+    }
+    out.flush()?;
+    Ok(ExitCode::SUCCESS)
 }
 
 fn number(word: &str) -> Result<u64, Misuse> {

@@ -1,6 +1,7 @@
 -- The pitch of a printer: the units of its cell and of its row. Assumes nothing.
 use mathlib.Core.Path.{_≡_, refl}
 use Prim.Native.Nat.{ℕ, _%_, _<_}
+use native.Mathlib.Omega.{arith}
 use Rattle.measure.specs.declared.Pitch.{Pitch}
 
 -- "A cell is 24 units, a row 40"
@@ -22,3 +23,6 @@ ten-whole = record { cells = refl; rows = refl }
 pub record Sized (p : Pitch) : Type 0 where
   pub cell : 0 < p .cell
   pub row : 0 < p .row
+
+pub ten-sized : Sized tenPitch
+ten-sized = record { cell = omega arith; row = omega arith }

@@ -2,24 +2,9 @@
 use libc::STDOUT_FILENO;
 use measure::MaybeScale;
 use measure::Pitch;
-
-fn text(s: &[u8]) {
-    io::write_all(STDOUT_FILENO, s);
-}
-
-fn wide(n: i32) -> i64 {
-    n as i64
-}
-
-// From -1 down, so that the least i64 has a place too.
-fn number(n: i64) {
-    if n < 0 {
-        text(b"-");
-        io::print_decimal(STDOUT_FILENO, ((-1 - n) as u64) + 1);
-        return;
-    }
-    io::print_decimal(STDOUT_FILENO, n as u64);
-}
+use report::number;
+use report::text;
+use report::wide;
 
 fn nearest(units: i32, size: u8) {
     number(wide(units));

@@ -1,4 +1,4 @@
--- `measure_main::number` is safe: -1 - n is a u64 where n is below zero, and n is one where it is not. Assumes nothing.
+-- `report::number` is safe: -1 - n is a u64 where n is below zero, and n is one where it is not. Assumes nothing.
 use Prim.Native.Nat.{ℕ, suc, _<_, _^_, zero-le}
 use mathlib.Core.Path.{_≡_, ap}
 use mathlib.Core.Bool.{true, false}
@@ -11,8 +11,8 @@ use borrow.Author.Tests.{le-ltb}
 use mir.Syntax.{w64}
 use mir.Val.{SFits, Fits, toZ, ofZ}
 use mir.Facts.{toZ-ofZ, toZ-pos}
-use Rattle.measure_main.proofs.number.Statement.{statement}
-use Rattle.measure_main.proofs.number.Tie as tie
+use Rattle.report.proofs.number.Statement.{statement}
+use Rattle.report.proofs.number.Tie as tie
 
 record Below (z : ℤ) : Type 0 where
   small : mag z < 2 ^ 63

@@ -1,8 +1,8 @@
--- `measure_main::wide` is safe: an i32 fits an i64. Assumes nothing.
+-- `report::wide` is safe: an i32 fits an i64. Assumes nothing.
 use borrow.Author.Needs.{needs}
 use mir.Facts.{toZ-ofZ, sfits-widen}
-use Rattle.measure_main.proofs.wide.Statement.{statement}
-use Rattle.measure_main.proofs.wide.Tie as tie
+use Rattle.report.proofs.wide.Statement.{statement}
+use Rattle.report.proofs.wide.Tie as tie
 
 cast-result : tie.Need-cast-result
 cast-result c = rw (toZ-ofZ (c .fits .n)) (sfits-widen tt (c .fits .n))

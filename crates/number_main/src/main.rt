@@ -1,0 +1,61 @@
+// Reads arguments of requests, one to a line, and writes for each its value in units, in cells and in rows, or that it is refused.
+ghost use Prim.Native.Nat.{_≤_};
+ghost use lib.ListN.{length};
+use libc::STDIN_FILENO;
+use number::Across;
+use number::Down;
+use number::Value;
+use report::text;
+use report::wide;
+
+fn answer(argument: &[u8]) {
+    let pitch = measure::ten_pitch();
+    match number::units(argument, pitch) {
+        Value::Is(v) => report::number(wide(v)),
+        Value::Bad => text(b"refused"),
+    }
+    text(b" ");
+    match number::cells(argument, pitch) {
+        Across::Are(c) => report::number(wide(c.0)),
+        Across::Bad => text(b"refused"),
+    }
+    text(b" ");
+    match number::rows(argument, pitch) {
+        Down::Are(r) => report::number(wide(r.0)),
+        Down::Bad => text(b"refused"),
+    }
+    if number::signed(argument) {
+        text(b" a change");
+    }
+    text(b"\n");
+}
+
+// The place of the first newline at or behind a place, or the end.
+fn line_end(s: &[u8], from: usize) -> usize
+    requires { ⌜ from ≤ length (now s) ⌝ }
+    ensures { λ r. ⌜ (from ≤ r) × (r ≤ length (now (s .entry))) ⌝ }
+{
+    let mut i = from;
+    while i < s.len() {
+        if s[i] == 10 {
+            return i;
+        }
+        i += 1;
+    }
+    i
+}
+
+fn answer_all(s: &[u8]) {
+    let mut from: usize = 0;
+    while from < s.len() {
+        let end = line_end(s, from);
+        answer(&s[from..end]);
+        from = end + 1;
+    }
+}
+
+fn main() {
+    let mut buffer = io::large_buffer();
+    let n = io::read_full(STDIN_FILENO, &mut buffer);
+    answer_all(&buffer[..n]);
+}
