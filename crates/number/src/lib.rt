@@ -46,7 +46,7 @@ pub fn judge(v: i64) -> Value
 }
 
 // Comparisons and logic give 1 or 0.
-pub fn truth(t: bool) -> Value
+fn truth(t: bool) -> Value
     ensures { λ r. ⌜ judgedOf r ≡ truthOf t ⌝ }
 {
     if t { Value::Is(1) } else { Value::Is(0) }
@@ -95,25 +95,25 @@ pub fn operate(op: Operator, a: i32, b: i32) -> Value
 }
 
 // An operator and its width in bytes, or none.
-pub enum Joint {
+enum Joint {
     By(Operator, usize),
     None,
 }
 
 // The number that a run of digits spells, with the place after it; or one past 1,000,000,000.
-pub enum Digits {
+enum Digits {
     Number(u64, usize),
     Huge,
 }
 
 // A value with the place after it, or a refusal.
-pub enum Read {
+enum Read {
     Value(i32, usize),
     Refused,
 }
 
 // The byte at a place, 0 past the end. No byte 0 means anything in a number.
-pub fn byte_at(s: &[u8], at: usize) -> u8
+fn byte_at(s: &[u8], at: usize) -> u8
     ensures { λ r. ⌜ r ≡ getD (now (s .entry)) at 0 ⌝ }
     ensures { λ r. ⌜ r ≤ 255 * (length (now (s .entry)) - at) ⌝ }
 {
@@ -121,7 +121,7 @@ pub fn byte_at(s: &[u8], at: usize) -> u8
 }
 
 // The operator at a place. Two-byte ones are tried first.
-pub fn operator_at(s: &[u8], at: usize) -> Joint
+fn operator_at(s: &[u8], at: usize) -> Joint
     requires { ⌜ at ≤ length (now s) ⌝ }
     ensures { λ r. ⌜ jointIn (now (s .entry)) at r ≡ jointOf (drop at (now (s .entry))) ⌝ }
     ensures { λ r. ⌜ GoodJoint (length (now (s .entry))) at r ⌝ }
@@ -158,7 +158,7 @@ pub fn operator_at(s: &[u8], at: usize) -> Joint
 }
 
 // The digits from a place on.
-pub fn digits_at(s: &[u8], at: usize) -> Digits
+fn digits_at(s: &[u8], at: usize) -> Digits
     requires { ⌜ at ≤ length (now s) ⌝ }
     ensures { λ r. ⌜ r ≡ digitsOf (now (s .entry)) at ⌝ }
 {
@@ -182,7 +182,7 @@ pub fn digits_at(s: &[u8], at: usize) -> Digits
 }
 
 // A number of units as a value, refused past 1,000,000,000.
-pub fn bounded(units: u64, next: usize) -> Read
+fn bounded(units: u64, next: usize) -> Read
     ensures { λ r. ⌜ r ≡ boundedOf units next ⌝ }
 {
     if units <= 1000000000 {
@@ -192,7 +192,7 @@ pub fn bounded(units: u64, next: usize) -> Read
 }
 
 // A literal: digits, and the scale that a letter behind them names or else the default one.
-pub fn literal(s: &[u8], at: usize, default: Scale, pitch: Pitch) -> Read
+fn literal(s: &[u8], at: usize, default: Scale, pitch: Pitch) -> Read
     requires { ⌜ (at ≤ length (now s)) × Sized pitch ⌝ }
     ensures { λ r. ⌜ readOf (now (s .entry)) r ≡ literalTerm pitch default (startOf (drop at (now (s .entry)))) ⌝ }
     ensures { λ r. ⌜ Forward (length (now (s .entry))) at r ⌝ }
@@ -215,7 +215,7 @@ pub fn literal(s: &[u8], at: usize, default: Scale, pitch: Pitch) -> Read
 }
 
 // Terms joined by operators, from a place on, left to right. `left` parentheses may still be opened.
-pub fn expression(s: &[u8], at: usize, left: u8, default: Scale, pitch: Pitch) -> Read
+fn expression(s: &[u8], at: usize, left: u8, default: Scale, pitch: Pitch) -> Read
     requires { ⌜ (at ≤ length (now s)) × Sized pitch ⌝ }
     ensures { λ r. ⌜ ExpressionIs pitch default (now (s .entry)) at left r ⌝ }
 {
@@ -241,7 +241,7 @@ pub fn expression(s: &[u8], at: usize, left: u8, default: Scale, pitch: Pitch) -
 }
 
 // A literal, a parenthesised expression, or one sign and a term.
-pub fn term(s: &[u8], at: usize, left: u8, default: Scale, pitch: Pitch) -> Read
+fn term(s: &[u8], at: usize, left: u8, default: Scale, pitch: Pitch) -> Read
     requires { ⌜ (at ≤ length (now s)) × Sized pitch ⌝ }
     ensures { λ r. ⌜ TermIs pitch default (now (s .entry)) at left r ⌝ }
 {

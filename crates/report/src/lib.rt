@@ -1,11 +1,14 @@
 // What the programs that run the crates write with: text and signed numbers on standard output.
+ghost use mathlib.Core.Path.{_≡_};
 use libc::STDOUT_FILENO;
 
 pub fn text(s: &[u8]) {
     io::write_all(STDOUT_FILENO, s);
 }
 
-pub fn wide(n: i32) -> i64 {
+pub fn wide(n: i32) -> i64
+    ensures { λ r. ⌜ r ≡ n ⌝ }
+{
     n as i64
 }
 
