@@ -31,9 +31,11 @@ abbrev pub given : {A : Type 0} → Judged A → State → (A → Next) → Next
 given (value a) s k = k a
 given (bad n) s k = refuses n s
 
+-- on with a new state, or a refusal
 abbrev pub settles : Judged State → State → Next
 settles j s = given j s goes
 
+-- on with a new layout, or a refusal
 abbrev pub laidOut : Judged Layout → State → Next
 laidOut j s = given j s (λ y. goes (withLayout y s))
 
@@ -56,16 +58,19 @@ abbrev pub writtenBack : (afterIf : Bool) → List ℕ → List ℕ
 writtenBack true l = escaped l
 writtenBack false l = l
 
+-- ds with its name: "then 9, then 11 is tried"
 abbrev pub defineText : State → List ℕ → Name → Judged State
 defineText s l n = do
   m ← free s n
   ts ← defineString m l (s .tables .texts)
   value (withTexts ts s)
 
+-- "ds with a name only an empty string"; with none it does nothing
 abbrev pub defineFrom : Option Part → (afterIf : Bool) → State → Judged State
 defineFrom none i s = value s
 defineFrom (some f) i s = onName (nameOf (f .part)) s (defineText s (writtenBack i (stringText (f .rest))))
 
+-- ds, by what follows its name
 unfoldable pub defines : (afterIf : Bool) → List ℕ → State → Judged State
 defines i l s = defineFrom (first l) i s
 
@@ -81,6 +86,7 @@ abbrev pub removeIf : (there : Bool) → State → Name → Judged State
 removeIf true s n = free s n >>= λ m. value (withTexts (remove m (s .tables .texts)) s)
 removeIf false s n = value s
 
+-- rm
 abbrev pub removeText : State → Name → Judged State
 removeText s n = removeIf (isThere (textOf n (s .tables .texts))) s n
 
@@ -135,6 +141,7 @@ module _ (p : Printer) where
   spacing [] = value (pos 1)
   spacing (b ∷ l) = rows (p .pitch) (b ∷ l)
 
+  -- "ce 1" where missing
   abbrev pub centring : List ℕ → Judged ℕ
   centring [] = value 1
   centring (b ∷ l) = units (p .pitch) (b ∷ l) >>= λ v. value (countOf v)
@@ -165,10 +172,12 @@ module _ (p : Printer) where
     rs ← setValue n y z (s .tables .registers)
     value (withRegisters rs s)
 
+  -- nr: without a value it does nothing
   abbrev pub writeRegister : (new step : List ℕ) → State → Name → Judged State
   writeRegister [] l s n = value s
   writeRegister (b ∷ v) l s n = writeIf (predefined n) (b ∷ v) l s n
 
+  -- wh: without a row it does nothing
   abbrev pub plantTrap : (row name : List ℕ) → State → Judged State
   plantTrap [] n s = value s
   plantTrap (b ∷ r) n s = rows (p .pitch) (b ∷ r) >>= λ v. plantAt v (nameOf n) s

@@ -13,12 +13,15 @@ pub record Part : Type 0 where
   pub part : List ℕ
   pub rest : List ℕ
 
+-- a part and the rest, field by field
 abbrev pub part : List ℕ → List ℕ → Part
 part a r = record { part = a; rest = r }
 
+-- a byte before a part
 abbrev pub push : ℕ → Part → Part
 push b p = part (b ∷ p .part) (p .rest)
 
+-- what follows spaces
 unfoldable pub afterSpaces : List ℕ → List ℕ
 afterSpaces [] = []
 afterSpaces (b ∷ l) = elim (eqb b space) [ true ↦ afterSpaces l | false ↦ b ∷ l ]
@@ -27,9 +30,11 @@ afterSpaces (b ∷ l) = elim (eqb b space) [ true ↦ afterSpaces l | false ↦ 
 pub data Place : Type 0 where
   bare quoted behind : Place
 
+-- the bytes that matter in arguments
 pub data Byte : Type 0 where
   blank quote other : Byte
 
+-- which of them a byte is
 abbrev pub byteOf : ℕ → Byte
 unfolding firstWhere
 byteOf b = entry ((space, blank) ∷ (byte "\"", quote) ∷ []) other b
@@ -51,6 +56,7 @@ fate behind blank = ended
 fate behind quote = keeps quoted
 fate behind other = ended
 
+-- the bytes of an argument from a place in it on, and the rest
 unfoldable pub upTo : Place → List ℕ → Part
 unfolding firstWhere
 upTo p [] = part [] []
@@ -62,10 +68,12 @@ firstBy quote b l = upTo quoted l
 firstBy blank b l = upTo bare (b ∷ l)
 firstBy other b l = upTo bare (b ∷ l)
 
+-- the argument that starts here, if one does
 abbrev pub firstOf : List ℕ → Option Part
 firstOf [] = Option.none
 firstOf (b ∷ l) = some (firstBy (byteOf b) b l)
 
+-- "Arguments part at spaces": the first argument, and what follows it
 unfoldable pub first : List ℕ → Option Part
 unfolding afterSpaces upTo
 first l = firstOf (afterSpaces l)
@@ -75,6 +83,7 @@ unfoldable pub argumentsUpTo : ℕ → List ℕ → List (List ℕ)
 argumentsUpTo zero l = []
 argumentsUpTo (suc n) l = elim (first l) [ Option.none ↦ [] | some p ↦ p .part ∷ argumentsUpTo n (p .rest) ]
 
+-- "past nine are dropped"
 unfoldable pub arguments : List ℕ → List (List ℕ)
 unfolding argumentsUpTo first
 arguments l = argumentsUpTo 9 l
@@ -85,10 +94,12 @@ withoutQuoteBy quote b l = l
 withoutQuoteBy blank b l = b ∷ l
 withoutQuoteBy other b l = b ∷ l
 
+-- "one leading " is dropped"
 abbrev pub withoutQuote : List ℕ → List ℕ
 withoutQuote [] = []
 withoutQuote (b ∷ l) = withoutQuoteBy (byteOf b) b l
 
+-- the text of a ds, behind its name
 unfoldable pub stringText : List ℕ → List ℕ
 unfolding afterSpaces firstWhere
 stringText l = withoutQuote (afterSpaces l)

@@ -11,16 +11,20 @@ use lib.Dec.{eqb}
 abbrev pub byte : Char → ℕ
 byte c = code c
 
+-- the bytes of a quoted text
 abbrev pub bytes : Quoted.String → List ℕ
 bytes Quoted.[] = []
 bytes (Quoted._∷_ c s) = code c ∷ bytes s
 
+-- "a source byte other than 10 and 32 to 126": 10 ends a line
 abbrev pub newline : ℕ
 newline = 10
 
+-- what parts words and arguments
 abbrev pub space : ℕ
 space = 32
 
+-- what begins an escape
 abbrev pub backslash : ℕ
 backslash = 92
 
@@ -28,6 +32,7 @@ backslash = 92
 abbrev pub mark : ℕ
 mark = 2
 
+-- "backslash-space a fixed blank", as a byte of an expanded line
 abbrev pub fixedBlank : ℕ
 fixedBlank = 3
 
@@ -36,6 +41,7 @@ unfoldable pub firstWhere : {A : Type 0} → (A → Bool) → List A → Option 
 firstWhere test [] = none
 firstWhere test (x ∷ xs) = elim (test x) [ true ↦ some x | false ↦ firstWhere test xs ]
 
+-- whether there is one
 abbrev pub isThere : {A : Type 0} → Option A → Bool
 isThere none = false
 isThere (some a) = true
@@ -45,6 +51,7 @@ abbrev pub entryOf : {K A : Type 0} → Option (K × A) → Option A
 entryOf none = none
 entryOf (some e) = some (e .1)
 
+-- the entry of a byte in a table, if it has one
 abbrev pub inTable : {A : Type 0} → List (ℕ × A) → ℕ → Option A
 unfolding firstWhere
 inTable t b = entryOf (firstWhere (λ e. eqb b (e .0)) t)
@@ -54,6 +61,7 @@ abbrev pub orElse : {A : Type 0} → Option A → A → A
 orElse none d = d
 orElse (some a) d = a
 
+-- the entry of a byte in a table, or else what all other bytes have
 abbrev pub entry : {A : Type 0} → List (ℕ × A) → A → ℕ → A
 unfolding firstWhere
 entry t d b = orElse (inTable t b) d

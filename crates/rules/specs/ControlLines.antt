@@ -28,14 +28,17 @@ pub data Meaning : Type 0 where
   requests : Request → Meaning
   nothing : Meaning
 
+-- a request, or nothing
 abbrev pub requestMeaning : Option Request → Meaning
 requestMeaning none = nothing
 requestMeaning (some r) = requests r
 
+-- a user text, or else what the name is among requests
 abbrev pub textMeaning : Option Text → Name → Meaning
 textMeaning (some t) n = calls t
 textMeaning none n = requestMeaning (requestOf n)
 
+-- what a name stands for now
 abbrev pub meaningOf : Name → State → Meaning
 meaningOf n s = textMeaning (textOf n (s .tables .texts)) n
 
@@ -52,9 +55,11 @@ abbrev pub nameLength : (second : ℕ) → ℕ
 nameLength zero = 1
 nameLength (suc b) = 2
 
+-- the bytes of control byte and name
 abbrev pub prefixOf : Name → ℕ
 prefixOf n = suc (nameLength (n .second))
 
+-- on with an expanded line, or its refusal
 abbrev pub onScan : Scanned → State → (List ℕ → State → Next) → Next
 onScan (scanned l rs) s k = k l (withRegisters rs s)
 onScan (refused n rs) s k = refuses n s
@@ -66,6 +71,7 @@ module _ (p : Printer) where
   breakOrAct true none r l s = act p r l s
   breakOrAct false c r l s = act p r l s
 
+  -- "The first page starts at the first .. break, sp or bp"
   abbrev pub startOrBreak : (starts period : Bool) → Breaking → Name → List ℕ → State → Next
   startOrBreak true q r n l s = goes (startPage (heldFirst r (control q n l)) s)
   startOrBreak false q r n l s = breakOrAct q (s .collected) r l s
@@ -84,6 +90,7 @@ module _ (p : Printer) where
   dealAgain (text l) s = textLine l s
   dealAgain (control q n l) s = obey (meaningOf n s) true q n l s
 
+  -- the expansion of a line in this state
   abbrev pub expand : (args : List (List ℕ)) → Mode → (prefix : ℕ) → List ℕ → State → Scanned
   expand args m k l s = scan (record { seen = seen p s; texts = s .tables .texts; arguments = args }) m (s .tables .registers) k l
 
@@ -93,6 +100,7 @@ module _ (p : Printer) where
   controlLine (calls t) args q n l s = onScan (expand args Plain (prefixOf n) l s) s (obey (calls t) false q n)
   controlLine (requests r) args q n l s = onScan (expand args (modeOf r) (prefixOf n) l s) s (obey (requests r) false q n)
 
+  -- a line before its expansion
   abbrev pub freshLine : Line → (args : List (List ℕ)) → State → Next
   freshLine ignored args s = goes s
   freshLine (text l) args s = onScan (expand args Plain 0 l s) s textLine
@@ -102,10 +110,12 @@ module _ (p : Printer) where
   abbrev pub keepBody : Definition → List ℕ → State → Next
   keepBody d l s = given (keepLine (s .tables .texts) (d .body) l) s (λ body. goes (withOpened (some (record { name = d .name; body = body })) s))
 
+  -- "A definition closes at a line that is exactly two periods"; any other line is kept
   abbrev pub bodyLine : (closing : Bool) → Definition → (args : List (List ℕ)) → List ℕ → State → Next
   bodyLine true d args l s = goes (withOpened none (withTexts (closeMacro (d .name) (d .body) (s .tables .texts)) s))
   bodyLine false d args l s = onScan (expand args Copy 0 l s) s (keepBody d)
 
+  -- a body line of an open definition, or a line
   abbrev pub dealFrom : Option Definition → (args : List (List ℕ)) → List ℕ → State → Next
   dealFrom (some d) args l s = bodyLine (isClosing l) d args l s
   dealFrom none args l s = freshLine (lineOf l) args s

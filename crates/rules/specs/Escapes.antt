@@ -72,14 +72,17 @@ listed =
 abbrev pub listedInCopy : List (ℕ × Action)
 listedInCopy = (backslash, writes (backslash ∷ [])) ∷ (byte ".", writes (byte "." ∷ [])) ∷ acting
 
+-- a byte that is a name, or begins one of two bytes
 abbrev pub named : Wanted → ℕ → Action
 unfolding firstWhere
 named w b = entry ((byte "(", holds (long w)) ∷ []) (wants w (oneByte b)) b
 
+-- "\$1 to \$9"
 abbrev pub numbered : (listed : Bool) → ℕ → Action
 numbered true b = gives (b - byte "1")
 numbered false b = unlisted
 
+-- what the next byte does, by what has been read of an escape
 unfoldable pub actionOf : Mode → Escape → ℕ → Action
 unfolding firstWhere
 actionOf m outside b = entry ((backslash, begins) ∷ []) (writes (b ∷ [])) b
@@ -100,12 +103,15 @@ pub record Scan : Type 0 where
   pub room : ℕ
   pub registers : List Register
 
+-- the scan with other unread texts
 abbrev pub withUnread : List (List ℕ) → Scan → Scan
 withUnread u s = record { unread = u; escape = s .escape; room = s .room; registers = s .registers }
 
+-- the scan within another escape
 abbrev pub withEscape : Escape → Scan → Scan
 withEscape e s = record { unread = s .unread; escape = e; room = s .room; registers = s .registers }
 
+-- the scan with other registers
 abbrev pub withRegisters : List Register → Scan → Scan
 withRegisters r s = record { unread = s .unread; escape = s .escape; room = s .room; registers = r }
 
@@ -118,6 +124,7 @@ pub data Effect : Type 0 where
   goes : List ℕ → Scan → Effect
   stops : Scanned → Effect
 
+-- the scan is refused
 abbrev pub refuse : ℕ → Scan → Effect
 refuse n s = stops (refused n (s .registers))
 
@@ -126,6 +133,7 @@ abbrev pub writeBy : Bool → List ℕ → Scan → Effect
 writeBy true l s = goes l (wrote l s)
 writeBy false l s = refuse 3 s
 
+-- bytes come into the expanded line, if they fit
 abbrev pub write : List ℕ → Scan → Effect
 write l s = writeBy (leb (length l) (s .room)) l s
 
@@ -135,10 +143,12 @@ atEnd [] = true
 atEnd ([] ∷ u) = true
 atEnd ((b ∷ l) ∷ u) = false
 
+-- "cut short in its line or string": an escape that goes on needs another byte
 abbrev pub holdBy : Bool → Escape → Scan → Effect
 holdBy true e s = refuse 5 s
 holdBy false e s = goes [] (withEscape e s)
 
+-- a backslash: in copy mode "a lone backslash at the end too, stays"
 abbrev pub beginBy : Bool → Mode → Scan → Effect
 beginBy false m s = goes [] (withEscape slash s)
 beginBy true Plain s = refuse 5 s
@@ -154,10 +164,12 @@ abbrev pub enter : Option Text → Scan → Effect
 enter none s = goes [] (withEscape outside s)
 enter (some t) s = elim (t .kind) [ Macro ↦ refuse 9 s | String ↦ enterBy (leb (length (s .unread)) 8) (t .bytes) s ]
 
+-- "give a register in decimal", or the refusal of its step
 abbrev pub showIt : Reference → Scan → Effect
 showIt (value x) s = write (decimal (x .0)) (withRegisters (x .1) s)
 showIt (bad n) s = refuse n s
 
+-- a register or a string that is named
 abbrev pub want : Surroundings → Wanted → Name → Scan → Effect
 want w (number t) n s = showIt (stepRegister (w .seen) t n (s .registers)) s
 want w aString n s = enter (textOf n (w .texts)) s
@@ -181,20 +193,24 @@ pub data Next : Type 0 where
   reads : ℕ → Scan → Next
   over : List Register → Next
 
+-- the next byte of the innermost text that has one; a finished string is left
 abbrev pub next : List (List ℕ) → Scan → Next
 next [] s = over (s .registers)
 next ([] ∷ u) s = next u s
 next ((b ∷ l) ∷ u) s = reads b (withUnread (l ∷ u) s)
 
+-- bytes of the expanded line before the rest
 abbrev pub before : List ℕ → Scanned → Scanned
 before l (scanned r rs) = scanned (l ++ r) rs
 before l (refused n rs) = refused n rs
 
+-- on with the scan, or its end: "the first event that earns one decides"
 abbrev pub follow : Effect → (Scan → Scanned) → Scanned
 follow (goes l s) k = before l (k s)
 follow (stops r) k = r
 
 module _ (w : Surroundings) (m : Mode) where
+  -- what an action leads to
   abbrev pub effectOf : Action → Scan → Effect
   effectOf (writes l) s = write l s
   effectOf begins s = beginBy (atEnd (s .unread)) m s

@@ -13,6 +13,7 @@ pub record Word : Type 0 where
   pub gap : Across
   pub bytes : List ℕ
 
+-- a gap and the word after it
 abbrev pub word : Across → List ℕ → Word
 word g bs = record { gap = g; bytes = bs }
 
@@ -22,12 +23,14 @@ abbrev pub joinWord : (gap : Across) → ℕ → Word → List Word → List Wor
 joinWord zero b w ws = word 0 (b ∷ w .bytes) ∷ ws
 joinWord (suc g) b w ws = word 0 (b ∷ []) ∷ w ∷ ws
 
+-- a byte before words: a space widens a gap, any other is a word's
 abbrev pub joinByte : (isSpace : Bool) → ℕ → List Word → List Word
 joinByte true b [] = []
 joinByte true b (w ∷ ws) = word (suc (w .gap)) (w .bytes) ∷ ws
 joinByte false b [] = word 0 (b ∷ []) ∷ []
 joinByte false b (w ∷ ws) = joinWord (w .gap) b w ws
 
+-- "A word is a run without spaces": the words of a line
 unfoldable pub words : List ℕ → List Word
 words [] = []
 words (b ∷ bs) = joinByte (eqb b space) b (words bs)
@@ -37,6 +40,7 @@ abbrev pub leads : List Word → Bool
 leads [] = false
 leads (w ∷ ws) = leb 1 (w .gap)
 
+-- "then stand as fixed blanks": leading spaces become part of the first word
 abbrev pub standing : List Word → List Word
 standing [] = []
 standing (w ∷ ws) = word 0 (replicate (w .gap) fixedBlank ++ w .bytes) ∷ ws
@@ -50,15 +54,18 @@ after g (w ∷ ws) = word g (w .bytes) ∷ ws
 abbrev pub isStop : ℕ → Bool
 isStop b = eqb b (byte ".") || (eqb b (byte "?") || eqb b (byte "!"))
 
+-- "1, or 2"
 abbrev pub gapIf : (stop : Bool) → Across
 gapIf true = 2
 gapIf false = 1
 
+-- what a word ends in
 abbrev pub lastByte : List ℕ → ℕ
 lastByte [] = 0
 lastByte (b ∷ []) = b
 lastByte (b ∷ c ∷ bs) = lastByte (c ∷ bs)
 
+-- the gap that a line's ending asks for
 abbrev pub gapAfter : List Word → Across
 gapAfter [] = 1
 gapAfter (w ∷ []) = gapIf (isStop (lastByte (w .bytes)))
@@ -69,6 +76,7 @@ abbrev pub countIf : (isMark : Bool) → Across → Across
 countIf true n = n
 countIf false n = suc n
 
+-- "a mark of no width": the cells of bytes
 unfoldable pub width : List ℕ → Across
 width [] = 0
 width (b ∷ bs) = countIf (eqb b mark) (width bs)
@@ -86,9 +94,11 @@ pub record Collected : Type 0 where
   -- the gap to the next input line's first word
   pub next : Across
 
+-- the collected line with another gap to the next input line
 abbrev pub withNext : Across → Collected → Collected
 withNext g c = record { indent = c .indent; room = c .room; words = c .words; next = g }
 
+-- the collected line with one word more
 abbrev pub joined : Word → Collected → Collected
 joined w c = record { indent = c .indent; room = c .room; words = c .words ++ w ∷ []; next = c .next }
 
@@ -104,6 +114,7 @@ roomNow y = y .line .now - indentNow y
 abbrev pub begin : Layout → Word → Collected
 begin y w = record { indent = indentNow y; room = roomNow y; words = word 0 (w .bytes) ∷ []; next = 1 }
 
+-- the ti total is used up
 abbrev pub begun : Layout → Layout
 begun y = withTotal none y
 
@@ -113,9 +124,11 @@ pub data Placed : Type 0 where
   -- the line to be written, the word that did not fit, and the other words
   full : Collected → Word → List Word → Placed
 
+-- "width + gap + word is at most room"
 abbrev pub fits : Collected → Word → Bool
 fits c w = leb (span (c .words) + w .gap + width (w .bytes)) (c .room)
 
+-- words join until one does not fit
 unfoldable pub place : Collected → List Word → Placed
 place c [] = all c
 place c (w ∷ ws) = elim (fits c w) [ true ↦ place (joined w c) ws | false ↦ full c w ws ]
@@ -124,6 +137,7 @@ place c (w ∷ ws) = elim (fits c w) [ true ↦ place (joined w c) ws | false �
 abbrev pub wider : Across → Word → Word
 wider n w = word (w .gap + n) (w .bytes)
 
+-- wider gaps: "the last e mod k gaps one more"
 unfoldable pub widen : (each : Across) (few : ℕ) → List Word → List Word
 widen each few [] = []
 widen each zero (w ∷ ws) = wider (suc each) w ∷ widen each zero ws
@@ -135,6 +149,7 @@ share e [] = []
 share e (w ∷ []) = w ∷ []
 share e (w ∷ v ∷ ws) = let k = suc (length ws) in w ∷ widen (e / k) (k - e % k) (v ∷ ws)
 
+-- "with adjusting on"
 abbrev pub adjusted : (adjusting : Bool) → Collected → List Word
 adjusted true c = share (c .room - span (c .words)) (c .words)
 adjusted false c = c .words
@@ -150,19 +165,23 @@ printedByte true f b bs = bs
 printedByte false true b bs = space ∷ bs
 printedByte false false b bs = b ∷ bs
 
+-- what is printed of bytes
 unfoldable pub printed : List ℕ → List ℕ
 printed [] = []
 printed (b ∷ bs) = printedByte (eqb b mark) (eqb b fixedBlank) b (printed bs)
 
+-- a byte, unless it is a blank at the end
 abbrev pub unlessBlank : Bool → ℕ → List ℕ → List ℕ
 unlessBlank true b [] = []
 unlessBlank true b (c ∷ cs) = b ∷ c ∷ cs
 unlessBlank false b cs = b ∷ cs
 
+-- "blanks at a line's end are not written"
 unfoldable pub trimmed : List ℕ → List ℕ
 trimmed [] = []
 trimmed (b ∷ bs) = unlessBlank (eqb b space) b (trimmed bs)
 
+-- "Output is po, indent, text, newline"
 abbrev pub row : (blanks : Across) → List ℕ → List ℕ
 row n bs = trimmed (replicate n space ++ printed bs) ++ newline ∷ []
 
@@ -170,6 +189,7 @@ row n bs = trimmed (replicate n space ++ printed bs) ++ newline ∷ []
 abbrev pub brokenRow : Layout → Collected → List ℕ
 brokenRow y c = row (y .offset .now + c .indent) (spelled (c .words))
 
+-- "Lines written for overflow", as a row
 abbrev pub fullRow : Layout → Collected → List ℕ
 fullRow y c = row (y .offset .now + c .indent) (spelled (adjusted (y .adjusting) c))
 
@@ -178,5 +198,6 @@ abbrev pub left : (centred : ℕ) → (spare : Across) → Across
 left zero spare = 0
 left (suc n) spare = spare / 2
 
+-- a line of nf or ce, as a row
 abbrev pub standingRow : Layout → List Word → List ℕ
 standingRow y ws = row (y .offset .now + indentNow y + left (y .centred) (roomNow y - span ws)) (spelled ws)

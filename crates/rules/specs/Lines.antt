@@ -23,6 +23,7 @@ lineBy true q b l = named (nameOf (word l .part)) true (word l .rest)
 lineBy false true b l = named (nameOf (word l .part)) false (word l .rest)
 lineBy false false b l = text (b ∷ l)
 
+-- "A line whose first raw byte is . or ' is a control line"
 unfoldable pub lineOf : List ℕ → Line
 lineOf [] = text []
 lineOf (b ∷ l) = lineBy (eqb b (byte ".")) (eqb b (byte "'")) b l
@@ -36,21 +37,26 @@ isClosing (a ∷ b ∷ c ∷ l) = false
 
 -- "o (odd page), e (even page), t (never), n (always) or an expression; ! negates; anything else earns 6"
 module _ (p : Printer) (page : ℕ) where
+  -- "or an expression"
   abbrev pub expression : List ℕ → Judged Bool
   expression l = units (p .pitch) l >>= λ v. value (isTrue v)
 
+  -- "o (odd page), e (even page), t (never), n (always)"
   abbrev pub letters : List (ℕ × Judged Bool)
   letters = (byte "o", value (eqb (page % 2) 1)) ∷ (byte "e", value (eqb (page % 2) 0)) ∷ (byte "t", value false) ∷ (byte "n", value true) ∷ []
 
+  -- a condition without !
   abbrev pub simplyHolds : List ℕ → Judged Bool
   simplyHolds [] = bad 6
   simplyHolds (b ∷ []) = entry letters (expression (b ∷ [])) b
   simplyHolds (b ∷ c ∷ l) = expression (b ∷ c ∷ l)
 
+  -- "! negates"
   abbrev pub holdsIf : (negated : Bool) → ℕ → List ℕ → Judged Bool
   holdsIf true b l = simplyHolds l >>= λ v. value (not v)
   holdsIf false b l = simplyHolds (b ∷ l)
 
+  -- whether a condition holds, or "anything else earns 6"
   unfoldable pub holds : List ℕ → Judged Bool
   holds [] = bad 6
   holds (b ∷ l) = holdsIf (eqb b (byte "!")) b l

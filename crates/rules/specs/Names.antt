@@ -5,12 +5,15 @@ use Prim.Native.Nat.{ℕ}
 use lib.Dec.{eqb, ltb}
 use Rattle.rules.specs.declared.Name.{Name}
 
+-- a name of one byte
 abbrev pub oneByte : ℕ → Name
 oneByte a = record { first = a; second = 0 }
 
+-- a name of two bytes
 abbrev pub twoBytes : ℕ → ℕ → Name
 twoBytes a b = record { first = a; second = b }
 
+-- whether two names are the same: of names whose first bytes differ, the second ones do not matter
 abbrev pub sameName : Name → Name → Bool
 sameName n m = eqb (n .first) (m .first) && eqb (n .second) (m .second)
 
@@ -18,6 +21,7 @@ sameName n m = eqb (n .first) (m .first) && eqb (n .second) (m .second)
 pub data Order : Type 0 where
   earlier same later : Order
 
+-- the order by the tests of first and second bytes
 abbrev pub orderBy : (less equal less2 equal2 : Bool) → Order
 orderBy true e l f = earlier
 orderBy false false l f = later
@@ -25,6 +29,7 @@ orderBy false true true f = earlier
 orderBy false true false true = same
 orderBy false true false false = later
 
+-- the order of two names
 abbrev pub order : Name → Name → Order
 order n m = orderBy (ltb (n .first) (m .first)) (eqb (n .first) (m .first)) (ltb (n .second) (m .second)) (eqb (n .second) (m .second))
 
@@ -34,6 +39,7 @@ pub data Named : Type 0 where
   one : Name → Named
   tooLong : Named
 
+-- "a name argument longer than two bytes" is none
 abbrev pub nameOf : List ℕ → Named
 nameOf [] = none
 nameOf (a ∷ []) = one (oneByte a)

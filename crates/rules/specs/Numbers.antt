@@ -36,9 +36,11 @@ abbrev pub truth : Bool → Value
 truth true = value (pos 1)
 truth false = value (pos 0)
 
+-- "true is above 0"
 abbrev pub isTrue : ℤ → Bool
 isTrue z = ltZ (pos 0) z
 
+-- = and ==
 abbrev pub equalZ : ℤ → ℤ → Bool
 equalZ (pos a) (pos b) = eqb a b
 equalZ (pos a) (negsuc b) = false
@@ -79,23 +81,28 @@ pub data Joint : Type 0 where
   joins : Operator → List ℕ → Joint
   stops : List ℕ → Joint
 
+-- an operator, or else what else follows
 abbrev pub joinsOr : Option Operator → List ℕ → Joint → Joint
 joinsOr none l j = j
 joinsOr (some o) l j = joins o l
 
+-- what follows a term, by its first byte alone
 abbrev pub oneByteJoint : ℕ → List ℕ → Joint
 oneByteJoint b l = joinsOr (inTable operators b) l (stops (b ∷ l))
 
+-- the operator of two bytes whose second is =
 abbrev pub operatorBefore : (equal : Bool) → ℕ → Option Operator
 operatorBefore true b = inTable operatorsBeforeEqual b
 operatorBefore false b = none
 
+-- what follows a term; "two-byte operators are read first"
 unfoldable pub jointOf : List ℕ → Joint
 unfolding firstWhere
 jointOf [] = stops []
 jointOf (b ∷ []) = oneByteJoint b []
 jointOf (b ∷ c ∷ l) = joinsOr (operatorBefore (eqb c (byte "=")) b) l (oneByteJoint b (c ∷ l))
 
+-- a decimal digit
 abbrev pub isDigit : ℕ → Bool
 isDigit b = leb (byte "0") b && leb b (byte "9")
 
@@ -114,10 +121,12 @@ module _ (p : Pitch) where
   scaledOr (Some s) d n b l = scaled s n l
   scaledOr None d n b l = scaled d n (b ∷ l)
 
+  -- digits with the scale behind them, or the default one
   abbrev pub scaledBy : (default : Scale) → ℕ → List ℕ → Read
   scaledBy d n [] = scaled d n []
   scaledBy d n (b ∷ l) = scaledOr (scaleOf b) d n b l
 
+  -- "Literals are whole digits with scale"
   abbrev pub literalAt : (default : Scale) → List ℕ → Read
   unfolding digits
   literalAt m l = let d = digits 0 l in scaledBy m (d .0) (d .1)
@@ -127,11 +136,13 @@ pub data Start : Type 0 where
   literal opens plus minus : List ℕ → Start
   noTerm : Start
 
+-- how a term starts, by its first byte
 abbrev pub startBy : (digit : Bool) → ℕ → List ℕ → Start
 unfolding firstWhere
 startBy true b l = literal (b ∷ l)
 startBy false b l = entry ((byte "(", opens l) ∷ (byte "+", plus l) ∷ (byte "-", minus l) ∷ []) noTerm b
 
+-- how a term starts
 unfoldable pub startOf : List ℕ → Start
 unfolding firstWhere
 startOf [] = noTerm
@@ -184,12 +195,15 @@ module _ (p : Pitch) (default : Scale) where
 
 -- "Default scale: m for ll in ti po; v for sp pl wh; u for nr, ce and if"; "Results of the first two groups round to the nearest cell or row"
 module _ (p : Pitch) where
+  -- "m for ll in ti po", rounded to cells
   abbrev pub cells : List ℕ → Value
   cells l = evaluate p Em l >>= λ z. value (nearestOf (p .cell) z)
 
+  -- "v for sp pl wh", rounded to rows
   abbrev pub rows : List ℕ → Value
   rows l = evaluate p LineSpace l >>= λ z. value (nearestOf (p .row) z)
 
+  -- "u for nr, ce and if"
   abbrev pub units : List ℕ → Value
   units l = evaluate p BasicUnit l
 

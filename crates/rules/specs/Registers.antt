@@ -15,9 +15,11 @@ use Rattle.rules.specs.declared.Register.{Register}
 use Rattle.rules.specs.declared.Turn.{Turn}
 use Rattle.rules.specs.declared.Turn.the-variants.{Still, Up, Down}
 
+-- a register, field by field
 abbrev pub register : Name → ℤ → ℤ → Register
 register n v s = record { name = n; value = v; step = s }
 
+-- the register of a name, if it is defined
 unfoldable pub lookup : Name → List Register → Option Register
 unfolding firstWhere
 lookup n rs = firstWhere (λ r. sameName n (r .name)) rs
@@ -27,6 +29,7 @@ abbrev pub valueOr0 : Option Register → ℤ
 valueOr0 none = pos 0
 valueOr0 (some r) = r .value
 
+-- "the old step (0 at first)"
 abbrev pub stepOr0 : Option Register → ℤ
 stepOr0 none = pos 0
 stepOr0 (some r) = r .step
@@ -55,6 +58,7 @@ readOnly =
     (oneByte (byte "%"), λ s. s .page) ∷ (twoBytes (byte "n") (byte "l"), λ s. s .rows) ∷ (twoBytes (byte ".") (byte "l"), λ s. s .length)
     ∷ (twoBytes (byte ".") (byte "i"), λ s. s .indent) ∷ (twoBytes (byte ".") (byte "p"), λ s. s .pageLength) ∷ []
 
+-- what a read-only register shows, if the name is one
 unfoldable pub shown : Name → Option (Seen → ℤ)
 unfolding firstWhere
 shown n = entryOf (firstWhere (λ e. sameName n (e .0)) readOnly)
@@ -81,6 +85,7 @@ referBy Still none (some r) s rs = value (r .value, rs)
 referBy Up none (some r) s rs = stepTo r (r .value +ℤ r .step) rs
 referBy Down none (some r) s rs = stepTo r (r .value -ℤ r .step) rs
 
+-- what a reference gives: "with + or - before the name to step first"
 unfoldable pub stepRegister : Seen → Turn → Name → List Register → Reference
 unfolding lookup put shown
 stepRegister s t n rs = referBy t (shown n) (lookup n rs) s rs
@@ -90,6 +95,7 @@ unfoldable pub decimalBy : ℕ → ℕ → List ℕ → List ℕ
 decimalBy zero n l = l
 decimalBy (suc k) n l = elim (ltb n 10) [ true ↦ (byte "0" + n) ∷ l | false ↦ decimalBy k (n / 10) ((byte "0" + n % 10) ∷ l) ]
 
+-- "give a register in decimal"
 unfoldable pub decimal : ℤ → List ℕ
 unfolding decimalBy
 decimal (pos n) = decimalBy (suc n) n []

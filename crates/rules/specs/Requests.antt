@@ -15,6 +15,7 @@ use Rattle.rules.specs.declared.Unbreaking.the-variants.{Pl, Po, Ll, Ad,
 use Rattle.rules.specs.declared.Request.{Request}
 use Rattle.rules.specs.declared.Request.the-variants.{Breaks, Keeps, Ds}
 
+-- a request and its name
 abbrev pub is : Char → Char → Request → Name × Request
 is a b r = (twoBytes (byte a) (byte b), r)
 
@@ -26,6 +27,7 @@ requests =
     ∷ is "a" "d" (Keeps Ad) ∷ is "n" "a" (Keeps Na) ∷ is "c" "e" (Breaks Ce) ∷ is "n" "r" (Keeps Nr) ∷ is "d" "s" Ds
     ∷ is "d" "e" (Keeps De) ∷ is "r" "m" (Keeps Rm) ∷ is "w" "h" (Keeps Wh) ∷ is "i" "f" (Keeps If) ∷ []
 
+-- the request of a name, if it names one
 unfoldable pub requestOf : Name → Option Request
 unfolding firstWhere
 requestOf n = entryOf (firstWhere (λ e. sameName n (e .0)) requests)
@@ -39,9 +41,11 @@ pub record Traits : Type 0 where
   -- where it starts the first page, its line is dealt with after the top macro: "A bp that starts the first page does no more"
   pub again : Bool
 
+-- the traits in their order
 abbrev pub these : Bool → Bool → Bool → Traits
 these s t a = record { starts = s; acts = t; again = a }
 
+-- "br sp bp fi nf ce in ti break", each with its traits
 abbrev pub traits : Breaking → Traits
 traits Br = these false false true
 traits Sp = these true true true

@@ -26,6 +26,7 @@ Next = Step State
 abbrev pub goes : State → Next
 goes s = works [] s
 
+-- a refusal, with nothing written
 abbrev pub refuses : ℕ → State → Next
 refuses n s = goes (refuse n s)
 
@@ -35,10 +36,12 @@ lineByte true b ls = [] ∷ ls
 lineByte false b [] = (b ∷ []) ∷ []
 lineByte false b (l ∷ ls) = (b ∷ l) ∷ ls
 
+-- the lines of a macro's bytes
 unfoldable pub lines : List ℕ → List (List ℕ)
 lines [] = []
 lines (b ∷ bs) = lineByte (eqb b newline) b (lines bs)
 
+-- the lines of a text
 abbrev pub linesOf : Kind → List ℕ → List (List ℕ)
 linesOf Macro bs = lines bs
 linesOf String bs = bs ∷ []
@@ -48,6 +51,7 @@ abbrev pub theEnd : (last : Bool) → ℕ
 theEnd true = 1
 theEnd false = 0
 
+-- the stack, or refusal 10
 abbrev pub pushIf : Bool → List Item → State → State
 pushIf true k s = withStack k s
 pushIf false k s = refuse 10 s
@@ -67,6 +71,7 @@ abbrev pub userText : Option Name → List Text → Option Text
 userText none ts = none
 userText (some n) ts = textOf n ts
 
+-- the text of a trap, if there is one, over what is held
 abbrev pub springText : Option Text → List Item → State → State
 springText none held s = withStack (held ++ s .input .stack) s
 springText (some t) held s = call t [] held s
@@ -80,6 +85,7 @@ abbrev pub startIf : Bool → List Item → State → State
 startIf true held s = spring 0 held (withPage (record { number = suc (s .page .number); used = 0; last = s .page .last }) s)
 startIf false held s = refuse 12 s
 
+-- "or at the start of the page past it"
 abbrev pub startPage : (held : List Item) → State → State
 startPage held s = startIf (ltb (s .page .number) 1000000) held s
 
@@ -88,9 +94,11 @@ abbrev pub endPage : (last : Bool) → List Item → State → State
 endPage true held s = close done s
 endPage false held s = startPage held s
 
+-- the state with other rows used
 abbrev pub withUsed : Down → State → State
 withUsed r s = withPage (record { number = s .page .number; used = r; last = s .page .last }) s
 
+-- a row within the page, or the page end
 abbrev pub reach : (within : Bool) → Down → List Item → State → State
 reach true r held s = spring r held (withUsed r s)
 reach false r held s = endPage (s .page .last) held s
@@ -107,10 +115,12 @@ break c held s = works (brokenRow (s .layout) c) (down 1 held (withCollected non
 abbrev pub rowsBelow : State → Down
 rowsBelow s = nearestTrap (s .layout .page) (s .page .used) (s .layout .page) (s .tables .traps) - s .page .used
 
+-- the lesser of two
 abbrev pub fewer : Bool → Down → Down → Down
 fewer true n m = n
 fewer false n m = m
 
+-- blank rows, and the move down
 abbrev pub blank : Down → List Item → State → Next
 blank n held s = works (blankRows n) (down n held s)
 
@@ -125,6 +135,7 @@ abbrev pub ejectIf : (same : Bool) → ℕ → State → Next
 ejectIf true p s = blank (rowsBelow s) (heldIf (ltb (s .page .used + rowsBelow s) (s .layout .page)) (ejects p)) s
 ejectIf false p s = goes s
 
+-- a bp: the page that it leaves has not changed yet
 unfoldable pub eject : (page : ℕ) → State → Next
 eject p s = ejectIf (eqb p (s .page .number)) p s
 
@@ -132,13 +143,16 @@ eject p s = ejectIf (eqb p (s .page .number)) p s
 abbrev pub lastPage : State → State
 lastPage s = withPage (record { number = s .page .number; used = s .page .used; last = true }) s
 
+-- the end's ejection, up to the next trap or the page end
 unfoldable pub ejectLast : State → Next
 ejectLast s = blank (rowsBelow s) [] s
 
+-- the end, by what is collected and the rows used
 abbrev pub endFrom : Option Collected → (used : Down) → State → Next
 endFrom (some c) r s = break c [] s
 endFrom none zero s = goes (close done s)
 endFrom none (suc r) s = ejectLast s
 
+-- the end begins
 unfoldable pub beginEnd : State → Next
 beginEnd s = endFrom (s .collected) (s .page .used) (lastPage s)

@@ -25,9 +25,11 @@ abbrev pub begunBy : (gathered : List ℕ) → Input → Input
 begunBy [] i = record { gathered = []; line = suc (i .line); ended = i .ended; stored = 0; stack = i .stack }
 begunBy (b ∷ l) i = i
 
+-- the state with the line of the next byte begun
 abbrev pub withBegun : State → State
 withBegun s = withInput (begunBy (s .input .gathered) (s .input)) s
 
+-- the state with other gathered bytes and another stack
 abbrev pub gather : List ℕ → List Item → State → State
 gather l k s = let i = s .input in withInput (record { gathered = l; line = i .line; ended = i .ended; stored = i .stored; stack = k }) s
 
@@ -39,9 +41,11 @@ takeBy false false true g b s = refuse 3 s
 takeBy false false false true b s = gather (s .input .gathered ++ b ∷ []) [] s
 takeBy false false false false b s = refuse 2 s
 
+-- "take one byte", of a line that is begun
 abbrev pub take : ℕ → State → State
 take b s = takeBy (ltb 1000000 (s .input .line)) (eqb b newline) (leb 512 (length (s .input .gathered))) (leb 32 b && leb b 126) b s
 
+-- "take one byte"
 unfoldable pub takeByte : ℕ → State → State
 takeByte b s = take b (withBegun s)
 
@@ -50,6 +54,7 @@ abbrev pub lastLine : (gathered : List ℕ) → List Item
 lastLine [] = []
 lastLine (b ∷ l) = fresh (b ∷ l) ∷ []
 
+-- "read the end": "The end is read once, with the line it closes"
 unfoldable pub readEnd : State → State
 readEnd s = let i = s .input in
     withInput (record { gathered = []; line = i .line; ended = true; stored = i .stored; stack = lastLine (i .gathered) }) s
@@ -81,10 +86,12 @@ module _ (p : Printer) where
   idle true (some d) s = refuses 8 s
   idle true none s = workEnd (s .page .last) s
 
+  -- "deal with the top of the input stack; else take one byte; else, if marked last, read the end"; "After done or refused (repeated)"
   abbrev pub stepFrom : Option Closing → List Item → State → Next
   stepFrom (some a) k s = closed a
   stepFrom none [] s = idle (s .input .ended) (s .tables .opened) s
   stepFrom none (i ∷ k) s = work i (withStack k s)
 
+  -- one piece of work, or what the formatter asks for
   unfoldable pub step : State → Next
   step s = stepFrom (s .closing) (s .input .stack) s

@@ -11,6 +11,7 @@ use Rattle.rules.specs.Refusals.{Judged, bad, judge}
 abbrev pub Across : Type 0
 Across = ℕ
 
+-- rows down
 abbrev pub Down : Type 0
 Down = ℕ
 
@@ -19,6 +20,7 @@ pub record Setting : Type 0 where
   pub now : Across
   pub former : Across
 
+-- the settings in force
 pub record Layout : Type 0 where
   -- ll, in and po
   pub line : Setting
@@ -33,30 +35,39 @@ pub record Layout : Type 0 where
   -- the input lines that ce has still to centre
   pub centred : ℕ
 
+-- a layout, field by field
 abbrev pub layout : Setting → Setting → Setting → Down → Option Across → Bool → Bool → ℕ → Layout
 layout l i o p t f a c = record { line = l; indent = i; offset = o; page = p; total = t; filling = f; adjusting = a; centred = c }
 
+-- ll set anew
 abbrev pub withLine : Setting → Layout → Layout
 withLine v y = layout v (y .indent) (y .offset) (y .page) (y .total) (y .filling) (y .adjusting) (y .centred)
 
+-- in set anew
 abbrev pub withIndent : Setting → Layout → Layout
 withIndent v y = layout (y .line) v (y .offset) (y .page) (y .total) (y .filling) (y .adjusting) (y .centred)
 
+-- po set anew
 abbrev pub withOffset : Setting → Layout → Layout
 withOffset v y = layout (y .line) (y .indent) v (y .page) (y .total) (y .filling) (y .adjusting) (y .centred)
 
+-- pl set anew
 abbrev pub withPageLength : Down → Layout → Layout
 withPageLength v y = layout (y .line) (y .indent) (y .offset) v (y .total) (y .filling) (y .adjusting) (y .centred)
 
+-- the ti total set anew, or used up
 abbrev pub withTotal : Option Across → Layout → Layout
 withTotal v y = layout (y .line) (y .indent) (y .offset) (y .page) v (y .filling) (y .adjusting) (y .centred)
 
+-- fi or nf
 abbrev pub withFilling : Bool → Layout → Layout
 withFilling v y = layout (y .line) (y .indent) (y .offset) (y .page) (y .total) v (y .adjusting) (y .centred)
 
+-- ad or na
 abbrev pub withAdjusting : Bool → Layout → Layout
 withAdjusting v y = layout (y .line) (y .indent) (y .offset) (y .page) (y .total) (y .filling) v (y .centred)
 
+-- another number of lines to centre
 abbrev pub withCentred : ℕ → Layout → Layout
 withCentred v y = layout (y .line) (y .indent) (y .offset) (y .page) (y .total) (y .filling) (y .adjusting) v
 
@@ -64,6 +75,7 @@ withCentred v y = layout (y .line) (y .indent) (y .offset) (y .page) (y .total) 
 abbrev pub set : Across → Setting → Setting
 set n v = record { now = n; former = v .now }
 
+-- "the value before the last setting"
 abbrev pub goBack : Setting → Setting
 goBack v = set (v .former) v
 
@@ -71,6 +83,7 @@ goBack v = set (v .former) v
 abbrev pub steady : Across → Setting
 steady n = record { now = n; former = n }
 
+-- "Start: ll 65, in 0, po 0, pl 66, filling and adjusting on"
 abbrev pub startLayout : Printer → Layout
 startLayout p = layout (steady (p .line)) (steady 0) (steady 0) (p .page) none true true 0
 
@@ -88,9 +101,11 @@ inRange low high (negsuc n) = bad 7
 abbrev pub lineRange : ℤ → Judged Across
 lineRange = inRange 1 240
 
+-- "in and the ti total 0 to 239"
 abbrev pub indentRange : ℤ → Judged Across
 indentRange = inRange 0 239
 
+-- "po 0 to 120"
 abbrev pub offsetRange : ℤ → Judged Across
 offsetRange = inRange 0 120
 

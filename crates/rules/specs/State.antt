@@ -38,6 +38,7 @@ pub data Item : Type 0 where
   -- a bp that ejects this page
   ejects : (page : ℕ) → Item
 
+-- the source, and the input stack
 pub record Input : Type 0 where
   -- the bytes of the source line being taken
   pub gathered : List ℕ
@@ -54,6 +55,7 @@ pub record Definition : Type 0 where
   pub name : Name
   pub body : List ℕ
 
+-- registers, texts, the open definition, and traps
 pub record Tables : Type 0 where
   pub registers : List Register
   pub texts : List Text
@@ -61,6 +63,7 @@ pub record Tables : Type 0 where
   -- in the order in which they were planted
   pub traps : List Trap
 
+-- the whole state
 pub record State : Type 0 where
   pub input : Input
   pub tables : Tables
@@ -69,6 +72,7 @@ pub record State : Type 0 where
   pub collected : Option Collected
   pub closing : Option Closing
 
+-- the starting state
 abbrev pub start : Printer → State
 start p = record {
   input = record { gathered = []; line = 0; ended = false; stored = 0; stack = [] };
@@ -79,21 +83,27 @@ start p = record {
   closing = none;
 }
 
+-- the state with another input
 abbrev pub withInput : Input → State → State
 withInput v s = record { input = v; tables = s .tables; layout = s .layout; page = s .page; collected = s .collected; closing = s .closing }
 
+-- the state with other tables
 abbrev pub withTables : Tables → State → State
 withTables v s = record { input = s .input; tables = v; layout = s .layout; page = s .page; collected = s .collected; closing = s .closing }
 
+-- the state with another layout
 abbrev pub withLayout : Layout → State → State
 withLayout v s = record { input = s .input; tables = s .tables; layout = v; page = s .page; collected = s .collected; closing = s .closing }
 
+-- the state with another page
 abbrev pub withPage : Page → State → State
 withPage v s = record { input = s .input; tables = s .tables; layout = s .layout; page = v; collected = s .collected; closing = s .closing }
 
+-- the state with another collected line
 abbrev pub withCollected : Option Collected → State → State
 withCollected v s = record { input = s .input; tables = s .tables; layout = s .layout; page = s .page; collected = v; closing = s .closing }
 
+-- closed with an answer; "whatever is unread or collected" is lost
 abbrev pub close : Closing → State → State
 close v s = record { input = s .input; tables = s .tables; layout = s .layout; page = s .page; collected = none; closing = some v }
 
@@ -101,27 +111,35 @@ close v s = record { input = s .input; tables = s .tables; layout = s .layout; p
 abbrev pub refuse : ℕ → State → State
 refuse n s = close (refused n (s .input .line)) s
 
+-- an input, field by field
 abbrev pub input : List ℕ → ℕ → Bool → ℕ → List Item → Input
 input g l e r k = record { gathered = g; line = l; ended = e; stored = r; stack = k }
 
+-- the state with another input stack
 abbrev pub withStack : List Item → State → State
 withStack v s = let i = s .input in withInput (input (i .gathered) (i .line) (i .ended) (i .stored) v) s
 
+-- the state with another count of stored lines
 abbrev pub withStored : ℕ → State → State
 withStored v s = let i = s .input in withInput (input (i .gathered) (i .line) (i .ended) v (i .stack)) s
 
+-- tables, field by field
 abbrev pub tables : List Register → List Text → Option Definition → List Trap → Tables
 tables r t o p = record { registers = r; texts = t; opened = o; traps = p }
 
+-- the state with other registers
 abbrev pub withRegisters : List Register → State → State
 withRegisters v s = let t = s .tables in withTables (tables v (t .texts) (t .opened) (t .traps)) s
 
+-- the state with other texts
 abbrev pub withTexts : List Text → State → State
 withTexts v s = let t = s .tables in withTables (tables (t .registers) v (t .opened) (t .traps)) s
 
+-- the state with another open definition
 abbrev pub withOpened : Option Definition → State → State
 withOpened v s = let t = s .tables in withTables (tables (t .registers) (t .texts) v (t .traps)) s
 
+-- the state with other traps
 abbrev pub withTraps : List Trap → State → State
 withTraps v s = let t = s .tables in withTables (tables (t .registers) (t .texts) (t .opened) v) s
 
@@ -144,6 +162,7 @@ isReading n (others ws g) = false
 isReading n (acts r l) = false
 isReading n (ejects p) = false
 
+-- "a text on the input stack"
 unfoldable pub onStack : Name → List Item → Bool
 onStack n [] = false
 onStack n (i ∷ k) = isReading n i || onStack n k

@@ -17,10 +17,12 @@ pub data Way : Type 0 where
   starts blank stands fills : Way
   breaks : Collected → Way
 
+-- "Leading spaces break"
 abbrev pub breaksIf : (leading : Bool) → Collected → Way
 breaksIf true c = breaks c
 breaksIf false c = fills
 
+-- what a line of words asks for, in the order in which it is tried
 abbrev pub wayOf : (page : ℕ) → List Word → Option Collected → (asItStands : Bool) → Way
 wayOf zero ws c n = starts
 wayOf (suc p) [] c n = blank
@@ -33,6 +35,7 @@ wayOf (suc p) (w ∷ ws) (some c) false = breaksIf (leads (w ∷ ws)) c
 abbrev pub asItStands : Layout → Bool
 asItStands y = not (y .filling) || leb 1 (y .centred)
 
+-- the layout after a line that is written as it stands
 abbrev pub counted : Layout → Layout
 counted y = withCentred (y .centred - 1) (begun y)
 
@@ -46,12 +49,14 @@ abbrev pub nextGap : List Word → ℕ → ℕ
 nextGap [] g = g
 nextGap (w ∷ ws) g = 1
 
+-- the words that fitted, or the row that is full
 abbrev pub filled : Placed → ℕ → State → Next
 filled (all c) g s = goes (withCollected (some (withNext g c)) s)
 filled (full c w ws) g s =
     works (fullRow (s .layout) c)
     (down 1 (othersOf ws g) (withCollected (some (withNext (nextGap ws g) (begin (s .layout) w))) (withLayout (begun (s .layout)) s)))
 
+-- words behind a collected line, or the first of a new one
 abbrev pub fillFrom : Option Collected → Word → List Word → ℕ → State → Next
 fillFrom none w ws g s = filled (place (begin (s .layout) w) ws) g (withLayout (begun (s .layout)) s)
 fillFrom (some c) w ws g s = filled (place c (w ∷ ws)) g s
@@ -66,10 +71,12 @@ abbrev pub blankFrom : Option Collected → State → Next
 blankFrom none s = skip (pos 1) s
 blankFrom (some c) s = break c (acts Sp [] ∷ []) s
 
+-- the gap before the first word of an input line
 abbrev pub gapHere : Option Collected → ℕ
 gapHere none = 0
 gapHere (some c) = c .next
 
+-- what a text line does in each case
 abbrev pub textWay : Way → List Word → List ℕ → State → Next
 textWay starts ws l s = goes (startPage (again (text l) ∷ []) s)
 textWay blank ws l s = blankFrom (s .collected) s
@@ -77,5 +84,6 @@ textWay (breaks c) ws l s = break c (again (text l) ∷ []) s
 textWay stands ws l s = works (standingRow (s .layout) ws) (down 1 [] (withLayout (counted (s .layout)) s))
 textWay fills ws l s = fill (after (gapHere (s .collected)) (standing ws)) (gapAfter ws) s
 
+-- a text line, as expanded
 unfoldable pub textLine : List ℕ → State → Next
 textLine l s = textWay (wayOf (s .page .number) (words l) (s .collected) (asItStands (s .layout))) (words l) l s

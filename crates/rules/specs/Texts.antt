@@ -18,17 +18,21 @@ pub record Text : Type 0 where
   pub kind : Kind
   pub bytes : List ℕ
 
+-- a text, field by field
 abbrev pub text : Name → Kind → List ℕ → Text
 text n k l = record { name = n; kind = k; bytes = l }
 
+-- the text of a name: "the string's own bytes", or a macro's
 unfoldable pub textOf : Name → List Text → Option Text
 unfolding firstWhere
 textOf n ts = firstWhere (λ t. sameName n (t .name)) ts
 
+-- "The room of redefined or removed text is used again"
 unfoldable pub remove : Name → List Text → List Text
 remove n [] = []
 remove n (t ∷ ts) = elim (sameName n (t .name)) [ true ↦ ts | false ↦ t ∷ remove n ts ]
 
+-- "String bytes and macro lines with a newline each are live text"
 unfoldable pub live : List Text → ℕ
 live [] = 0
 live (t ∷ ts) = length (t .bytes) + live ts
@@ -51,5 +55,6 @@ unfoldable pub keepLine : List Text → (body line : List ℕ) → Judged (List 
 unfolding live
 keepLine ts body line = judge (leb (live ts + (length body + suc (length line))) 8192) 11 (body ++ line ++ newline ∷ [])
 
+-- "A macro exists once closed"
 abbrev pub closeMacro : Name → (body : List ℕ) → List Text → List Text
 closeMacro n body ts = ts ++ text n Macro body ∷ []

@@ -12,6 +12,7 @@ use Rattle.rules.specs.Bytes.{newline}
 use Rattle.rules.specs.Numbers.{equalZ}
 use Rattle.rules.specs.Settings.{Down}
 
+-- the page being written
 pub record Page : Type 0 where
   -- 0 before the first page
   pub number : ℕ
@@ -20,9 +21,11 @@ pub record Page : Type 0 where
   -- the end has begun: it ejects this page, and no page follows
   pub last : Bool
 
+-- before the first page
 abbrev pub noPage : Page
 noPage = record { number = 0; used = 0; last = false }
 
+-- the row, if the trap is awake
 abbrev pub someIf : (awake : Bool) → Down → Option Down
 someIf true n = some n
 someIf false n = none
@@ -32,6 +35,7 @@ abbrev pub rowOf : (pl : Down) → ℤ → Option Down
 rowOf pl (pos n) = someIf (ltb n pl) n
 rowOf pl (negsuc n) = someIf (ltb n pl) (pl - suc n)
 
+-- whether a trap stands at a row
 abbrev pub isRow : Down → Option Down → Bool
 isRow r none = false
 isRow r (some n) = eqb r n
@@ -46,10 +50,12 @@ abbrev pub lower : Bool → Down → Down → Down
 lower true n best = n
 lower false n best = best
 
+-- the row of a trap, if it is nearer than the best so far
 abbrev pub nearer : (row : Down) → Option Down → (best : Down) → Down
 nearer r none best = best
 nearer r (some n) best = lower (ltb r n && ltb n best) n best
 
+-- the nearest of the traps below a row
 unfoldable pub nearestTrap : (pl row best : Down) → List Trap → Down
 nearestTrap pl r best [] = best
 nearestTrap pl r best (t ∷ ts) = nearestTrap pl r (nearer r (rowOf pl (t .place)) best) ts
@@ -59,9 +65,11 @@ unfoldable pub plant : ℤ → Name → List Trap → List Trap
 plant p n [] = record { place = p; name = n } ∷ []
 plant p n (t ∷ ts) = elim (equalZ p (t .place)) [ true ↦ record { place = p; name = n } ∷ ts | false ↦ t ∷ plant p n ts ]
 
+-- "no name removes"
 unfoldable pub removeTrap : ℤ → List Trap → List Trap
 removeTrap p [] = []
 removeTrap p (t ∷ ts) = elim (equalZ p (t .place)) [ true ↦ ts | false ↦ t ∷ removeTrap p ts ]
 
+-- blank rows, as printed
 abbrev pub blankRows : Down → List ℕ
 blankRows n = replicate n newline
