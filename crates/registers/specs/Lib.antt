@@ -1,0 +1,5 @@
+pub mod Columns
+pub mod Places
+pub mod Moves
+pub mod Answers
+pub mod ReadOnly
