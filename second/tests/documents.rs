@@ -15,14 +15,14 @@ fn read(path: &str) -> String {
     fs::read_to_string(root().join(path)).unwrap_or_else(|error| panic!("{path}: {error}"))
 }
 
-/// The three cells of each row of the tables in docs/RULES.md, without their heads.
-fn rules() -> Vec<[String; 3]> {
+/// The four cells of each row of the tables in docs/RULES.md, without their heads.
+fn rules() -> Vec<[String; 4]> {
     let text = read("docs/RULES.md");
     let rows = text.lines().filter(|line| line.starts_with("| \""));
-    let cells = |line: &str| -> [String; 3] {
-        let inner = line.trim_start_matches("| ").trim_end_matches('|').trim_end();
+    let cells = |line: &str| -> [String; 4] {
+        let inner = line.strip_prefix("| ").and_then(|line| line.strip_suffix('|')).expect("a row");
         let cells: Vec<String> = inner.split(" |").map(|cell| cell.trim().to_string()).collect();
-        cells.try_into().unwrap_or_else(|cells| panic!("not three cells: {cells:?}"))
+        cells.try_into().unwrap_or_else(|cells| panic!("not four cells: {cells:?}"))
     };
     rows.map(cells).collect()
 }
@@ -98,7 +98,7 @@ fn declares(text: &str, name: &str) -> bool {
 #[test]
 fn the_definitions_exist() {
     let mut named = 0;
-    for [quote, definitions, theorem] in rules() {
+    for [quote, definitions, theorem, _] in rules() {
         for span in spans(&definitions).into_iter().chain(spans(&theorem)) {
             let (crate_name, place) = span.split_once('/').unwrap_or(("rules", span));
             let Some((module, name)) = place.split_once('.') else { continue };
@@ -148,7 +148,7 @@ fn the_vectors_exist() {
             .any(|name| name.strip_prefix(wanted).is_some_and(|rest| rest.is_empty() || rest.starts_with(['.', ' '])))
     };
     let mut shown = 0;
-    for [quote, _, cell] in rules() {
+    for [quote, _, cell, _] in rules() {
         for wanted in vector_names(&cell) {
             assert!(known(wanted), "{quote}: no vector {wanted}");
             shown += 1;
@@ -173,7 +173,7 @@ fn the_vectors_exist() {
 /// The edits that the tables name are there.
 #[test]
 fn the_edits_exist() {
-    for [quote, _, cell] in rules() {
+    for [quote, _, cell, _] in rules() {
         for span in spans(&cell) {
             if let Some((crate_name, edit)) =
                 span.split_once('/').filter(|(name, _)| ["rules", "stream"].contains(name))
@@ -185,4 +185,19 @@ fn the_edits_exist() {
             }
         }
     }
+}
+
+/// The functions that the tables name are there, in the crate named.
+#[test]
+fn the_functions_exist() {
+    let mut named = 0;
+    for [quote, _, _, functions] in rules() {
+        for span in spans(&functions) {
+            let (crate_name, function) = span.split_once("::").unwrap_or_else(|| panic!("{quote}: {span}"));
+            let text = read(&format!("crates/{crate_name}/src/lib.rt"));
+            assert!(text.contains(&format!("fn {function}(")), "{quote}: no function {span}");
+            named += 1;
+        }
+    }
+    assert!(named > 40, "{named} functions");
 }
