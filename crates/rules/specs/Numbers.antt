@@ -95,7 +95,7 @@ abbrev pub operatorBefore : (equal : Bool) → ℕ → Option Operator
 operatorBefore true b = inTable operatorsBeforeEqual b
 operatorBefore false b = none
 
--- what follows a term; "two-byte operators are read first"
+-- what follows a term; operators of two bytes are tried first
 unfoldable pub jointOf : List ℕ → Joint
 unfolding firstWhere
 jointOf [] = stops []

@@ -124,7 +124,7 @@ abbrev pub Ordered : List Name → Type 0
 Ordered [] = Unit
 Ordered (n ∷ l) = Ahead n l × Ordered l
 
--- "The registers stand in name order"
+-- the registers stand in name order
 abbrev pub Sorted : List Register → Type 0
 Sorted rs = Ordered (names rs)
 

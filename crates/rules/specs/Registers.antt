@@ -52,7 +52,7 @@ pub record Seen : Type 0 where
   pub indent : ℤ
   pub pageLength : ℤ
 
--- "Read-only: % page (0 before the first), nl rows used, .l .i .p"
+-- "Read-only (H): % page (0 before the first), nl rows used, .l .i .p"
 abbrev pub readOnly : List (Name × (Seen → ℤ))
 readOnly =
     (oneByte (byte "%"), λ s. s .page) ∷ (twoBytes (byte "n") (byte "l"), λ s. s .rows) ∷ (twoBytes (byte ".") (byte "l"), λ s. s .length)

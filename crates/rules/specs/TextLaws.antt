@@ -159,7 +159,7 @@ kept-define m n l ts us e h = rw (define-is n l ts us h) (kept-end m (text n Str
 pub distinct-define : (n : Name) (l : List ℕ) (ts us : List Text) → Distinct ts → defineString n l ts ≡ value us → Distinct us
 distinct-define n l ts us d h = rw (define-is n l ts us h) (distinct-end (text n String l) (remove n ts) (distinct-remove n ts d) (gone-remove n ts d))
 
--- After a de its name is not found: "a macro exists once closed".
+-- After a de its name is not found: "A macro exists once closed".
 pub gone-open : (n : Name) (ts us : List Text) → Distinct ts → openMacro n ts ≡ value us → textOf n us ≡ none
 gone-open n ts us d h = rw (open-is n ts us h) (gone-remove n ts d)
 

@@ -31,7 +31,7 @@ wayOf (suc p) (w ∷ ws) none false = fills
 wayOf (suc p) (w ∷ ws) (some c) true = breaks c
 wayOf (suc p) (w ∷ ws) (some c) false = breaksIf (leads (w ∷ ws)) c
 
--- a line under nf or ce is written as it stands; ce counts it "when the row is written"
+-- a line under nf or ce is written as it stands; ce counts it when its row is written
 abbrev pub asItStands : Layout → Bool
 asItStands y = not (y .filling) || leb 1 (y .centred)
 

@@ -45,7 +45,7 @@ defineString n l ts =
     let others = remove n ts in
     judge (ltb (length others) 64 && leb (live others + length l) 8192) 11 (others ++ text n String l ∷ [])
 
--- de: the texts while a macro is open; the old text is gone, and "a macro exists once closed"
+-- de: the texts while a macro is open; the old text is gone, and "A macro exists once closed"
 unfoldable pub openMacro : Name → List Text → Judged (List Text)
 unfolding remove
 openMacro n ts = let others = remove n ts in judge (ltb (length others) 64) 11 others
