@@ -36,6 +36,10 @@ mark = 2
 abbrev pub fixedBlank : ℕ
 fixedBlank = 3
 
+-- the first cell of a gap in a collected line: a code that no source line holds
+abbrev pub gapStart : ℕ
+gapStart = 4
+
 -- the first of a list that passes a test
 unfoldable pub firstWhere : {A : Type 0} → (A → Bool) → List A → Option A
 firstWhere test [] = none

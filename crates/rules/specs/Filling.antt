@@ -5,7 +5,7 @@ use mathlib.Core.List.{List, [], _∷_, _++_}
 use Prim.Native.Nat.{ℕ, zero, suc, _+_, _-_, _/_, _%_}
 use lib.Dec.{leb, eqb}
 use lib.ListN.{length, replicate}
-use Rattle.rules.specs.Bytes.{byte, newline, space, mark, fixedBlank}
+use Rattle.rules.specs.Bytes.{byte, newline, space, mark, fixedBlank, gapStart}
 use Rattle.rules.specs.Settings.{Across, Layout, withTotal}
 
 -- a word, and the gap before it
@@ -86,21 +86,38 @@ unfoldable pub span : List Word → Across
 span [] = 0
 span (w ∷ ws) = w .gap + width (w .bytes) + span ws
 
+-- "Output is .. text": marks are not printed, fixed blanks are spaces
+abbrev pub printedByte : (isMark isBlank : Bool) → ℕ → List ℕ → List ℕ
+printedByte true f b bs = bs
+printedByte false true b bs = space ∷ bs
+printedByte false false b bs = b ∷ bs
+
+-- what is printed of bytes
+unfoldable pub printed : List ℕ → List ℕ
+printed [] = []
+printed (b ∷ bs) = printedByte (eqb b mark) (eqb b fixedBlank) b (printed bs)
+
 -- The collected line: "it and the indent printed are fixed when a line's first word is placed".
 pub record Collected : Type 0 where
   pub indent : Across
   pub room : Across
-  pub words : List Word
+  -- what is printed of its words and gaps, cell by cell; the first cell of each gap is `gapStart`
+  pub cells : List ℕ
   -- the gap to the next input line's first word
   pub next : Across
 
+-- the cells of a gap: adjusting finds the gap by the first of them
+abbrev pub gapCells : Across → List ℕ
+gapCells zero = []
+gapCells (suc g) = gapStart ∷ replicate g space
+
 -- the collected line with another gap to the next input line
 abbrev pub withNext : Across → Collected → Collected
-withNext g c = record { indent = c .indent; room = c .room; words = c .words; next = g }
+withNext g c = record { indent = c .indent; room = c .room; cells = c .cells; next = g }
 
 -- the collected line with one word more
 abbrev pub joined : Word → Collected → Collected
-joined w c = record { indent = c .indent; room = c .room; words = c .words ++ w ∷ []; next = c .next }
+joined w c = record { indent = c .indent; room = c .room; cells = c .cells ++ (gapCells (w .gap) ++ printed (w .bytes)); next = c .next }
 
 -- the indent printed: the ti total if one is kept
 abbrev pub indentNow : Layout → Across
@@ -112,7 +129,7 @@ roomNow y = y .line .now - indentNow y
 
 -- a line's first word is placed, whatever its width, and uses the ti total up
 abbrev pub begin : Layout → Word → Collected
-begin y w = record { indent = indentNow y; room = roomNow y; words = word 0 (w .bytes) ∷ []; next = 1 }
+begin y w = record { indent = indentNow y; room = roomNow y; cells = printed (w .bytes); next = 1 }
 
 -- the ti total is used up
 abbrev pub begun : Layout → Layout
@@ -126,49 +143,62 @@ pub data Placed : Type 0 where
 
 -- "width + gap + word is at most room"
 abbrev pub fits : Collected → Word → Bool
-fits c w = leb (span (c .words) + w .gap + width (w .bytes)) (c .room)
+fits c w = leb (length (c .cells) + w .gap + width (w .bytes)) (c .room)
 
 -- words join until one does not fit
 unfoldable pub place : Collected → List Word → Placed
 place c [] = all c
 place c (w ∷ ws) = elim (fits c w) [ true ↦ place (joined w c) ws | false ↦ full c w ws ]
 
+-- "k gaps": those of a collected line
+abbrev pub countGap : (isGap : Bool) → ℕ → ℕ
+countGap true n = suc n
+countGap false n = n
+
+-- the gaps of a collected line
+unfoldable pub gaps : List ℕ → ℕ
+gaps [] = 0
+gaps (b ∷ bs) = countGap (eqb b gapStart) (gaps bs)
+
+-- "the last e mod k gaps one more": those behind the first `few`
+abbrev pub moreIf : (few : ℕ) → Across
+moreIf zero = 1
+moreIf (suc n) = 0
+
+-- a cell of a collected line before the rest: a gap's first one is widened, any other stands
+abbrev pub spreadCell : (isGap : Bool) → (more : Across) → ℕ → List ℕ → List ℕ
+spreadCell true n b bs = replicate (suc n) space ++ bs
+spreadCell false n b bs = b ∷ bs
+
+-- how many gaps from here on have no cell more
+abbrev pub fewAfter : (isGap : Bool) → (few : ℕ) → ℕ
+fewAfter true zero = 0
+fewAfter true (suc n) = n
+fewAfter false n = n
+
 -- "share the missing e cells over k gaps: e/k each, the last e mod k gaps one more": the first `few` gaps have no cell more
-abbrev pub wider : Across → Word → Word
-wider n w = word (w .gap + n) (w .bytes)
+unfoldable pub spread : (each : Across) (few : ℕ) → List ℕ → List ℕ
+spread each few [] = []
+spread each few (b ∷ bs) = spreadCell (eqb b gapStart) (each + moreIf few) b (spread each (fewAfter (eqb b gapStart) few) bs)
 
--- wider gaps: "the last e mod k gaps one more"
-unfoldable pub widen : (each : Across) (few : ℕ) → List Word → List Word
-widen each few [] = []
-widen each zero (w ∷ ws) = wider (suc each) w ∷ widen each zero ws
-widen each (suc few) (w ∷ ws) = wider each w ∷ widen each few ws
+-- "a line without gaps stays as it is"
+abbrev pub share : (e : Across) → (k : ℕ) → List ℕ → List ℕ
+share e zero bs = spread 0 0 bs
+share e (suc k) bs = spread (e / suc k) (suc k - e % suc k) bs
 
--- "a line without gaps stays as it is"; each word but the first has a gap before it
-abbrev pub share : (e : Across) → List Word → List Word
-share e [] = []
-share e (w ∷ []) = w ∷ []
-share e (w ∷ v ∷ ws) = let k = suc (length ws) in w ∷ widen (e / k) (k - e % k) (v ∷ ws)
+-- a collected line with its gaps as they are
+abbrev pub level : List ℕ → List ℕ
+level bs = spread 0 (length bs) bs
 
 -- "with adjusting on"
-abbrev pub adjusted : (adjusting : Bool) → Collected → List Word
-adjusted true c = share (c .room - span (c .words)) (c .words)
-adjusted false c = c .words
+abbrev pub adjusted : (adjusting : Bool) → Collected → List ℕ
+adjusted true c = share (c .room - length (c .cells)) (gaps (c .cells)) (c .cells)
+adjusted false c = level (c .cells)
 
 -- words and their gaps as text
 unfoldable pub spelled : List Word → List ℕ
 spelled [] = []
 spelled (w ∷ ws) = replicate (w .gap) space ++ (w .bytes ++ spelled ws)
-
--- "Output is po, indent, text, newline; blanks at a line's end are not written": marks are not printed, fixed blanks are spaces
-abbrev pub printedByte : (isMark isBlank : Bool) → ℕ → List ℕ → List ℕ
-printedByte true f b bs = bs
-printedByte false true b bs = space ∷ bs
-printedByte false false b bs = b ∷ bs
-
--- what is printed of bytes
-unfoldable pub printed : List ℕ → List ℕ
-printed [] = []
-printed (b ∷ bs) = printedByte (eqb b mark) (eqb b fixedBlank) b (printed bs)
 
 -- a byte, unless it is a blank at the end
 abbrev pub unlessBlank : Bool → ℕ → List ℕ → List ℕ
@@ -183,15 +213,15 @@ trimmed (b ∷ bs) = unlessBlank (eqb b space) b (trimmed bs)
 
 -- "Output is po, indent, text, newline"
 abbrev pub row : (blanks : Across) → List ℕ → List ℕ
-row n bs = trimmed (replicate n space ++ printed bs) ++ newline ∷ []
+row n bs = trimmed (replicate n space ++ bs) ++ newline ∷ []
 
 -- a collected line as a row: written by a break, or for overflow and then adjusted
 abbrev pub brokenRow : Layout → Collected → List ℕ
-brokenRow y c = row (y .offset .now + c .indent) (spelled (c .words))
+brokenRow y c = row (y .offset .now + c .indent) (level (c .cells))
 
 -- "Lines written for overflow", as a row
 abbrev pub fullRow : Layout → Collected → List ℕ
-fullRow y c = row (y .offset .now + c .indent) (spelled (adjusted (y .adjusting) c))
+fullRow y c = row (y .offset .now + c .indent) (adjusted (y .adjusting) c)
 
 -- "With nf each line is written as it stands"; ce: "left blanks half the spare room, cut down, none if the line is wider"
 abbrev pub left : (centred : ℕ) → (spare : Across) → Across
@@ -200,4 +230,4 @@ left (suc n) spare = spare / 2
 
 -- a line of nf or ce, as a row
 abbrev pub standingRow : Layout → List Word → List ℕ
-standingRow y ws = row (y .offset .now + indentNow y + left (y .centred) (roomNow y - span ws)) (spelled ws)
+standingRow y ws = row (y .offset .now + indentNow y + left (y .centred) (roomNow y - span ws)) (printed (spelled ws))

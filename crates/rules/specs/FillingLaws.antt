@@ -8,10 +8,8 @@ use native.Mathlib.Omega.{arith}
 use lib.Dec.{eqb}
 use lib.ListN.{length, replicate, length-append, length-replicate}
 use borrow.Author.Tests.{leb-true}
-use Rattle.rules.specs.Bytes.{newline, space, mark, fixedBlank}
-use Rattle.rules.specs.Settings.{Layout}
-use Rattle.rules.specs.Filling.{Word, Collected, widen, share, adjusted, width, span, countIf, spelled, printedByte, printed, unlessBlank, trimmed, row, Placed, all, full, fits, joined, place, begin}
-use Rattle.rules.specs.LineLaws.{Gapped, Formed, span-more}
+use Rattle.rules.specs.Bytes.{newline, space, mark, fixedBlank, gapStart}
+use Rattle.rules.specs.Filling.{Word, Collected, gapCells, countGap, gaps, moreIf, fewAfter, spreadCell, spread, share, level, adjusted, width, span, countIf, spelled, printedByte, printed, unlessBlank, trimmed, row, Placed, all, full, fits, joined, place}
 
 printed-byte : (t f : Bool) (b : ℕ) (x y : List ℕ) → printedByte t f b (x ++ y) ≡ printedByte t f b x ++ y
 printed-byte true f b x y = refl
@@ -103,95 +101,102 @@ pub spelled-length : (ws : List Word) → length (printed (spelled ws)) ≡ span
 spelled-length ws = printed-length (spelled ws) ∙ spelled-width ws
 
 -- A row has at most its blanks, its cells and a newline.
-pub row-length : (n : ℕ) (bs : List ℕ) → length (row n bs) ≤ n + width bs + 1
+pub row-length : (n : ℕ) (bs : List ℕ) → length (row n bs) ≤ n + length bs + 1
 row-length n bs =
-    let l = replicate n space ++ printed bs in
-    omega (arith, length-append (trimmed l) (newline ∷ []), trimmed-short l, length-append (replicate n space) (printed bs), length-replicate n space, printed-length bs)
+    let l = replicate n space ++ bs in
+    omega (arith, length-append (trimmed l) (newline ∷ []), trimmed-short l, length-append (replicate n space) bs, length-replicate n space)
+
+blanks-length : (n : ℕ) (l : List ℕ) → length (replicate (suc n) space ++ l) ≡ suc n + length l
+blanks-length n l = length-append (replicate (suc n) space) l ∙ ap (λ k. k + length l) (length-replicate (suc n) space)
 
 -- Widening: every gap by `each` cells, all but the first `few` by one more.
-pub widen-span : (each few : ℕ) (ws : List Word) → span (widen each few ws) ≡ span ws + each * length ws + (length ws - few)
-unfolding widen span
-widen-span each few [] = omega (arith, mul-zero each)
-widen-span each zero (w ∷ ws) = omega (arith, widen-span each zero ws, mul-suc each (length ws))
-widen-span each (suc few) (w ∷ ws) = omega (arith, widen-span each few ws, mul-suc each (length ws))
+pub spread-length : (each few : ℕ) (bs : List ℕ) → length (spread each few bs) ≡ length bs + each * gaps bs + (gaps bs - few)
+unfolding spread gaps
+spread-length each few [] = omega (arith, mul-zero each)
+spread-length each few (b ∷ bs) = go (eqb b gapStart) few (spread-length each (fewAfter (eqb b gapStart) few) bs)
+  where
+    go : (t : Bool) (f : ℕ) → length (spread each (fewAfter t f) bs) ≡ length bs + each * gaps bs + (gaps bs - fewAfter t f)
+        → length (spreadCell t (each + moreIf f) b (spread each (fewAfter t f) bs)) ≡ suc (length bs) + each * countGap t (gaps bs) + (countGap t (gaps bs) - f)
+    go true zero h = omega (arith, h, mul-suc each (gaps bs), blanks-length (each + 1) (spread each 0 bs))
+    go true (suc f) h = omega (arith, h, mul-suc each (gaps bs), blanks-length (each + 0) (spread each f bs))
+    go false f h = omega (arith, h)
 
--- Sharing e cells over a line that has a gap widens it by e.
-pub share-span : (e : ℕ) (ws : List Word) → 2 ≤ length ws → span (share e ws) ≡ span ws + e
-unfolding widen span
-share-span e [] h = absurd (omega arith)
-share-span e (w ∷ []) h = absurd (omega arith)
-share-span e (w ∷ v ∷ ws) h =
-    let k = suc (length ws) in
-    omega (arith, widen-span (e / k) (k - e % k) (v ∷ ws), mod-lt e {m = k} (omega arith), div-add-mod' e k)
+-- A collected line has no more gaps than cells.
+pub gaps-few : (bs : List ℕ) → gaps bs ≤ length bs
+unfolding gaps
+gaps-few [] = omega arith
+gaps-few (b ∷ bs) = go (eqb b gapStart) (gaps-few bs)
+  where
+    go : (t : Bool) → gaps bs ≤ length bs → countGap t (gaps bs) ≤ suc (length bs)
+    go true h = omega arith
+    go false h = omega arith
+
+-- The gaps of two parts are those of each.
+pub gaps-append : (a b : List ℕ) → gaps (a ++ b) ≡ gaps a + gaps b
+unfolding gaps
+gaps-append [] b = omega arith
+gaps-append (c ∷ a) b = go (eqb c gapStart) (gaps (a ++ b)) (gaps a) (gaps-append a b)
+  where
+    go : (t : Bool) (x y : ℕ) → x ≡ y + gaps b → countGap t x ≡ countGap t y + gaps b
+    go true x y h = omega arith
+    go false x y h = h
+
+-- Gaps as they are take no cell more.
+pub level-length : (bs : List ℕ) → length (level bs) ≡ length bs
+level-length bs = omega (arith, spread-length 0 (length bs) bs, gaps-few bs)
+
+-- Sharing e cells over the gaps of a line that has one widens it by e.
+pub share-length : (e k : ℕ) (bs : List ℕ) → gaps bs ≡ suc k → length (share e (gaps bs) bs) ≡ length bs + e
+share-length e k bs h = rw h (omega (arith, spread-length (e / suc k) (suc k - e % suc k) bs, h, ap (λ n. e / suc k * n) h, mod-lt e {m = suc k} (omega arith), div-add-mod' e (suc k)))
 
 -- An adjusted line is exactly as wide as its room.
-pub adjusted-exact : (c : Collected) → 2 ≤ length (c .words) → span (c .words) ≤ c .room → span (adjusted true c) ≡ c .room
-adjusted-exact c h i = omega (arith, share-span (c .room - span (c .words)) (c .words) h)
+pub adjusted-exact : (c : Collected) → 1 ≤ gaps (c .cells) → length (c .cells) ≤ c .room → length (adjusted true c) ≡ c .room
+adjusted-exact c h i = go (gaps (c .cells)) refl h
+  where
+    go : (k : ℕ) → gaps (c .cells) ≡ k → 1 ≤ k → length (adjusted true c) ≡ c .room
+    go zero e j = absurd (omega arith)
+    go (suc k) e j = omega (arith, share-length (c .room - length (c .cells)) k (c .cells) e)
+
+spread-none : (each few : ℕ) (bs : List ℕ) → gaps bs ≡ 0 → spread each few bs ≡ bs
+unfolding spread gaps
+spread-none each few [] h = refl
+spread-none each few (b ∷ bs) h = go (eqb b gapStart) h (λ i. spread-none each few bs i)
+  where
+    go : (t : Bool) → countGap t (gaps bs) ≡ 0 → (gaps bs ≡ 0 → spread each few bs ≡ bs) → spreadCell t (each + moreIf few) b (spread each (fewAfter t few) bs) ≡ b ∷ bs
+    go true h k = absurd (omega arith)
+    go false h k = ap (λ l. b ∷ l) (k h)
 
 -- A line without gaps stays as it is.
-pub adjusted-alone : (t : Bool) (c : Collected) → length (c .words) ≤ 1 → adjusted t c ≡ c .words
-adjusted-alone true c h = go (c .words) h
-  where
-    go : (ws : List Word) → length ws ≤ 1 → share (c .room - span (c .words)) ws ≡ ws
-    go [] h = refl
-    go (w ∷ []) h = refl
-    go (w ∷ v ∷ ws) h = absurd (omega arith)
-adjusted-alone false c h = refl
+pub adjusted-alone : (t : Bool) (c : Collected) → gaps (c .cells) ≡ 0 → adjusted t c ≡ c .cells
+adjusted-alone true c h = rw h (spread-none 0 0 (c .cells) h)
+adjusted-alone false c h = spread-none 0 (length (c .cells)) (c .cells) h
 
--- With adjusting off the words are unchanged.
-pub adjusted-off : (c : Collected) → adjusted false c ≡ c .words
+-- With adjusting off the gaps are as they are.
+pub adjusted-off : (c : Collected) → adjusted false c ≡ level (c .cells)
 adjusted-off c = refl
 
--- the bytes of each word
-abbrev pub bytesOf : List Word → List (List ℕ)
-bytesOf ws = map (λ w. w .bytes) ws
+-- The cells that words, each behind its gap, put into a collected line.
+unfoldable pub laid : List Word → List ℕ
+laid [] = []
+laid (w ∷ ws) = gapCells (w .gap) ++ (printed (w .bytes) ++ laid ws)
 
--- Widening changes no word's bytes.
-pub widen-bytes : (each few : ℕ) (ws : List Word) → bytesOf (widen each few ws) ≡ bytesOf ws
-unfolding widen
-widen-bytes each few [] = refl
-widen-bytes each zero (w ∷ ws) = ap (λ l. w .bytes ∷ l) (widen-bytes each zero ws)
-widen-bytes each (suc few) (w ∷ ws) = ap (λ l. w .bytes ∷ l) (widen-bytes each few ws)
+-- A gap has its cells.
+pub gapCells-length : (g : ℕ) → length (gapCells g) ≡ g
+gapCells-length zero = refl
+gapCells-length (suc g) = ap suc (length-replicate g space)
 
--- Sharing changes no word's bytes.
-pub share-bytes : (e : ℕ) (ws : List Word) → bytesOf (share e ws) ≡ bytesOf ws
-share-bytes e [] = refl
-share-bytes e (w ∷ []) = refl
-share-bytes e (w ∷ v ∷ ws) = let k = suc (length ws) in ap (λ l. w .bytes ∷ l) (widen-bytes (e / k) (k - e % k) (v ∷ ws))
+-- A word that joins takes its gap and its width.
+pub joined-length : (c : Collected) (w : Word) → length (joined w c .cells) ≡ length (c .cells) + w .gap + width (w .bytes)
+joined-length c w =
+    omega (arith, length-append (c .cells) (gapCells (w .gap) ++ printed (w .bytes)), length-append (gapCells (w .gap)) (printed (w .bytes)), gapCells-length (w .gap), printed-length (w .bytes))
 
--- Adjusting changes no word's bytes.
-pub adjusted-bytes : (t : Bool) (c : Collected) → bytesOf (adjusted t c) ≡ bytesOf (c .words)
-adjusted-bytes true c = share-bytes (c .room - span (c .words)) (c .words)
-adjusted-bytes false c = refl
-
--- Formed words with a gap before each stay so when they are widened.
-pub widen-formed : (each few : ℕ) (ws : List Word) → Gapped ws → Formed ws → Gapped (widen each few ws) × Formed (widen each few ws)
-unfolding widen
-widen-formed each few [] g h = (tt, tt)
-widen-formed each zero (w ∷ ws) g h = let i = widen-formed each zero ws (h .1) (h .2) in (omega arith, (h .0, i .0, i .1))
-widen-formed each (suc few) (w ∷ ws) g h = let i = widen-formed each few ws (h .1) (h .2) in (omega arith, (h .0, i .0, i .1))
-
--- Formed words stay so when they are adjusted.
-pub adjusted-formed : (t : Bool) (c : Collected) → Formed (c .words) → Formed (adjusted t c)
-adjusted-formed true c h = go (c .room - span (c .words)) (c .words) h
-  where
-    go : (e : ℕ) (ws : List Word) → Formed ws → Formed (share e ws)
-    go e [] h = h
-    go e (w ∷ []) h = h
-    go e (w ∷ v ∷ ws) h = let k = suc (length ws) in let i = widen-formed (e / k) (k - e % k) (v ∷ ws) (h .1) (h .2) in (h .0, i .0, i .1)
-adjusted-formed false c h = h
-
--- A collected line is within its room, unless its one word alone is wider.
+-- A collected line is within its room, unless it has no gap: its one word alone may be wider.
 abbrev pub Roomy : Collected → Type 0
-Roomy c = 2 ≤ length (c .words) → span (c .words) ≤ c .room
-
--- What a line's first word begins is so.
-pub begin-roomy : (y : Layout) (w : Word) → Roomy (begin y w)
-begin-roomy y w h = absurd (omega arith)
+Roomy c = 1 ≤ gaps (c .cells) → length (c .cells) ≤ c .room
 
 -- A collected line that a fitting word joins is within its room.
-pub joined-within : (c : Collected) (w : Word) → fits c w ≡ true → span (joined w c .words) ≤ c .room
-joined-within c w h = omega (arith, span-more (c .words) w, leb-true (span (c .words) + w .gap + width (w .bytes)) (c .room) h)
+pub joined-within : (c : Collected) (w : Word) → fits c w ≡ true → length (joined w c .cells) ≤ c .room
+joined-within c w h = omega (arith, joined-length c w, leb-true (length (c .cells) + w .gap + width (w .bytes)) (c .room) h)
 
 -- What code that places words one by one does with a word that fits.
 pub place-fits : (c : Collected) (w : Word) (ws : List Word) → fits c w ≡ true → place c (w ∷ ws) ≡ place (joined w c) ws
@@ -208,7 +213,7 @@ pub record Continues (c d : Collected) : Type 0 where
   pub indent : d .indent ≡ c .indent
   pub room : d .room ≡ c .room
   pub next : d .next ≡ c .next
-  pub within : span (c .words) ≤ c .room → span (d .words) ≤ d .room
+  pub within : length (c .cells) ≤ c .room → length (d .cells) ≤ d .room
   pub roomy : Roomy c → Roomy d
 
 stays : (c : Collected) → Continues c c
@@ -225,21 +230,25 @@ more c d w e g = record {
 
 -- what `place` gives, in both cases
 abbrev Gives : Collected → List Word → Placed → Type 0
-Gives c ws (all d) = (d .words ≡ c .words ++ ws) × Continues c d
-Gives c ws (full d w rest) = (d .words ++ w ∷ rest ≡ c .words ++ ws) × Continues c d × (fits d w ≡ false)
+Gives c ws (all d) = (d .cells ≡ c .cells ++ laid ws) × Continues c d
+Gives c ws (full d w rest) = (d .cells ++ laid (w ∷ rest) ≡ c .cells ++ laid ws) × Continues c d × (fits d w ≡ false)
+
+onward : (c : Collected) (w : Word) (l : List ℕ) → joined w c .cells ++ l ≡ c .cells ++ (gapCells (w .gap) ++ (printed (w .bytes) ++ l))
+onward c w l =
+    append-assoc (c .cells) (gapCells (w .gap) ++ printed (w .bytes)) l ∙ ap (λ x. c .cells ++ x) (append-assoc (gapCells (w .gap)) (printed (w .bytes)) l)
 
 place-gives : (c : Collected) (ws : List Word) → Gives c ws (place c ws)
-unfolding place
-place-gives c [] = (sym (append-nil (c .words)), stays c)
+unfolding place laid
+place-gives c [] = (sym (append-nil (c .cells)), stays c)
 place-gives c (w ∷ ws) = go (fits c w) refl (place (joined w c) ws) (place-gives (joined w c) ws)
   where
     go : (t : Bool) → fits c w ≡ t → (x : Placed) → Gives (joined w c) ws x → Gives c (w ∷ ws) (elim t [ true ↦ x | false ↦ full c w ws ])
-    go true e (all d) g = (g .0 ∙ append-assoc (c .words) (w ∷ []) ws, more c d w e (g .1))
-    go true e (full d v rest) g = (g .0 ∙ append-assoc (c .words) (w ∷ []) ws, more c d w e (g .1), g .2)
+    go true e (all d) g = (g .0 ∙ onward c w (laid ws), more c d w e (g .1))
+    go true e (full d v rest) g = (g .0 ∙ onward c w (laid ws), more c d w e (g .1), g .2)
     go false e x g = (refl, stays c, e)
 
 -- All words placed: they stand behind those collected.
-pub place-all : (c d : Collected) (ws : List Word) → place c ws ≡ all d → d .words ≡ c .words ++ ws
+pub place-all : (c d : Collected) (ws : List Word) → place c ws ≡ all d → d .cells ≡ c .cells ++ laid ws
 place-all c d ws h = subst (Gives c ws) h (place-gives c ws) .0
 
 -- All words placed: the line goes on.
@@ -247,8 +256,8 @@ pub place-all-continues : (c d : Collected) (ws : List Word) → place c ws ≡ 
 place-all-continues c d ws h = subst (Gives c ws) h (place-gives c ws) .1
 
 module _ (c d : Collected) (w : Word) (rest ws : List Word) (h : place c ws ≡ full d w rest) where
-  -- A full line: its words, the word that does not fit and the other words are those collected and the new ones.
-  pub place-full : d .words ++ w ∷ rest ≡ c .words ++ ws
+  -- A full line: its cells and those of the word that does not fit and of the other words are those collected and the new ones.
+  pub place-full : d .cells ++ laid (w ∷ rest) ≡ c .cells ++ laid ws
   place-full = subst (Gives c ws) h (place-gives c ws) .0
 
   -- A full line: it went on up to the word that does not fit.
@@ -259,6 +268,6 @@ module _ (c d : Collected) (w : Word) (rest ws : List Word) (h : place c ws ≡ 
   pub place-full-stops : fits d w ≡ false
   place-full-stops = subst (Gives c ws) h (place-gives c ws) .2
 
-  -- A full line of two words or more is adjusted to exactly the room.
-  pub place-full-exact : Roomy c → 2 ≤ length (d .words) → span (adjusted true d) ≡ c .room
+  -- A full line with a gap is adjusted to exactly the room.
+  pub place-full-exact : Roomy c → 1 ≤ gaps (d .cells) → length (adjusted true d) ≡ c .room
   place-full-exact r i = adjusted-exact d i (place-full-continues .roomy r i) ∙ place-full-continues .room
