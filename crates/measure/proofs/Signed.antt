@@ -1,11 +1,12 @@
 -- Signed numbers: their size, and how they are read back from their bits. Assumes nothing.
-use Prim.Native.Nat.{ℕ, suc, _*_, _<_, _^_, zero-le}
+use Prim.Native.Nat.{ℕ, suc, _+_, _-_, _*_, _≤_, _<_, _^_, zero-le}
 use mathlib.Core.Path.{_≡_, refl, _∙_}
-use mathlib.Core.Bool.{true, false}
+use mathlib.Core.Bool.{Bool, true, false, cond}
 use native.Mathlib.Omega.{arith}
-use lib.IntN.{ℤ, pos, negsuc, natAbs, _*ℤ_}
+use lib.IntN.{ℤ, pos, negsuc, natAbs, _+ℤ_, _*ℤ_}
+use lib.Dec.{ltb}
 use lib.Signed.{ltZ}
-use borrow.Author.Tests.{le-ltb}
+use borrow.Author.Tests.{le-ltb, ltb-true}
 use mir.Syntax.{Width, w32, w64}
 use mir.Val.{SFits, toZ, ofZ}
 use mir.Facts.{toZ-ofZ, sfits-widen}
@@ -15,6 +16,17 @@ use Rattle.measure.specs.Counts.{natOf}
 pub abs-mul : (z : ℤ) (s : ℕ) → natAbs (z *ℤ pos s) ≡ natAbs z * s
 abs-mul (pos n) s = refl
 abs-mul (negsuc n) s = abs-neg (pos (suc n * s))
+
+-- the size of a sum
+abs-sub : (a b : ℕ) (t : Bool) → ltb a b ≡ t → natAbs (cond t (negsuc (b - suc a)) (pos (a - b))) ≤ a + b
+abs-sub a b true e = let h = ltb-true a b e in omega arith
+abs-sub a b false e = omega arith
+
+pub abs-add : (a b : ℤ) → natAbs (a +ℤ b) ≤ natAbs a + natAbs b
+abs-add (pos a) (pos b) = omega arith
+abs-add (pos a) (negsuc b) = abs-sub a (suc b) (ltb a (suc b)) refl
+abs-add (negsuc a) (pos b) = let h = abs-sub b (suc a) (ltb b (suc a)) refl in omega arith
+abs-add (negsuc a) (negsuc b) = omega arith
 
 pub small : (z : ℤ) → natAbs z < 2 ^ 63 → SFits w64 z
 small (pos n) h = record { sfits = h }

@@ -162,25 +162,25 @@ pub fn units_of_rows(rows: Rows, pitch: Pitch) -> i64
 }
 
 // A count of cells as a plain number; a negative one is none.
-pub fn across(cells: Cells) -> usize
+pub fn across(cells: Cells) -> u32
     ensures { λ r. ⌜ r ≡ acrossOf cells ⌝ }
 {
     let n = cells.0;
     if n < 0 {
         return 0;
     }
-    n as usize
+    n as u32
 }
 
 // A count of rows as a plain number; a negative one is none.
-pub fn down(rows: Rows) -> usize
+pub fn down(rows: Rows) -> u32
     ensures { λ r. ⌜ r ≡ downOf rows ⌝ }
 {
     let n = rows.0;
     if n < 0 {
         return 0;
     }
-    n as usize
+    n as u32
 }
 
 // So many cells.

@@ -33,7 +33,7 @@ pub fn start_page(page: Page, length: Rows, planted: Planted) -> Moved
             used: Rows(0),
             last: page.last,
         };
-        return Moved::On(next, traps::seen_at(planted, measure::down(length), 0));
+        return Moved::On(next, traps::seen_at(planted, measure::down(length) as usize, 0));
     }
     Moved::TooMany
 }
@@ -43,8 +43,8 @@ pub fn move_down(page: Page, rows: u16, length: Rows, planted: Planted) -> Moved
     requires { ⌜ Sound page length planted ⌝ }
     ensures { λ r. ⌜ landingIs r ≡ landingDown (pageOf page) (downOf length) rows (plantedOf planted) ⌝ }
 {
-    let to = measure::down(page.used) + rows as usize;
-    let end = measure::down(length);
+    let to = measure::down(page.used) as usize + rows as usize;
+    let end = measure::down(length) as usize;
     if to < end {
         let moved = Page {
             number: page.number,
@@ -64,8 +64,8 @@ pub fn rows_below(page: Page, length: Rows, planted: Planted) -> u16
     requires { ⌜ Sound page length planted ⌝ }
     ensures { λ r. ⌜ r ≡ below (pageOf page) (downOf length) (plantedOf planted) ⌝ }
 {
-    let used = measure::down(page.used);
-    let end = measure::down(length);
+    let used = measure::down(page.used) as usize;
+    let end = measure::down(length) as usize;
     (traps::nearest_lent(planted, end, used, end) - used) as u16
 }
 

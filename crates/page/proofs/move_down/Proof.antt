@@ -57,13 +57,21 @@ returns-3 c =
     c .start-page .ensures
     ∙ onward (pageOf (a .page)) (downOf (a .length)) (plantedOf (a .planted)) (a .rows) (omega (arith, y .down .ensures, c .before .before .before .down2 .ensures)) (c .before .if2 .left)
 
+cast-to : tie.Need-cast-to
+cast-to c = search needs
+
+cast-end : tie.Need-cast-end
+cast-end c = search needs
+
 pub move-down-spec : {M : Type 1} → statement M
 move-down-spec =
     tie.close
     (tie.spec
     down-requires
+    cast-to
     add-to
     down-requires-2
+    cast-end
     cast-rows-down
     rows-down-requires
     seen-at-requires

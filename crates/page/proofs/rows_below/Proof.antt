@@ -40,7 +40,21 @@ cast-result c =
 returns : tie.Need-returns
 returns c = omega (arith, nearest c, c .before .before .down .ensures)
 
+cast-used : tie.Need-cast-used
+cast-used c = search needs
+
+cast-end : tie.Need-cast-end
+cast-end c = search needs
+
 pub rows-below-spec : {M : Type 1} → statement M
 rows-below-spec =
     tie.close
-    (tie.spec down-requires down-requires-2 nearest-lent-requires sub-result cast-result returns)
+    (tie.spec
+    down-requires
+    cast-used
+    down-requires-2
+    cast-end
+    nearest-lent-requires
+    sub-result
+    cast-result
+    returns)

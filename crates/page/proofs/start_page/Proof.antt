@@ -11,9 +11,6 @@ use Rattle.page.proofs.Landings.{next-there, next-past}
 use Rattle.page.proofs.start_page.Statement.{statement}
 use Rattle.page.proofs.start_page.Tie as tie
 
-add-t6 : tie.Need-add-t6
-add-t6 c = search needs
-
 down-requires : tie.Need-down-requires
 down-requires c κs = search needs
 
@@ -28,5 +25,12 @@ returns c =
 returns-2 : tie.Need-returns-2
 returns-2 c = let a = c .before .before .args in next-past (pageOf (a .page)) (downOf (a .length)) (plantedOf (a .planted)) (omega arith)
 
+add-seen-at : tie.Need-add-seen-at
+add-seen-at c = search needs
+
+cast-seen-at : tie.Need-cast-seen-at
+cast-seen-at c = search needs
+
 pub start-page-spec : {M : Type 1} → statement M
-start-page-spec = tie.close (tie.spec add-t6 down-requires seen-at-requires returns returns-2)
+start-page-spec =
+    tie.close (tie.spec add-seen-at down-requires cast-seen-at seen-at-requires returns returns-2)
