@@ -33,7 +33,10 @@ pub fn start_page(page: Page, length: Rows, planted: Planted) -> Moved
             used: Rows(0),
             last: page.last,
         };
-        return Moved::On(next, traps::seen_at(planted, measure::down(length) as usize, 0));
+        return Moved::On(
+            next,
+            traps::seen_at(planted, measure::down(length) as usize, 0),
+        );
     }
     Moved::TooMany
 }
