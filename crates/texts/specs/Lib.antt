@@ -1,2 +1,4 @@
 pub mod Table
 pub mod Places
+pub mod Lines
+pub mod Requests
