@@ -141,10 +141,10 @@ textOf-place n st (r ∷ rs) = go (sameName n (r .name)) refl (textOf-place n (d
     go false e ih = found-later n first (cut (drop (r .size) st) rs) e ∙ ih ∙ sym (textIn-next n (placeOf n (names rs)) st r rs)
 
 module _ (st fs ss ks ls : List ℕ) (n : ℕ) (h : Lies st fs ss ks ls n) where
-  rows-same : length (zipWith twoBytes fs ss) ≡ length (zipWith asPair ks ls)
+  pub rows-same : length (zipWith twoBytes fs ss) ≡ length (zipWith asPair ks ls)
   rows-same = omega (arith, zip-length twoBytes fs ss (omega arith), zip-length asPair ks ls (omega arith))
 
-  rows-long : length (zipWith row (zipWith twoBytes fs ss) (zipWith asPair ks ls)) ≡ 64
+  pub rows-long : length (zipWith row (zipWith twoBytes fs ss) (zipWith asPair ks ls)) ≡ 64
   rows-long =
       omega (arith, zip-length twoBytes fs ss (omega arith), zip-length row (zipWith twoBytes fs ss) (zipWith asPair ks ls) rows-same)
 

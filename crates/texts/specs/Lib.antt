@@ -2,3 +2,4 @@ pub mod Table
 pub mod Places
 pub mod Lines
 pub mod Requests
+pub mod Changes
