@@ -1,3 +1,5 @@
 pub mod Places
 pub mod Readers
 pub mod Escapes
+pub mod Buffers
+pub mod Totals

@@ -4,6 +4,9 @@ use rules::Name;
 use rules::Turn;
 ghost use Prim.Native.Nat.{_≤_};
 ghost use lib.ListN.{length};
+ghost use mathlib.Core.List.{[], _∷_};
+ghost use Rattle.scan.specs.Writes.{Room, WroteTo, CopiedTo};
+ghost use Rattle.rules.specs.Escapes.{escaped};
 ghost use Rattle.rules.specs.Escapes.{number, aString, slash, numbering, naming, argument};
 ghost use Rattle.rules.specs.declared.Mode.the-variants.{Plain, Copy};
 ghost use Rattle.scan.specs.Readings.{lone, ReadingIs, ReadingIn, NamingIs};
@@ -237,4 +240,131 @@ pub fn escape_at(text: &[u8], at: usize, mode: Mode) -> Reading
         Mode::Plain => plain_at(text, at),
         Mode::Copy => copy_at(text, at),
     }
+}
+
+// The place after what was written, or no room for all of it.
+pub enum Wrote {
+    To(usize),
+    Full,
+}
+
+fn put_byte(byte: u8, out: &mut [u8; 512], written: usize, limit: usize) -> Wrote
+    requires { ⌜ Room (now out) written limit ⌝ }
+    ensures { λ r. ⌜ WroteTo r (byte ∷ []) (now (out .entry)) written limit (now (out .exit)) ⌝ }
+{
+    if limit <= written {
+        return Wrote::Full;
+    }
+    out[written] = byte;
+    Wrote::To(written + 1)
+}
+
+// A backslash and a byte.
+fn put_kept(byte: u8, out: &mut [u8; 512], written: usize, limit: usize) -> Wrote
+    requires { ⌜ Room (now out) written limit ⌝ }
+    ensures { λ r. ⌜ WroteTo r (92 ∷ byte ∷ []) (now (out .entry)) written limit (now (out .exit)) ⌝ }
+{
+    let room = limit - written;
+    if room < 2 {
+        return Wrote::Full;
+    }
+    out[written] = b'\\';
+    let second = written + 1;
+    out[second] = byte;
+    Wrote::To(second + 1)
+}
+
+// All of the bytes, if they have room.
+pub fn copy_bytes(bytes: &[u8], out: &mut [u8; 512], written: usize, limit: usize) -> Wrote
+    requires { ⌜ Room (now out) written limit ⌝ }
+    ensures { λ r. ⌜ WroteTo r (now (bytes .entry)) (now (out .entry)) written limit (now (out .exit)) ⌝ }
+{
+    let room = limit - written;
+    if room < bytes.len() {
+        return Wrote::Full;
+    }
+    let mut n = written;
+    let mut i = 0;
+    while i < bytes.len() {
+        let byte = bytes[i];
+        out[n] = byte;
+        n += 1;
+        i += 1;
+    }
+    Wrote::To(n)
+}
+
+// "There \$, and ds after an if, write backslash, mark and fixed blank as \e, \& and backslash-space"
+fn put_escaped(byte: u8, out: &mut [u8; 512], written: usize, limit: usize) -> Wrote
+    requires { ⌜ Room (now out) written limit ⌝ }
+    ensures { λ r. ⌜ WroteTo r (escaped (byte ∷ [])) (now (out .entry)) written limit (now (out .exit)) ⌝ }
+{
+    match byte {
+        92 => put_kept(b'e', &mut *out, written, limit),
+        2 => put_kept(b'&', &mut *out, written, limit),
+        3 => put_kept(b' ', &mut *out, written, limit),
+        _ => put_byte(byte, &mut *out, written, limit),
+    }
+}
+
+// All of the bytes with their escapes written back, if they have room.
+pub fn write_back(bytes: &[u8], out: &mut [u8; 512], written: usize, limit: usize) -> Wrote
+    requires { ⌜ Room (now out) written limit ⌝ }
+    ensures { λ r. ⌜ WroteTo r (escaped (now (bytes .entry))) (now (out .entry)) written limit (now (out .exit)) ⌝ }
+{
+    let mut n = written;
+    let mut i = 0;
+    while i < bytes.len() {
+        let byte = bytes[i];
+        match put_escaped(byte, &mut *out, n, limit) {
+            Wrote::To(next) => {
+                n = next;
+            }
+            Wrote::Full => {
+                return Wrote::Full;
+            }
+        }
+        i += 1;
+    }
+    Wrote::To(n)
+}
+
+// A place of the text, how many bytes may still be scanned there, and how many are written; or a refusal.
+enum Copied {
+    Upto(usize, usize, usize),
+    Refused(u8),
+}
+
+// The bytes up to a backslash or the end of the text.
+fn copy_plain(
+    text: &[u8],
+    at: usize,
+    left: usize,
+    out: &mut [u8; 512],
+    written: usize,
+    limit: usize,
+) -> Copied
+    requires { ⌜ (at ≤ length (now text)) × Room (now out) written limit ⌝ }
+    ensures { λ r. ⌜ CopiedTo r (now (text .entry)) at left written limit (now (out .entry)) (now (out .exit)) ⌝ }
+{
+    let mut i = at;
+    let mut rest = left;
+    let mut n = written;
+    while i < text.len() {
+        let byte = text[i];
+        if byte == b'\\' {
+            return Copied::Upto(i, rest, n);
+        }
+        if rest == 0 {
+            return Copied::Refused(4);
+        }
+        if limit <= n {
+            return Copied::Refused(3);
+        }
+        out[n] = byte;
+        i += 1;
+        rest -= 1;
+        n += 1;
+    }
+    Copied::Upto(i, rest, n)
 }

@@ -6,8 +6,6 @@ use native.Mathlib.Omega.{arith}
 use borrow.Author.Needs.{needs}
 use Rattle.scan.proofs.argument_at.Statement.{statement}
 use Rattle.scan.proofs.argument_at.Tie as tie
-use Rattle.scan.proofs.argument_at.Reads as reads
-use Rattle.scan.proofs.argument_at.Lts as lts
 
 returns : tie.Need-returns
 returns c = λ m. is-cut (c .if1 .taken) (c .before .pre) refl

@@ -2,10 +2,6 @@
 use borrow.Author.Needs.{needs}
 use Rattle.scan.proofs.escape_at.Statement.{statement}
 use Rattle.scan.proofs.escape_at.Tie as tie
-use Rattle.scan.proofs.escape_at.Reads as reads
-use Rattle.scan.proofs.escape_at.Lts as lts
-use Rattle.scan.proofs.copy_at.Reads as copy-at-reads
-use Rattle.scan.proofs.plain_at.Reads as plain-at-reads
 
 enum-told : tie.Need-enum-told
 enum-told c = search needs

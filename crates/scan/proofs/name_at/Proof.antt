@@ -4,8 +4,6 @@ use native.Mathlib.Omega.{arith}
 use borrow.Author.Needs.{needs}
 use Rattle.scan.proofs.name_at.Statement.{statement}
 use Rattle.scan.proofs.name_at.Tie as tie
-use Rattle.scan.proofs.name_at.Reads as reads
-use Rattle.scan.proofs.name_at.Lts as lts
 
 returns : tie.Need-returns
 returns c = let a = c .before .args in name-none (a .text .now) (a .at) (c .if1 .taken) (c .before .pre)

@@ -15,11 +15,6 @@ use native.Mathlib.Omega.{arith}
 use borrow.Author.Needs.{needs}
 use Rattle.scan.proofs.plain_at.Statement.{statement}
 use Rattle.scan.proofs.plain_at.Tie as tie
-use Rattle.scan.proofs.plain_at.Reads as reads
-use Rattle.scan.proofs.plain_at.Lts as lts
-use Rattle.scan.proofs.argument_at.Reads as argument-at-reads
-use Rattle.scan.proofs.register_at.Reads as register-at-reads
-use Rattle.scan.proofs.string_at.Reads as string-at-reads
 
 -- `scan::plain_at` meets its contract: each byte picks an entry of the rules' table. Assumes nothing.
 

@@ -5,9 +5,6 @@ use native.Mathlib.Omega.{arith}
 use borrow.Author.Needs.{needs}
 use Rattle.scan.proofs.register_at.Statement.{statement}
 use Rattle.scan.proofs.register_at.Tie as tie
-use Rattle.scan.proofs.register_at.Reads as reads
-use Rattle.scan.proofs.register_at.Lts as lts
-use Rattle.scan.proofs.number_at.Reads as number-at-reads
 
 returns : tie.Need-returns
 returns c = λ m. is-cut (c .if1 .taken) (c .before .before .pre) refl

@@ -4,9 +4,6 @@ use mathlib.Core.Path.{refl, ap}
 use borrow.Author.Needs.{needs}
 use Rattle.scan.proofs.string_at.Statement.{statement}
 use Rattle.scan.proofs.string_at.Tie as tie
-use Rattle.scan.proofs.string_at.Reads as reads
-use Rattle.scan.proofs.string_at.Lts as lts
-use Rattle.scan.proofs.name_at.Reads as name-at-reads
 
 -- `scan::string_at` meets its contract: a name is read as the name of a string. Assumes nothing.
 
