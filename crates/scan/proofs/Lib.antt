@@ -3,3 +3,4 @@ pub mod Readers
 pub mod Escapes
 pub mod Buffers
 pub mod Totals
+pub mod Decimals

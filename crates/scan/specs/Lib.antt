@@ -1,3 +1,4 @@
 pub mod Readings
 pub mod Runs
 pub mod Writes
+pub mod Digits

@@ -7,6 +7,10 @@ ghost use lib.ListN.{length};
 ghost use mathlib.Core.List.{[], _∷_};
 ghost use Rattle.scan.specs.Writes.{Room, WroteTo, CopiedTo};
 ghost use Rattle.rules.specs.Escapes.{escaped};
+ghost use mathlib.Core.Path.{_≡_};
+ghost use lib.IntN.{natAbs};
+ghost use Rattle.rules.specs.Registers.{decimal};
+ghost use Rattle.scan.specs.Digits.{DigitsAt};
 ghost use Rattle.rules.specs.Escapes.{number, aString, slash, numbering, naming, argument};
 ghost use Rattle.rules.specs.declared.Mode.the-variants.{Plain, Copy};
 ghost use Rattle.scan.specs.Readings.{lone, ReadingIs, ReadingIn, NamingIs};
@@ -327,6 +331,49 @@ pub fn write_back(bytes: &[u8], out: &mut [u8; 512], written: usize, limit: usiz
         i += 1;
     }
     Wrote::To(n)
+}
+
+// A value without its sign; that of the least i32 is no i32.
+fn magnitude(value: i32) -> u32
+    ensures { λ r. ⌜ r ≡ natAbs value ⌝ }
+{
+    let wide = value as i64;
+    if wide < 0 {
+        return (0 - wide) as u32;
+    }
+    wide as u32
+}
+
+// Writes the digits of a value at the end of a buffer, and gives the place of the first.
+fn digits_of(value: u32, digits: &mut [u8; 11]) -> usize
+    requires { ⌜ length (now digits) ≡ 11 ⌝ }
+    ensures { λ r. ⌜ DigitsAt value r (now (digits .exit)) ⌝ }
+{
+    let mut n = value;
+    let mut at: usize = 11;
+    while 10 <= n {
+        at -= 1;
+        digits[at] = b'0' + (n % 10) as u8;
+        n = n / 10;
+    }
+    at -= 1;
+    digits[at] = b'0' + n as u8;
+    at
+}
+
+// "give a register in decimal"
+pub fn write_number(value: i32, out: &mut [u8; 512], written: usize, limit: usize) -> Wrote
+    requires { ⌜ Room (now out) written limit ⌝ }
+    ensures { λ r. ⌜ WroteTo r (decimal value) (now (out .entry)) written limit (now (out .exit)) ⌝ }
+{
+    let mut digits = [0u8; 11];
+    let at = digits_of(magnitude(value), &mut digits);
+    if value < 0 {
+        let sign = at - 1;
+        digits[sign] = b'-';
+        return copy_bytes(&digits[sign..], &mut *out, written, limit);
+    }
+    copy_bytes(&digits[at..], &mut *out, written, limit)
 }
 
 // A place of the text, how many bytes may still be scanned there, and how many are written; or a refusal.

@@ -9,8 +9,6 @@ use native.Mathlib.Omega.{arith}
 use Rattle.scan.proofs.copy_bytes.Statement.{statement}
 use Rattle.scan.proofs.copy_bytes.Tie as tie
 
--- `scan::copy_bytes` meets its contract. The invariant: the first i bytes are written. Assumes nothing.
-
 abbrev Inv-loop : tie.InvT-loop
 Inv-loop bytes out₀ written limit room n₀ i₀ out n i = (i ≤ length bytes) × (n ≡ written + i) × Put (take i bytes) out₀ written limit n out
 

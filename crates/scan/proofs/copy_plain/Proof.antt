@@ -8,8 +8,6 @@ use native.Mathlib.Omega.{arith}
 use Rattle.scan.proofs.copy_plain.Statement.{statement}
 use Rattle.scan.proofs.copy_plain.Tie as tie
 
--- `scan::copy_plain` meets its contract. The invariant: what the rules make of the text is what they make of it from i on. Assumes nothing.
-
 abbrev Inv-loop : tie.InvT-loop
 Inv-loop text at left out₀ written limit i₀ rest₀ n₀ out i rest n = Passed text at left written limit out₀ i rest n out
 

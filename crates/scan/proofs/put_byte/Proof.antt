@@ -5,8 +5,6 @@ use borrow.Author.Needs.{needs}
 use Rattle.scan.proofs.put_byte.Statement.{statement}
 use Rattle.scan.proofs.put_byte.Tie as tie
 
--- `scan::put_byte` meets its contract. Assumes nothing.
-
 returns : tie.Need-returns
 returns c = search needs
 

@@ -4,8 +4,6 @@ use borrow.Author.Needs.{needs}
 use Rattle.scan.proofs.put_escaped.Statement.{statement}
 use Rattle.scan.proofs.put_escaped.Tie as tie
 
--- `scan::put_escaped` meets its contract, byte by byte. Assumes nothing.
-
 put-kept-requires : tie.Need-put-kept-requires
 put-kept-requires c κs = search needs
 

@@ -5,8 +5,6 @@ use borrow.Author.Needs.{needs}
 use Rattle.scan.proofs.put_kept.Statement.{statement}
 use Rattle.scan.proofs.put_kept.Tie as tie
 
--- `scan::put_kept` meets its contract: one byte, and one more. Assumes nothing.
-
 sub-room : tie.Need-sub-room
 sub-room c = search needs
 

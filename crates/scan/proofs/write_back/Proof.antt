@@ -10,8 +10,6 @@ use native.Mathlib.Omega.{arith}
 use Rattle.scan.proofs.write_back.Statement.{statement}
 use Rattle.scan.proofs.write_back.Tie as tie
 
--- `scan::write_back` meets its contract. The invariant: the first i bytes are written, with their escapes. Assumes nothing.
-
 abbrev Inv-loop : tie.InvT-loop
 Inv-loop bytes out₀ written limit n₀ i₀ out n i = (i ≤ length bytes) × Put (escaped (take i bytes)) out₀ written limit n out
 
