@@ -4,3 +4,4 @@ pub mod Escapes
 pub mod Buffers
 pub mod Totals
 pub mod Decimals
+pub mod Actions

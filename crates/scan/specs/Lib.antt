@@ -2,3 +2,5 @@ pub mod Readings
 pub mod Runs
 pub mod Writes
 pub mod Digits
+pub mod Around
+pub mod Acts

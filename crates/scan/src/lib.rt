@@ -1,7 +1,11 @@
 // The expansion of a line: its escapes, its strings and its registers.
+use registers::Referred;
+use registers::Shown;
+use rules::Kind;
 use rules::Mode;
 use rules::Name;
 use rules::Turn;
+use texts::Found;
 ghost use Prim.Native.Nat.{_≤_};
 ghost use lib.ListN.{length};
 ghost use mathlib.Core.List.{[], _∷_};
@@ -11,6 +15,8 @@ ghost use mathlib.Core.Path.{_≡_};
 ghost use lib.IntN.{natAbs};
 ghost use Rattle.rules.specs.Registers.{decimal};
 ghost use Rattle.scan.specs.Digits.{DigitsAt};
+ghost use Rattle.registers.specs.Columns.{Table};
+ghost use Rattle.scan.specs.Acts.{wroteAs, ShownTo};
 ghost use Rattle.rules.specs.Escapes.{number, aString, slash, numbering, naming, argument};
 ghost use Rattle.rules.specs.declared.Mode.the-variants.{Plain, Copy};
 ghost use Rattle.scan.specs.Readings.{lone, ReadingIs, ReadingIn, NamingIs};
@@ -414,4 +420,56 @@ fn copy_plain(
         n += 1;
     }
     Copied::Upto(i, rest, n)
+}
+
+// What an action came to: so many bytes are written; a string's bytes are to be read, from a place of the store on, so
+// many; the line ends; or a refusal.
+enum Acted {
+    Wrote(usize),
+    Enters(usize, usize),
+    Ends,
+    Refused(u8),
+}
+
+// What bytes written come to: "3: .. expanded line passes 512 bytes".
+fn wrote_as(wrote: Wrote) -> Acted
+    ensures { λ r. ⌜ r ≡ wroteAs wrote ⌝ }
+{
+    match wrote {
+        Wrote::To(n) => Acted::Wrote(n),
+        Wrote::Full => Acted::Refused(3),
+    }
+}
+
+// A reference to a register, written in decimal.
+fn show_register(
+    firsts: &[u8; 64],
+    seconds: &[u8; 64],
+    values: &mut [i32; 64],
+    steps: &[i32; 64],
+    count: usize,
+    shown: Shown,
+    turn: Turn,
+    name: Name,
+    out: &mut [u8; 512],
+    written: usize,
+    limit: usize,
+) -> Acted
+    requires { ⌜ Table (now firsts) (now seconds) (now values) (now steps) count × Room (now out) written limit ⌝ }
+    ensures { λ r. ⌜ ShownTo r shown (now (firsts .entry)) (now (seconds .entry)) (now (values .entry)) (now (steps .entry)) count turn name (now (out .entry)) written limit (now (out .exit)) (now (values .exit)) ⌝ }
+{
+    match registers::refer(
+        firsts,
+        seconds,
+        &mut *values,
+        steps,
+        count,
+        shown,
+        turn,
+        name,
+    ) {
+        Referred::Is(value) => wrote_as(write_number(value, &mut *out, written, limit)),
+        Referred::Bad => Acted::Refused(6),
+        Referred::ReadOnly => Acted::Refused(7),
+    }
 }

@@ -1,0 +1,76 @@
+-- What each action comes to. Assumes nothing.
+use mathlib.Core.Path.{_≡_, refl, sym, ap, _∙_}
+use mathlib.Core.List.{List, [], _∷_}
+use Prim.Native.Nat.{ℕ, _+_, _-_, _≤_, _<_}
+use native.Mathlib.Omega.{arith}
+use lib.ListN.{length, take, drop}
+use lib.IntN.{ℤ}
+use Rattle.rules.specs.declared.Name.{Name}
+use Rattle.rules.specs.declared.Turn.{Turn}
+use Rattle.rules.specs.declared.Register.{Register}
+use Rattle.rules.specs.declared.Mode.{Mode}
+use Rattle.rules.specs.Refusals.{value, bad}
+use Rattle.rules.specs.Registers.{Reference, stepRegister, decimal}
+use Rattle.rules.specs.Texts.{Text}
+use Rattle.rules.specs.Escapes.{Surroundings, Scanned, refused, number, aString, Action, writes, wants, before, follow, next, showIt, run}
+use Rattle.registers.specs.declared.Shown.{Shown}
+use Rattle.registers.specs.declared.Referred.{Referred}
+use Rattle.registers.specs.declared.Referred.the-variants.{Is, Bad, ReadOnly}
+use Rattle.registers.specs.Columns.{Table, tableOf}
+use Rattle.registers.specs.ReadOnly.{seenOf, ReferTo}
+use Rattle.scan.specs.declared.Wrote as kinds
+use Rattle.scan.specs.declared.Wrote.the-variants as wrote
+use Rattle.scan.specs.declared.Acted.{Acted}
+use Rattle.scan.specs.declared.Acted.the-variants.{Wrote, Enters, Ends, Refused}
+use Rattle.scan.specs.Runs.{standing, acts, total}
+use Rattle.scan.specs.Writes.{Room, Put, WroteTo}
+use Rattle.scan.specs.Acts.{wroteAs, behind, ActedTo, ShownTo}
+use Rattle.scan.proofs.Totals.{put-total, full-total}
+
+-- bytes are written, or have no room
+pub acted-writes : (x : kinds.Wrote) (w : Surroundings) (m : Mode) (store : List ℕ) {out : List ℕ} {written limit : ℕ} (depth : ℕ) (l : List ℕ) (rs : List Register) {out' : List ℕ}
+    → Room out written limit → WroteTo x l out written limit out' → ActedTo (wroteAs x) w m store out written limit depth (writes l) rs out' rs
+acted-writes (wrote.To n) w m store {out} {written} {limit} depth l rs {out'} r p = record {
+  is = λ left t u e. put-total w m l left (t ∷ u) rs out written limit n out' p;
+  sound = (record { long = p .long; low = p .fits; high = r .high }, omega (arith, p .count), p .kept) }
+acted-writes wrote.Full w m store {out} {written} {limit} depth l rs {out'} r p = record {
+  is = λ left t u e. full-total w m l left (t ∷ u) rs out written limit (r .low) (p .0);
+  sound = p .1 }
+
+-- a register that has a value, and one that is refused
+module _ (w : Surroundings) (m : Mode) (turn : Turn) (name : Name) (left : ℕ) (u : List (List ℕ)) (room : ℕ) (rs : List Register) where
+  by-reference : {x : Reference} → x ≡ stepRegister (w .seen) turn name rs
+      → acts w m (wants (number turn) name) left u room rs ≡ follow (showIt x (standing u room rs)) (λ s. run w m left (next (s .unread) s))
+  by-reference e = ap (λ x. follow (showIt x (standing u room rs)) (λ s. run w m left (next (s .unread) s))) (sym e)
+
+module _ {shown : Shown} {fs ss : List ℕ} {vs ts : List ℤ} {count : ℕ} {turn : Turn} {name : Name} {vs' : List ℤ} {out : List ℕ} {written limit : ℕ} where
+  pub shown-is : (v : ℤ) (x : kinds.Wrote) {out' : List ℕ} → ReferTo fs ss vs ts count shown turn name (Is v) vs' → Room out written limit → WroteTo x (decimal v) out written limit out'
+      → ShownTo (wroteAs x) shown fs ss vs ts count turn name out written limit out' vs'
+  shown-is v x {out'} f r p = record {
+    is = λ texts arguments m store depth.
+        let w : Surroundings = record { seen = seenOf shown; texts = texts; arguments = arguments } in
+        let a = acted-writes x w m store depth (decimal v) (tableOf fs ss vs' ts count) r p in
+        record {
+          is = λ left t u e. ap (before (take written out)) (by-reference w m turn name left (t ∷ u) (limit - written) (tableOf fs ss vs ts count) (f .is)) ∙ a .is left t u e;
+          sound = a .sound };
+    table = f .table }
+
+  pub shown-bad : ReferTo fs ss vs ts count shown turn name Bad vs' → Room out written limit → ShownTo (Refused 6) shown fs ss vs ts count turn name out written limit out vs'
+  shown-bad f r = record {
+    is = λ texts arguments m store depth.
+        let w : Surroundings = record { seen = seenOf shown; texts = texts; arguments = arguments } in
+        record {
+          is = λ left t u e. ap (before (take written out)) (by-reference w m turn name left (t ∷ u) (limit - written) (tableOf fs ss vs ts count) (f .is))
+              ∙ ap (λ l. refused 6 (tableOf fs ss l ts count)) (sym (f .kept));
+          sound = r .long };
+    table = f .table }
+
+  pub shown-read-only : ReferTo fs ss vs ts count shown turn name ReadOnly vs' → Room out written limit → ShownTo (Refused 7) shown fs ss vs ts count turn name out written limit out vs'
+  shown-read-only f r = record {
+    is = λ texts arguments m store depth.
+        let w : Surroundings = record { seen = seenOf shown; texts = texts; arguments = arguments } in
+        record {
+          is = λ left t u e. ap (before (take written out)) (by-reference w m turn name left (t ∷ u) (limit - written) (tableOf fs ss vs ts count) (f .is))
+              ∙ ap (λ l. refused 7 (tableOf fs ss l ts count)) (sym (f .kept));
+          sound = r .long };
+    table = f .table }
