@@ -1,6 +1,8 @@
 -- What each action comes to. Assumes nothing.
 use mathlib.Core.Path.{_≡_, refl, sym, ap, _∙_}
 use mathlib.Core.List.{List, [], _∷_}
+use mathlib.Core.Option.{Option, none, some}
+use borrow.Author.Tests.{le-leb, lt-leb}
 use Prim.Native.Nat.{ℕ, _+_, _-_, _≤_, _<_}
 use native.Mathlib.Omega.{arith}
 use lib.ListN.{length, take, drop}
@@ -11,8 +13,8 @@ use Rattle.rules.specs.declared.Register.{Register}
 use Rattle.rules.specs.declared.Mode.{Mode}
 use Rattle.rules.specs.Refusals.{value, bad}
 use Rattle.rules.specs.Registers.{Reference, stepRegister, decimal}
-use Rattle.rules.specs.Texts.{Text}
-use Rattle.rules.specs.Escapes.{Surroundings, Scanned, refused, number, aString, Action, writes, wants, before, follow, next, showIt, run}
+use Rattle.rules.specs.Texts.{Text, text, textOf}
+use Rattle.rules.specs.Escapes.{Surroundings, Scanned, refused, number, aString, Action, writes, wants, before, follow, next, showIt, enter, run}
 use Rattle.registers.specs.declared.Shown.{Shown}
 use Rattle.registers.specs.declared.Referred.{Referred}
 use Rattle.registers.specs.declared.Referred.the-variants.{Is, Bad, ReadOnly}
@@ -22,9 +24,15 @@ use Rattle.scan.specs.declared.Wrote as kinds
 use Rattle.scan.specs.declared.Wrote.the-variants as wrote
 use Rattle.scan.specs.declared.Acted.{Acted}
 use Rattle.scan.specs.declared.Acted.the-variants.{Wrote, Enters, Ends, Refused}
-use Rattle.scan.specs.Runs.{standing, acts, total}
+use Rattle.scan.specs.Runs.{standing, from, acts, total}
 use Rattle.scan.specs.Writes.{Room, Put, WroteTo}
-use Rattle.scan.specs.Acts.{wroteAs, behind, ActedTo, ShownTo}
+use Rattle.scan.specs.Acts.{wroteAs, behind, ActedTo, ShownTo, EnteredTo}
+use Rattle.rules.specs.declared.Kind.the-variants.{Macro, String}
+use Rattle.texts.specs.declared.Spot.{Spot}
+use Rattle.texts.specs.declared.Found.the-variants.{There, Nothing}
+use Rattle.texts.specs.Table.{textsOf}
+use Rattle.texts.specs.Places.{partOf, LookedUp}
+use Rattle.scan.proofs.Escapes.{before-nothing}
 use Rattle.scan.proofs.Totals.{put-total, full-total}
 
 -- bytes are written, or have no room
@@ -74,3 +82,52 @@ module _ {shown : Shown} {fs ss : List ℕ} {vs ts : List ℤ} {count : ℕ} {tu
               ∙ ap (λ l. refused 7 (tableOf fs ss l ts count)) (sym (f .kept));
           sound = r .long };
     table = f .table }
+
+-- a string where there are eight already, and where there are fewer
+module _ (w : Surroundings) (m : Mode) (name : Name) (l : List ℕ) (left : ℕ) (u : List (List ℕ)) (room : ℕ) (rs : List Register) where
+  deep : 8 < length u → follow (enter (some (text name String l)) (standing u room rs)) (λ s. run w m left (next (s .unread) s)) ≡ refused 4 rs
+  deep h = rw (lt-leb (length u) 8 h)
+
+  shallow : length u ≤ 8 → follow (enter (some (text name String l)) (standing u room rs)) (λ s. run w m left (next (s .unread) s)) ≡ before [] (from w m left (l ∷ u) room rs)
+  shallow h = rw (le-leb (length u) 8 h)
+
+-- by the text that is found
+by-text : (w : Surroundings) (m : Mode) (name : Name) (left : ℕ) (u : List (List ℕ)) (room : ℕ) (rs : List Register) {x : Option Text} → x ≡ textOf name (w .texts)
+    → acts w m (wants aString name) left u room rs ≡ follow (enter x (standing u room rs)) (λ s. run w m left (next (s .unread) s))
+by-text w m name left u room rs e = ap (λ x. follow (enter x (standing u room rs)) (λ s. run w m left (next (s .unread) s))) (sym e)
+
+-- a string that is named
+module _ {store fs ss ks ls : List ℕ} {count : ℕ} {name : Name} {depth written : ℕ} where
+  pub entered-none : LookedUp store fs ss ks ls count name Nothing → EnteredTo (Wrote written) store fs ss ks ls count name depth written
+  unfolding total
+  entered-none l = record { is = λ seen arguments m out limit rs r.
+    let w : Surroundings = record { seen = seen; texts = textsOf store fs ss ks ls count; arguments = arguments } in
+    record {
+      is = λ left t u e. ap (before (take written out)) (by-text w m name left (t ∷ u) (limit - written) rs (l .is)
+          ∙ before-nothing (from w m left (t ∷ u) (limit - written) rs));
+      sound = (r, omega arith, refl) } }
+
+  module _ {spot : Spot} (l : LookedUp store fs ss ks ls count name (There spot)) where
+    pub entered-macro : spot .kind ≡ Macro → EnteredTo (Refused 9) store fs ss ks ls count name depth written
+    entered-macro k = record { is = λ seen arguments m out limit rs r.
+      let w : Surroundings = record { seen = seen; texts = textsOf store fs ss ks ls count; arguments = arguments } in
+      record {
+        is = λ left t u e. ap (before (take written out)) (by-text w m name left (t ∷ u) (limit - written) rs (ap (λ x. some (text name x (partOf store spot))) (sym k) ∙ l .is));
+        sound = r .long } }
+
+    pub entered-deep : spot .kind ≡ String → 8 ≤ depth → EnteredTo (Refused 4) store fs ss ks ls count name depth written
+    entered-deep k h = record { is = λ seen arguments m out limit rs r.
+      let w : Surroundings = record { seen = seen; texts = textsOf store fs ss ks ls count; arguments = arguments } in
+      record {
+        is = λ left t u e. ap (before (take written out)) (by-text w m name left (t ∷ u) (limit - written) rs (ap (λ x. some (text name x (partOf store spot))) (sym k) ∙ l .is)
+            ∙ deep w m name (partOf store spot) left (t ∷ u) (limit - written) rs (omega arith));
+        sound = r .long } }
+
+    pub entered-string : spot .kind ≡ String → depth < 8 → EnteredTo (Enters (spot .at) (spot .length)) store fs ss ks ls count name depth written
+    unfolding total
+    entered-string k h = record { is = λ seen arguments m out limit rs r.
+      let w : Surroundings = record { seen = seen; texts = textsOf store fs ss ks ls count; arguments = arguments } in
+      record {
+        is = λ left t u e. ap (before (take written out)) (by-text w m name left (t ∷ u) (limit - written) rs (ap (λ x. some (text name x (partOf store spot))) (sym k) ∙ l .is)
+            ∙ shallow w m name (partOf store spot) left (t ∷ u) (limit - written) rs (omega arith) ∙ before-nothing (from w m left (partOf store spot ∷ t ∷ u) (limit - written) rs));
+        sound = (refl, l .inside, omega arith) } }

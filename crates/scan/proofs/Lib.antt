@@ -5,3 +5,4 @@ pub mod Buffers
 pub mod Totals
 pub mod Decimals
 pub mod Actions
+pub mod Arguments

@@ -14,6 +14,7 @@ use Rattle.rules.specs.Escapes.{Surroundings, Scanned, scanned, refused, number
 use Rattle.registers.specs.declared.Shown.{Shown}
 use Rattle.registers.specs.Columns.{Table, tableOf}
 use Rattle.registers.specs.ReadOnly.{seenOf}
+use Rattle.texts.specs.Table.{textsOf}
 use Rattle.scan.specs.declared.Wrote as kinds
 use Rattle.scan.specs.declared.Wrote.the-variants as wrote
 use Rattle.scan.specs.declared.Acted.{Acted}
@@ -55,3 +56,8 @@ pub record ShownTo (r : Acted) (shown : Shown) (fs ss : List ℕ) (vs ts : List 
   pub is : (texts : List Text) (arguments : List (List ℕ)) (m : Mode) (store : List ℕ) (depth : ℕ)
       → ActedTo r (record { seen = seenOf shown; texts = texts; arguments = arguments }) m store out written limit depth (wants (number turn) name) (tableOf fs ss vs ts count) out' (tableOf fs ss vs' ts count)
   pub table : Table fs ss vs' ts count
+
+-- a string is entered, whatever else the line is expanded with
+pub record EnteredTo (r : Acted) (store fs ss ks ls : List ℕ) (count : ℕ) (name : Name) (depth written : ℕ) : Type 0 where
+  pub is : (seen : Seen) (arguments : List (List ℕ)) (m : Mode) (out : List ℕ) (limit : ℕ) (rs : List Register) → Room out written limit
+      → ActedTo r (record { seen = seen; texts = textsOf store fs ss ks ls count; arguments = arguments }) m store out written limit depth (wants aString name) rs out rs

@@ -31,6 +31,11 @@ pub record Arguments (bytes ends : List ℕ) (count : ℕ) : Type 0 where
   pub order : (k : ℕ) → k < count → beginOf ends k ≤ getD ends k 0
   pub inside : (k : ℕ) → k < count → getD ends k 0 ≤ length bytes
 
+-- an argument may be there, and its beginning is a number of the code's
+pub record Begins (ends : List ℕ) (k : ℕ) : Type 0 where
+  pub few : k < 9
+  pub fits : beginOf ends k ≤ 18446744073709551615
+
 -- "\$1 to \$9 an argument, not scanned again"; there are none inside a string; in copy mode with its escapes written back
 abbrev pub givenAt : Mode → (depth : ℕ) → List ℕ → List ℕ
 givenAt m (suc d) a = []

@@ -6,8 +6,8 @@ use rules::Mode;
 use rules::Name;
 use rules::Turn;
 use texts::Found;
-ghost use Prim.Native.Nat.{_≤_};
-ghost use lib.ListN.{length};
+ghost use Prim.Native.Nat.{_≤_, _<_};
+ghost use lib.ListN.{length, getD};
 ghost use mathlib.Core.List.{[], _∷_};
 ghost use Rattle.scan.specs.Writes.{Room, WroteTo, CopiedTo};
 ghost use Rattle.rules.specs.Escapes.{escaped};
@@ -16,7 +16,9 @@ ghost use lib.IntN.{natAbs};
 ghost use Rattle.rules.specs.Registers.{decimal};
 ghost use Rattle.scan.specs.Digits.{DigitsAt};
 ghost use Rattle.registers.specs.Columns.{Table};
-ghost use Rattle.scan.specs.Acts.{wroteAs, ShownTo};
+ghost use Rattle.scan.specs.Acts.{wroteAs, ShownTo, EnteredTo};
+ghost use Rattle.texts.specs.Table.{Lies};
+ghost use Rattle.scan.specs.Around.{Arguments, Begins, beginOf, argumentsOf, givenAt};
 ghost use Rattle.rules.specs.Escapes.{number, aString, slash, numbering, naming, argument};
 ghost use Rattle.rules.specs.declared.Mode.the-variants.{Plain, Copy};
 ghost use Rattle.scan.specs.Readings.{lone, ReadingIs, ReadingIn, NamingIs};
@@ -471,5 +473,79 @@ fn show_register(
         Referred::Is(value) => wrote_as(write_number(value, &mut *out, written, limit)),
         Referred::Bad => Acted::Refused(6),
         Referred::ReadOnly => Acted::Refused(7),
+    }
+}
+
+// A string that is named: its bytes are to be read next. "9: .. a macro named as a string", "4: strings nested past 8".
+fn enter_string(
+    store: &[u8],
+    firsts: &[u8; 64],
+    seconds: &[u8; 64],
+    kinds: &[u8; 64],
+    lengths: &[u16; 64],
+    count: usize,
+    name: Name,
+    depth: usize,
+    written: usize,
+) -> Acted
+    requires { ⌜ Lies (now store) (now firsts) (now seconds) (now kinds) (now lengths) count ⌝ }
+    ensures { λ r. ⌜ EnteredTo r (now (store .entry)) (now (firsts .entry)) (now (seconds .entry)) (now (kinds .entry)) (now (lengths .entry)) count name depth written ⌝ }
+{
+    match texts::look_up(store, firsts, seconds, kinds, lengths, count, name) {
+        Found::There(spot) => {
+            let kind = spot.kind;
+            match kind {
+                Kind::Macro => Acted::Refused(9),
+                Kind::String => {
+                    if 8 <= depth {
+                        return Acted::Refused(4);
+                    }
+                    Acted::Enters(spot.at, spot.length)
+                }
+            }
+        }
+        Found::Nothing => Acted::Wrote(written),
+    }
+}
+
+// Where an argument begins.
+fn begin_of(ends: &[u16; 9], k: usize) -> usize
+    requires { ⌜ Begins (now ends) k ⌝ }
+    ensures { λ r. ⌜ r ≡ beginOf (now (ends .entry)) k ⌝ }
+{
+    if k == 0 {
+        return 0;
+    }
+    let before = k - 1;
+    ends[before] as usize
+}
+
+// An argument, counted from 0, is written, in copy mode with its escapes; there are none inside a string.
+fn give_argument(
+    arguments: &[u8],
+    ends: &[u16; 9],
+    count: usize,
+    k: usize,
+    mode: Mode,
+    depth: usize,
+    out: &mut [u8; 512],
+    written: usize,
+    limit: usize,
+) -> Wrote
+    requires { ⌜ Arguments (now arguments) (now ends) count × Room (now out) written limit ⌝ }
+    ensures { λ r. ⌜ WroteTo r (givenAt mode depth (getD (argumentsOf (now (arguments .entry)) (now (ends .entry)) count) k [])) (now (out .entry)) written limit (now (out .exit)) ⌝ }
+{
+    if 0 < depth {
+        return Wrote::To(written);
+    }
+    if count <= k {
+        return Wrote::To(written);
+    }
+    let begin = begin_of(ends, k);
+    let end = ends[k] as usize;
+    let argument = &arguments[begin..end];
+    match mode {
+        Mode::Plain => copy_bytes(argument, &mut *out, written, limit),
+        Mode::Copy => write_back(argument, &mut *out, written, limit),
     }
 }
