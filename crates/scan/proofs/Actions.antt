@@ -1,11 +1,11 @@
 -- What each action comes to. Assumes nothing.
 use mathlib.Core.Path.{_≡_, refl, sym, ap, _∙_}
-use mathlib.Core.List.{List, [], _∷_}
+use mathlib.Core.List.{List, [], _∷_, append-nil}
 use mathlib.Core.Option.{Option, none, some}
 use borrow.Author.Tests.{le-leb, lt-leb}
 use Prim.Native.Nat.{ℕ, _+_, _-_, _≤_, _<_}
 use native.Mathlib.Omega.{arith}
-use lib.ListN.{length, take, drop}
+use lib.ListN.{length, take, drop, getD}
 use lib.IntN.{ℤ}
 use Rattle.rules.specs.declared.Name.{Name}
 use Rattle.rules.specs.declared.Turn.{Turn}
@@ -14,7 +14,7 @@ use Rattle.rules.specs.declared.Mode.{Mode}
 use Rattle.rules.specs.Refusals.{value, bad}
 use Rattle.rules.specs.Registers.{Reference, stepRegister, decimal}
 use Rattle.rules.specs.Texts.{Text, text, textOf}
-use Rattle.rules.specs.Escapes.{Surroundings, Scanned, refused, number, aString, Action, writes, wants, before, follow, next, showIt, enter, run}
+use Rattle.rules.specs.Escapes.{Surroundings, Scanned, refused, number, aString, scanned, Action, writes, wants, gives, ends, unlisted, before, follow, next, showIt, enter, run}
 use Rattle.registers.specs.declared.Shown.{Shown}
 use Rattle.registers.specs.declared.Referred.{Referred}
 use Rattle.registers.specs.declared.Referred.the-variants.{Is, Bad, ReadOnly}
@@ -33,6 +33,8 @@ use Rattle.texts.specs.declared.Found.the-variants.{There, Nothing}
 use Rattle.texts.specs.Table.{textsOf}
 use Rattle.texts.specs.Places.{partOf, LookedUp}
 use Rattle.scan.proofs.Escapes.{before-nothing}
+use Rattle.scan.specs.Around.{givenAt}
+use Rattle.scan.proofs.Arguments.{given-at}
 use Rattle.scan.proofs.Totals.{put-total, full-total}
 
 -- bytes are written, or have no room
@@ -131,3 +133,19 @@ module _ {store fs ss ks ls : List ℕ} {count : ℕ} {name : Name} {depth writt
         is = λ left t u e. ap (before (take written out)) (by-text w m name left (t ∷ u) (limit - written) rs (ap (λ x. some (text name x (partOf store spot))) (sym k) ∙ l .is)
             ∙ shallow w m name (partOf store spot) left (t ∷ u) (limit - written) rs (omega arith) ∙ before-nothing (from w m left (partOf store spot ∷ t ∷ u) (limit - written) rs));
         sound = (refl, l .inside, omega arith) } }
+
+-- an argument that is given, the end of the line, and an escape that is not listed
+module _ {w : Surroundings} {m : Mode} {store out : List ℕ} {written limit depth : ℕ} {rs : List Register} where
+  pub acted-gives : (k : ℕ) (x : kinds.Wrote) {out' : List ℕ} → Room out written limit → WroteTo x (givenAt m depth (getD (w .arguments) k [])) out written limit out'
+      → ActedTo (wroteAs x) w m store out written limit depth (gives k) rs out' rs
+  acted-gives k x r p =
+      let a = acted-writes x w m store depth (givenAt m depth (getD (w .arguments) k [])) rs r p in
+      record {
+        is = λ left t u e. ap (λ l. behind w m out written limit (writes l) left (t ∷ u) rs) (given-at m t u depth (getD (w .arguments) k []) e) ∙ a .is left t u e;
+        sound = a .sound }
+
+  pub acted-ends : ActedTo Ends w m store out written limit depth ends rs out rs
+  acted-ends = record { is = λ left t u e. ap (λ l. scanned l rs) (append-nil (take written out)); sound = refl }
+
+  pub acted-bad : length out ≡ 512 → ActedTo (Refused 5) w m store out written limit depth unlisted rs out rs
+  acted-bad h = record { is = λ left t u e. refl; sound = h }

@@ -4,5 +4,5 @@ pub mod Escapes
 pub mod Buffers
 pub mod Totals
 pub mod Decimals
-pub mod Actions
 pub mod Arguments
+pub mod Actions

@@ -14,13 +14,14 @@ use Rattle.rules.specs.Escapes.{Surroundings, Scanned, scanned, refused, number
 use Rattle.registers.specs.declared.Shown.{Shown}
 use Rattle.registers.specs.Columns.{Table, tableOf}
 use Rattle.registers.specs.ReadOnly.{seenOf}
-use Rattle.texts.specs.Table.{textsOf}
+use Rattle.texts.specs.Table.{textsOf, Lies}
 use Rattle.scan.specs.declared.Wrote as kinds
 use Rattle.scan.specs.declared.Wrote.the-variants as wrote
 use Rattle.scan.specs.declared.Acted.{Acted}
 use Rattle.scan.specs.declared.Acted.the-variants.{Wrote, Enters, Ends, Refused}
 use Rattle.scan.specs.Runs.{acts, total}
 use Rattle.scan.specs.Writes.{Room}
+use Rattle.scan.specs.Around.{Arguments}
 
 -- bytes that are written, or "3: .. expanded line passes 512 bytes"
 abbrev pub wroteAs : kinds.Wrote → Acted
@@ -61,3 +62,14 @@ pub record ShownTo (r : Acted) (shown : Shown) (fs ss : List ℕ) (vs ts : List 
 pub record EnteredTo (r : Acted) (store fs ss ks ls : List ℕ) (count : ℕ) (name : Name) (depth written : ℕ) : Type 0 where
   pub is : (seen : Seen) (arguments : List (List ℕ)) (m : Mode) (out : List ℕ) (limit : ℕ) (rs : List Register) → Room out written limit
       → ActedTo r (record { seen = seen; texts = textsOf store fs ss ks ls count; arguments = arguments }) m store out written limit depth (wants aString name) rs out rs
+
+-- the texts lie in their store, the registers are a table, the arguments lie in their bytes
+pub record Ready (store tfs tss ks ls : List ℕ) (texts : ℕ) (fs ss : List ℕ) (vs ts : List ℤ) (count : ℕ) (l es : List ℕ) (arguments : ℕ) : Type 0 where
+  pub lies : Lies store tfs tss ks ls texts
+  pub table : Table fs ss vs ts count
+  pub given : Arguments l es arguments
+
+-- an action is done as the rules say, and the registers stay a table
+pub record ActsTo (r : Acted) (w : Surroundings) (m : Mode) (store out : List ℕ) (written limit depth : ℕ) (a : Action) (fs ss : List ℕ) (vs ts : List ℤ) (count : ℕ) (out' : List ℕ) (vs' : List ℤ) : Type 0 where
+  pub acted : ActedTo r w m store out written limit depth a (tableOf fs ss vs ts count) out' (tableOf fs ss vs' ts count)
+  pub table : Table fs ss vs' ts count

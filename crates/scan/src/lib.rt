@@ -16,12 +16,12 @@ ghost use lib.IntN.{natAbs};
 ghost use Rattle.rules.specs.Registers.{decimal};
 ghost use Rattle.scan.specs.Digits.{DigitsAt};
 ghost use Rattle.registers.specs.Columns.{Table};
-ghost use Rattle.scan.specs.Acts.{wroteAs, ShownTo, EnteredTo};
+ghost use Rattle.scan.specs.Acts.{wroteAs, ShownTo, EnteredTo, Ready, ActsTo};
 ghost use Rattle.texts.specs.Table.{Lies};
-ghost use Rattle.scan.specs.Around.{Arguments, Begins, beginOf, argumentsOf, givenAt};
+ghost use Rattle.scan.specs.Around.{Arguments, Begins, beginOf, argumentsOf, givenAt, around};
 ghost use Rattle.rules.specs.Escapes.{number, aString, slash, numbering, naming, argument};
 ghost use Rattle.rules.specs.declared.Mode.the-variants.{Plain, Copy};
-ghost use Rattle.scan.specs.Readings.{lone, ReadingIs, ReadingIn, NamingIs};
+ghost use Rattle.scan.specs.Readings.{actionIn, lone, ReadingIs, ReadingIn, NamingIs};
 
 // What an escape leads to: a byte is written, or a backslash and a byte; a register is shown, a string is read, an
 // argument is given, counted from 0; the line ends; or the escape is not listed, or cut short.
@@ -547,5 +547,75 @@ fn give_argument(
     match mode {
         Mode::Plain => copy_bytes(argument, &mut *out, written, limit),
         Mode::Copy => write_back(argument, &mut *out, written, limit),
+    }
+}
+
+// What an escape leads to is done.
+fn act(
+    store: &[u8],
+    text_firsts: &[u8; 64],
+    text_seconds: &[u8; 64],
+    kinds: &[u8; 64],
+    lengths: &[u16; 64],
+    texts: usize,
+    firsts: &[u8; 64],
+    seconds: &[u8; 64],
+    values: &mut [i32; 64],
+    steps: &[i32; 64],
+    count: usize,
+    shown: Shown,
+    arguments: &[u8],
+    ends: &[u16; 9],
+    given: usize,
+    mode: Mode,
+    depth: usize,
+    what: What,
+    out: &mut [u8; 512],
+    written: usize,
+    limit: usize,
+) -> Acted
+    requires { ⌜ Ready (now store) (now «text_firsts») (now «text_seconds») (now kinds) (now lengths) texts (now firsts) (now seconds) (now values) (now steps) count (now arguments) (now ends) given × Room (now out) written limit ⌝ }
+    ensures { λ r. ⌜ ActsTo r (around shown (now (store .entry)) (now («text_firsts» .entry)) (now («text_seconds» .entry)) (now (kinds .entry)) (now (lengths .entry)) texts (now (arguments .entry)) (now (ends .entry)) given) mode (now (store .entry)) (now (out .entry)) written limit depth (actionIn what) (now (firsts .entry)) (now (seconds .entry)) (now (values .entry)) (now (steps .entry)) count (now (out .exit)) (now (values .exit)) ⌝ }
+{
+    match what {
+        What::Writes(byte) => wrote_as(put_byte(byte, &mut *out, written, limit)),
+        What::Keeps(byte) => wrote_as(put_kept(byte, &mut *out, written, limit)),
+        What::Number(turn, name) => show_register(
+            firsts,
+            seconds,
+            &mut *values,
+            steps,
+            count,
+            shown,
+            turn,
+            name,
+            &mut *out,
+            written,
+            limit,
+        ),
+        What::Text(name) => enter_string(
+            store,
+            text_firsts,
+            text_seconds,
+            kinds,
+            lengths,
+            texts,
+            name,
+            depth,
+            written,
+        ),
+        What::Gives(k) => wrote_as(give_argument(
+            arguments,
+            ends,
+            given,
+            k,
+            mode,
+            depth,
+            &mut *out,
+            written,
+            limit,
+        )),
+        What::Ends => Acted::Ends,
+        What::Bad => Acted::Refused(5),
     }
 }
