@@ -6,3 +6,4 @@ pub mod Totals
 pub mod Decimals
 pub mod Arguments
 pub mod Actions
+pub mod Steps

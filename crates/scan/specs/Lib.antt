@@ -4,3 +4,4 @@ pub mod Writes
 pub mod Digits
 pub mod Around
 pub mod Acts
+pub mod Expansion

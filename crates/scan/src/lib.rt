@@ -18,6 +18,7 @@ ghost use Rattle.scan.specs.Digits.{DigitsAt};
 ghost use Rattle.registers.specs.Columns.{Table};
 ghost use Rattle.scan.specs.Acts.{wroteAs, ShownTo, EnteredTo, Ready, ActsTo};
 ghost use Rattle.texts.specs.Table.{Lies};
+ghost use Rattle.scan.specs.Expansion.{NextIs, ExpandsTo};
 ghost use Rattle.scan.specs.Around.{Arguments, Begins, beginOf, argumentsOf, givenAt, around};
 ghost use Rattle.rules.specs.Escapes.{number, aString, slash, numbering, naming, argument};
 ghost use Rattle.rules.specs.declared.Mode.the-variants.{Plain, Copy};
@@ -424,6 +425,45 @@ fn copy_plain(
     Copied::Upto(i, rest, n)
 }
 
+// The text is over, with so many bytes that may still be scanned and so many written; or an escape, with the place after
+// it and the same numbers; or a refusal.
+enum Next {
+    Over(usize, usize),
+    Escape(usize, usize, usize, What),
+    Refused(u8),
+}
+
+// The bytes up to the next escape are copied, and the escape is read.
+fn next_escape(
+    text: &[u8],
+    at: usize,
+    left: usize,
+    mode: Mode,
+    out: &mut [u8; 512],
+    written: usize,
+    limit: usize,
+) -> Next
+    requires { ⌜ (at ≤ length (now text)) × Room (now out) written limit ⌝ }
+    ensures { λ r. ⌜ NextIs r mode (now (text .entry)) at left written limit (now (out .entry)) (now (out .exit)) ⌝ }
+{
+    match copy_plain(text, at, left, &mut *out, written, limit) {
+        Copied::Upto(i, rest, n) => {
+            if text.len() <= i {
+                return Next::Over(rest, n);
+            }
+            let reading = escape_at(text, i + 1, mode);
+            let end = reading.end;
+            let what = reading.what;
+            let length = end - i;
+            if rest < length {
+                return Next::Refused(4);
+            }
+            Next::Escape(end, rest - length, n, what)
+        }
+        Copied::Refused(k) => Next::Refused(k),
+    }
+}
+
 // What an action came to: so many bytes are written; a string's bytes are to be read, from a place of the store on, so
 // many; the line ends; or a refusal.
 enum Acted {
@@ -618,4 +658,12 @@ fn act(
         What::Ends => Acted::Ends,
         What::Bad => Acted::Refused(5),
     }
+}
+
+// How far a text was expanded: it is over, with so many bytes that may still be scanned and so many written; the line
+// ended, with so many written; or a refusal.
+enum Progress {
+    Over(usize, usize),
+    Ended(usize),
+    Refused(u8),
 }
