@@ -7,3 +7,4 @@ pub mod Decimals
 pub mod Arguments
 pub mod Actions
 pub mod Steps
+pub mod Driver

@@ -667,3 +667,124 @@ enum Progress {
     Ended(usize),
     Refused(u8),
 }
+
+// A text, within so many others, is expanded behind the bytes written: the bytes of its strings are read where they lie
+// in the store.
+fn expand_text(
+    text: &[u8],
+    depth: usize,
+    left: usize,
+    store: &[u8],
+    text_firsts: &[u8; 64],
+    text_seconds: &[u8; 64],
+    kinds: &[u8; 64],
+    lengths: &[u16; 64],
+    texts: usize,
+    firsts: &[u8; 64],
+    seconds: &[u8; 64],
+    values: &mut [i32; 64],
+    steps: &[i32; 64],
+    count: usize,
+    shown: Shown,
+    arguments: &[u8],
+    ends: &[u16; 9],
+    given: usize,
+    mode: Mode,
+    out: &mut [u8; 512],
+    written: usize,
+    limit: usize,
+) -> Progress
+    requires { ⌜ Ready (now store) (now «text_firsts») (now «text_seconds») (now kinds) (now lengths) texts (now firsts) (now seconds) (now values) (now steps) count (now arguments) (now ends) given × Room (now out) written limit × (depth ≤ 8) ⌝ }
+    ensures { λ r. ⌜ ExpandsTo r (around shown (now (store .entry)) (now («text_firsts» .entry)) (now («text_seconds» .entry)) (now (kinds .entry)) (now (lengths .entry)) texts (now (arguments .entry)) (now (ends .entry)) given) mode (now (text .entry)) depth left (now (out .entry)) written limit (now (firsts .entry)) (now (seconds .entry)) (now (values .entry)) (now (steps .entry)) count (now (out .exit)) (now (values .exit)) ⌝ }
+{
+    let mut i: usize = 0;
+    let mut rest = left;
+    let mut n = written;
+    loop {
+        match next_escape(text, i, rest, mode, &mut *out, n, limit) {
+            Next::Over(over, filled) => {
+                return Progress::Over(over, filled);
+            }
+            Next::Escape(end, after, filled, what) => {
+                match act(
+                    store,
+                    text_firsts,
+                    text_seconds,
+                    kinds,
+                    lengths,
+                    texts,
+                    firsts,
+                    seconds,
+                    &mut *values,
+                    steps,
+                    count,
+                    shown,
+                    arguments,
+                    ends,
+                    given,
+                    mode,
+                    depth,
+                    what,
+                    &mut *out,
+                    filled,
+                    limit,
+                ) {
+                    Acted::Wrote(next) => {
+                        i = end;
+                        rest = after;
+                        n = next;
+                    }
+                    Acted::Enters(begin, size) => {
+                        let stop = begin + size;
+                        let string = &store[begin..stop];
+                        match expand_text(
+                            string,
+                            depth + 1,
+                            after,
+                            store,
+                            text_firsts,
+                            text_seconds,
+                            kinds,
+                            lengths,
+                            texts,
+                            firsts,
+                            seconds,
+                            &mut *values,
+                            steps,
+                            count,
+                            shown,
+                            arguments,
+                            ends,
+                            given,
+                            mode,
+                            &mut *out,
+                            filled,
+                            limit,
+                        ) {
+                            Progress::Over(over, next) => {
+                                i = end;
+                                rest = over;
+                                n = next;
+                            }
+                            Progress::Ended(next) => {
+                                return Progress::Ended(next);
+                            }
+                            Progress::Refused(k) => {
+                                return Progress::Refused(k);
+                            }
+                        }
+                    }
+                    Acted::Ends => {
+                        return Progress::Ended(filled);
+                    }
+                    Acted::Refused(k) => {
+                        return Progress::Refused(k);
+                    }
+                }
+            }
+            Next::Refused(k) => {
+                return Progress::Refused(k);
+            }
+        }
+    }
+}
