@@ -42,10 +42,12 @@ pub acted-writes : (x : kinds.Wrote) (w : Surroundings) (m : Mode) (store : List
     → Room out written limit → WroteTo x l out written limit out' → ActedTo (wroteAs x) w m store out written limit depth (writes l) rs out' rs
 acted-writes (wrote.To n) w m store {out} {written} {limit} depth l rs {out'} r p = record {
   is = λ left t u e. put-total w m l left (t ∷ u) rs out written limit n out' p;
-  sound = (record { long = p .long; low = p .fits; high = r .high }, omega (arith, p .count), p .kept) }
+  sound = (record { long = p .long; low = p .fits; high = r .high }, omega (arith, p .count), p .kept);
+}
 acted-writes wrote.Full w m store {out} {written} {limit} depth l rs {out'} r p = record {
   is = λ left t u e. full-total w m l left (t ∷ u) rs out written limit (r .low) (p .0);
-  sound = p .1 }
+  sound = p .1;
+}
 
 -- a register that has a value, and one that is refused
 module _ (w : Surroundings) (m : Mode) (turn : Turn) (name : Name) (left : ℕ) (u : List (List ℕ)) (room : ℕ) (rs : List Register) where
@@ -62,8 +64,10 @@ module _ {shown : Shown} {fs ss : List ℕ} {vs ts : List ℤ} {count : ℕ} {tu
         let a = acted-writes x w m store depth (decimal v) (tableOf fs ss vs' ts count) r p in
         record {
           is = λ left t u e. ap (before (take written out)) (by-reference w m turn name left (t ∷ u) (limit - written) (tableOf fs ss vs ts count) (f .is)) ∙ a .is left t u e;
-          sound = a .sound };
-    table = f .table }
+          sound = a .sound;
+        };
+    table = f .table;
+  }
 
   pub shown-bad : ReferTo fs ss vs ts count shown turn name Bad vs' → Room out written limit → ShownTo (Refused 6) shown fs ss vs ts count turn name out written limit out vs'
   shown-bad f r = record {
@@ -72,8 +76,10 @@ module _ {shown : Shown} {fs ss : List ℕ} {vs ts : List ℤ} {count : ℕ} {tu
         record {
           is = λ left t u e. ap (before (take written out)) (by-reference w m turn name left (t ∷ u) (limit - written) (tableOf fs ss vs ts count) (f .is))
               ∙ ap (λ l. refused 6 (tableOf fs ss l ts count)) (sym (f .kept));
-          sound = r .long };
-    table = f .table }
+          sound = r .long;
+        };
+    table = f .table;
+  }
 
   pub shown-read-only : ReferTo fs ss vs ts count shown turn name ReadOnly vs' → Room out written limit → ShownTo (Refused 7) shown fs ss vs ts count turn name out written limit out vs'
   shown-read-only f r = record {
@@ -82,8 +88,10 @@ module _ {shown : Shown} {fs ss : List ℕ} {vs ts : List ℤ} {count : ℕ} {tu
         record {
           is = λ left t u e. ap (before (take written out)) (by-reference w m turn name left (t ∷ u) (limit - written) (tableOf fs ss vs ts count) (f .is))
               ∙ ap (λ l. refused 7 (tableOf fs ss l ts count)) (sym (f .kept));
-          sound = r .long };
-    table = f .table }
+          sound = r .long;
+        };
+    table = f .table;
+  }
 
 -- a string where there are eight already, and where there are fewer
 module _ (w : Surroundings) (m : Mode) (name : Name) (l : List ℕ) (left : ℕ) (u : List (List ℕ)) (room : ℕ) (rs : List Register) where
@@ -102,37 +110,49 @@ by-text w m name left u room rs e = ap (λ x. follow (enter x (standing u room r
 module _ {store fs ss ks ls : List ℕ} {count : ℕ} {name : Name} {depth written : ℕ} where
   pub entered-none : LookedUp store fs ss ks ls count name Nothing → EnteredTo (Wrote written) store fs ss ks ls count name depth written
   unfolding total
-  entered-none l = record { is = λ seen arguments m out limit rs r.
-    let w : Surroundings = record { seen = seen; texts = textsOf store fs ss ks ls count; arguments = arguments } in
-    record {
-      is = λ left t u e. ap (before (take written out)) (by-text w m name left (t ∷ u) (limit - written) rs (l .is)
-          ∙ before-nothing (from w m left (t ∷ u) (limit - written) rs));
-      sound = (r, omega arith, refl) } }
+  entered-none l = record {
+    is = λ seen arguments m out limit rs r.
+        let w : Surroundings = record { seen = seen; texts = textsOf store fs ss ks ls count; arguments = arguments } in
+        record {
+          is = λ left t u e. ap (before (take written out)) (by-text w m name left (t ∷ u) (limit - written) rs (l .is)
+              ∙ before-nothing (from w m left (t ∷ u) (limit - written) rs));
+          sound = (r, omega arith, refl);
+        };
+  }
 
   module _ {spot : Spot} (l : LookedUp store fs ss ks ls count name (There spot)) where
     pub entered-macro : spot .kind ≡ Macro → EnteredTo (Refused 9) store fs ss ks ls count name depth written
-    entered-macro k = record { is = λ seen arguments m out limit rs r.
-      let w : Surroundings = record { seen = seen; texts = textsOf store fs ss ks ls count; arguments = arguments } in
-      record {
-        is = λ left t u e. ap (before (take written out)) (by-text w m name left (t ∷ u) (limit - written) rs (ap (λ x. some (text name x (partOf store spot))) (sym k) ∙ l .is));
-        sound = r .long } }
+    entered-macro k = record {
+      is = λ seen arguments m out limit rs r.
+          let w : Surroundings = record { seen = seen; texts = textsOf store fs ss ks ls count; arguments = arguments } in
+          record {
+            is = λ left t u e. ap (before (take written out)) (by-text w m name left (t ∷ u) (limit - written) rs (ap (λ x. some (text name x (partOf store spot))) (sym k) ∙ l .is));
+            sound = r .long;
+          };
+    }
 
     pub entered-deep : spot .kind ≡ String → 8 ≤ depth → EnteredTo (Refused 4) store fs ss ks ls count name depth written
-    entered-deep k h = record { is = λ seen arguments m out limit rs r.
-      let w : Surroundings = record { seen = seen; texts = textsOf store fs ss ks ls count; arguments = arguments } in
-      record {
-        is = λ left t u e. ap (before (take written out)) (by-text w m name left (t ∷ u) (limit - written) rs (ap (λ x. some (text name x (partOf store spot))) (sym k) ∙ l .is)
-            ∙ deep w m name (partOf store spot) left (t ∷ u) (limit - written) rs (omega arith));
-        sound = r .long } }
+    entered-deep k h = record {
+      is = λ seen arguments m out limit rs r.
+          let w : Surroundings = record { seen = seen; texts = textsOf store fs ss ks ls count; arguments = arguments } in
+          record {
+            is = λ left t u e. ap (before (take written out)) (by-text w m name left (t ∷ u) (limit - written) rs (ap (λ x. some (text name x (partOf store spot))) (sym k) ∙ l .is)
+                ∙ deep w m name (partOf store spot) left (t ∷ u) (limit - written) rs (omega arith));
+            sound = r .long;
+          };
+    }
 
     pub entered-string : spot .kind ≡ String → depth < 8 → EnteredTo (Enters (spot .at) (spot .length)) store fs ss ks ls count name depth written
     unfolding total
-    entered-string k h = record { is = λ seen arguments m out limit rs r.
-      let w : Surroundings = record { seen = seen; texts = textsOf store fs ss ks ls count; arguments = arguments } in
-      record {
-        is = λ left t u e. ap (before (take written out)) (by-text w m name left (t ∷ u) (limit - written) rs (ap (λ x. some (text name x (partOf store spot))) (sym k) ∙ l .is)
-            ∙ shallow w m name (partOf store spot) left (t ∷ u) (limit - written) rs (omega arith) ∙ before-nothing (from w m left (partOf store spot ∷ t ∷ u) (limit - written) rs));
-        sound = (refl, l .inside, omega arith) } }
+    entered-string k h = record {
+      is = λ seen arguments m out limit rs r.
+          let w : Surroundings = record { seen = seen; texts = textsOf store fs ss ks ls count; arguments = arguments } in
+          record {
+            is = λ left t u e. ap (before (take written out)) (by-text w m name left (t ∷ u) (limit - written) rs (ap (λ x. some (text name x (partOf store spot))) (sym k) ∙ l .is)
+                ∙ shallow w m name (partOf store spot) left (t ∷ u) (limit - written) rs (omega arith) ∙ before-nothing (from w m left (partOf store spot ∷ t ∷ u) (limit - written) rs));
+            sound = (refl, l .inside, omega arith);
+          };
+    }
 
 -- an argument that is given, the end of the line, and an escape that is not listed
 module _ {w : Surroundings} {m : Mode} {store out : List ℕ} {written limit depth : ℕ} {rs : List Register} where
@@ -142,7 +162,8 @@ module _ {w : Surroundings} {m : Mode} {store out : List ℕ} {written limit dep
       let a = acted-writes x w m store depth (givenAt m depth (getD (w .arguments) k [])) rs r p in
       record {
         is = λ left t u e. ap (λ l. behind w m out written limit (writes l) left (t ∷ u) rs) (given-at m t u depth (getD (w .arguments) k []) e) ∙ a .is left t u e;
-        sound = a .sound }
+        sound = a .sound;
+      }
 
   pub acted-ends : ActedTo Ends w m store out written limit depth ends rs out rs
   acted-ends = record { is = λ left t u e. ap (λ l. scanned l rs) (append-nil (take written out)); sound = refl }

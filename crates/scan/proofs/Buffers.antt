@@ -33,7 +33,8 @@ module _ {out : List ℕ} {written limit : ℕ} where
         fits = omega arith;
         taken = ap (λ (j : ℕ). take j (set out' n b)) (add-one n) ∙ take-suc-set out' n b i ∙ ap (λ x. x ++ b ∷ []) (p .taken) ∙ append-assoc (take written out) l (b ∷ []);
         kept = drop-set-lt (n + 1) out' n b (omega arith) ∙ later out' out n (n + 1) (omega arith) (p .kept);
-        long = length-set out' n b ∙ z }
+        long = length-set out' n b ∙ z;
+      }
 
   -- more bytes
   pub put-more : {l k out' out'' : List ℕ} {n j : ℕ} → Put l out written limit n out' → Put k out' n limit j out'' → Put (l ++ k) out written limit j out''
@@ -45,7 +46,8 @@ module _ {out : List ℕ} {written limit : ℕ} where
         fits = q .fits;
         taken = q .taken ∙ ap (λ t. t ++ k) (p .taken) ∙ append-assoc (take written out) l k;
         kept = q .kept ∙ later out' out n j (omega arith) (p .kept);
-        long = q .long }
+        long = q .long;
+      }
 
   -- the bytes of an equal list
   pub put-as : {l k out' : List ℕ} {n : ℕ} → l ≡ k → Put l out written limit n out' → Put k out written limit n out'

@@ -35,9 +35,16 @@ pub record Digits (value n at : ℕ) (digits : List ℕ) : Type 0 where
 
 pub start : (value : ℕ) (digits : List ℕ) → value < 2 ^ 32 → length digits ≡ 11 → Digits value value 11 digits
 start value digits h k = record {
-  fuel = suc value; more = omega arith;
+  fuel = suc value;
+  more = omega arith;
   are = ap (decimalBy (suc value) value) (sym (let h : length digits ≤ 11 = omega arith in drop-of-length-le digits h));
-  places = 10; after = refl; small = omega arith; low = omega arith; high = omega arith; long = k }
+  places = 10;
+  after = refl;
+  small = omega arith;
+  low = omega arith;
+  high = omega arith;
+  long = k;
+}
 
 -- a number of two digits or more has two places
 fewer : (n k : ℕ) → n < 10 ^ k → 10 ≤ n → (j : ℕ) × (k ≡ suc j) × (1 ≤ j) × (n / 10 < 10 ^ j)
@@ -63,10 +70,17 @@ module _ {value n at : ℕ} {digits : List ℕ} (d : Digits value n at digits) w
       let x = f .1 in
       let z = d .long in
       record {
-        fuel = d .fuel - 1; more = omega (arith, d .more);
+        fuel = d .fuel - 1;
+        more = omega (arith, d .more);
         are = d .are ∙ more-digits (d .fuel) n (drop at digits) (d .more) h
             ∙ ap (decimalBy (d .fuel - 1) (n / 10)) (sym (stored digits at (48 + n % 10) (omega (arith, d .low)) (omega (arith, d .high))));
-        places = f .0; after = omega arith; small = f .3; low = f .2; high = omega (arith, d .high); long = length-set digits (at - 1) (48 + n % 10) ∙ z }
+        places = f .0;
+        after = omega arith;
+        small = f .3;
+        low = f .2;
+        high = omega (arith, d .high);
+        long = length-set digits (at - 1) (48 + n % 10) ∙ z;
+      }
 
   pub last : n < 10 → DigitsAt value (at - 1) (set digits (at - 1) (48 + n))
   last h =
@@ -74,7 +88,10 @@ module _ {value n at : ℕ} {digits : List ℕ} (d : Digits value n at digits) w
       let y = d .after in
       record {
         are = stored digits at (48 + n) (omega (arith, d .low)) (omega (arith, d .high)) ∙ sym (d .are ∙ one-digit (d .fuel) n (drop at digits) (d .more) h);
-        low = omega (arith, d .low); high = omega (arith, d .high); long = length-set digits (at - 1) (48 + n) ∙ z }
+        low = omega (arith, d .low);
+        high = omega (arith, d .high);
+        long = length-set digits (at - 1) (48 + n) ∙ z;
+      }
 
 -- the bytes of a number, by its sign
 pub below : (z : ℤ) → ltZ z (pos 0) ≡ true → decimal z ≡ 45 ∷ decimalBy (suc (natAbs z)) (natAbs z) []

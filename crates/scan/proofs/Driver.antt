@@ -1,24 +1,26 @@
 -- The expansion of a text, turn by turn. Assumes nothing.
 use mathlib.Core.Path.{_≡_, refl, sym, ap, _∙_}
-use mathlib.Core.List.{List, [], _∷_}
-use Prim.Native.Nat.{ℕ, suc, _+_, _-_, _≤_, _<_}
+use mathlib.Core.List.{List, [], _∷_, append-nil}
+use Prim.Native.Nat.{ℕ, zero, suc, _+_, _-_, _≤_, _<_}
 use native.Mathlib.Omega.{arith}
 use lib.ListN.{length, take, drop}
 use lib.IntN.{ℤ}
 use Rattle.rules.specs.declared.Register.{Register}
 use Rattle.rules.specs.declared.Mode.{Mode}
-use Rattle.rules.specs.Escapes.{Surroundings}
+use Rattle.rules.specs.Escapes.{Surroundings, scanned, run, scan}
 use Rattle.registers.specs.Columns.{Table, tableOf}
 use Rattle.scan.specs.declared.What.{What}
 use Rattle.scan.specs.declared.Acted.the-variants as acted
 use Rattle.scan.specs.declared.Progress.{Progress}
 use Rattle.scan.specs.declared.Progress.the-variants.{Over, Ended, Refused}
 use Rattle.scan.specs.Readings.{actionIn}
-use Rattle.scan.specs.Runs.{total}
+use Rattle.scan.specs.declared.Scanned.the-variants as answer
+use Rattle.scan.specs.Runs.{from, total}
 use Rattle.scan.specs.Writes.{Room}
 use Rattle.scan.specs.Acts.{behind, ActsTo}
-use Rattle.scan.specs.Expansion.{Filled, ReadOver, ReadEscape, StopsIn, progressOf, ExpandsTo}
+use Rattle.scan.specs.Expansion.{Filled, ReadOver, ReadEscape, StopsIn, progressOf, ExpandsTo, ScannedTo}
 use Rattle.scan.proofs.Buffers.{later}
+use Rattle.scan.proofs.Escapes.{before-nothing}
 
 -- nothing is written yet; more is written
 pub fill-none : {out : List ℕ} {written limit : ℕ} → Room out written limit → Filled out written limit written out
@@ -63,7 +65,8 @@ module _ {w : Surroundings} {m : Mode} {text : List ℕ} {depth left : ℕ} {out
           is = λ u e. here u e ∙ a .acted .is l2 (drop end text) u e;
           high = r .high;
           filled = let s = a .acted .sound in fill-more so-far (record { room = s .0; more = s .1; kept = s .2 });
-          table = a .table }
+          table = a .table;
+        }
 
         pub refuses : {k : ℕ} → ActsTo (acted.Refused k) w m store out2 n2 limit depth (actionIn what) fs ss vs1 ts count out3 vs3
             → ExpandsTo (Refused k) w m text depth left out written limit fs ss vs ts count out3 vs3
@@ -101,3 +104,41 @@ module _ {w : Surroundings} {m : Mode} {text : List ℕ} {depth left : ℕ} {out
             pub string-refused : {k : ℕ} → ExpandsTo (Refused k) w m (take (begin + size - begin) (drop begin store)) (depth + 1) l2 out3 n2 limit fs ss vs3 ts count out4 vs4
                 → ExpandsTo (Refused k) w m text depth left out written limit fs ss vs ts count out4 vs4
             string-refused x = record { is = λ u e. inside x u e; table = x .table; sound = x .sound }
+
+-- the whole line
+module _ {w : Surroundings} {m : Mode} {line : List ℕ} {left : ℕ} {out : List ℕ} {limit : ℕ} {fs ss : List ℕ} {vs ts : List ℤ} {count : ℕ} {out' : List ℕ} {vs' : List ℤ} where
+  -- what the rules make of it
+  whole : (prefix : ℕ) {p : Progress} → limit ≡ 512 - prefix → left ≡ 8192 - prefix → ExpandsTo p w m line 0 left out 0 limit fs ss vs ts count out' vs'
+      → progressOf p w m out' limit [] (tableOf fs ss vs' ts count) ≡ scan w m (tableOf fs ss vs ts count) prefix line
+  unfolding scan total
+  whole prefix f h x =
+      sym (x .is [] refl) ∙ before-nothing (from w m left (line ∷ []) (limit - 0) (tableOf fs ss vs ts count))
+      ∙ ap (λ (k : ℕ). from w m left (line ∷ []) k (tableOf fs ss vs ts count)) (let z : limit - 0 ≡ limit = omega arith in z ∙ f)
+      ∙ ap (λ (k : ℕ). from w m k (line ∷ []) (512 - prefix) (tableOf fs ss vs ts count)) h
+
+  pub line-over : (prefix : ℕ) {l n : ℕ} → limit ≡ 512 - prefix → left ≡ 8192 - prefix → ExpandsTo (Over l n) w m line 0 left out 0 limit fs ss vs ts count out' vs'
+      → ScannedTo (answer.Line n) w m prefix line fs ss vs ts count out out' vs'
+  unfolding total run
+  line-over prefix {l} {n} f h x = record {
+    is = nothing-left l n ∙ whole prefix f h x;
+    table = x .table;
+    kept = (omega (arith, x .sound .room .low, x .sound .room .high), x .sound .kept);
+    long = x .sound .room .long;
+  }
+    where
+      nothing-left : (l n : ℕ) → scanned (take n out') (tableOf fs ss vs' ts count) ≡ total w m out' n limit l [] (tableOf fs ss vs' ts count)
+      nothing-left zero n = ap (λ t. scanned t (tableOf fs ss vs' ts count)) (sym (append-nil (take n out')))
+      nothing-left (suc l) n = ap (λ t. scanned t (tableOf fs ss vs' ts count)) (sym (append-nil (take n out')))
+
+  pub line-ended : (prefix : ℕ) {n : ℕ} → limit ≡ 512 - prefix → left ≡ 8192 - prefix → ExpandsTo (Ended n) w m line 0 left out 0 limit fs ss vs ts count out' vs'
+      → ScannedTo (answer.Line n) w m prefix line fs ss vs ts count out out' vs'
+  line-ended prefix f h x = record {
+    is = whole prefix f h x;
+    table = x .table;
+    kept = (omega (arith, x .sound .room .low, x .sound .room .high), x .sound .kept);
+    long = x .sound .room .long;
+  }
+
+  pub line-refused : (prefix : ℕ) {k : ℕ} → limit ≡ 512 - prefix → left ≡ 8192 - prefix → ExpandsTo (Refused k) w m line 0 left out 0 limit fs ss vs ts count out' vs'
+      → ScannedTo (answer.Refused k) w m prefix line fs ss vs ts count out out' vs'
+  line-refused prefix f h x = record { is = whole prefix f h x; table = x .table; kept = tt; long = x .sound }

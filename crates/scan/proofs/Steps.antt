@@ -41,7 +41,8 @@ module _ {text : List ℕ} {at left written limit : ℕ} {out : List ℕ} where
     pub next-over : length text ≤ i → ReadOver text at left written limit out l n out'
     next-over h = record {
       is = λ w m u rs. p .is w m u rs ∙ ap (λ t. total w m out' n limit l (t ∷ u) rs) (nothing text i h) ∙ left-over w m out' n limit l u rs;
-      filled = filled-by p }
+      filled = filled-by p;
+    }
 
     module _ {m : Mode} {r : Reading} (h : i < length text) (b : getD text i 0 ≡ 92) (e : ReadingIs m slash (lone m) text (i + 1) r) where
       -- the escape, behind what was copied
@@ -56,7 +57,8 @@ module _ {text : List ℕ} {at left written limit : ℕ} {out : List ℕ} where
       pub next-cut : l < r .end - i → StopsIn m text at left written limit out 4 out'
       next-cut k = record {
         is = λ w u rs. escape w u rs ∙ rw (lt-leb (suc (r .end - (i + 1))) l (omega (arith, e .low)));
-        long = p .room .long }
+        long = p .room .long;
+      }
 
       pub next-read : r .end - i ≤ l → ReadEscape m text at left written limit out (r .end) (l - (r .end - i)) n (r .what) out'
       next-read k =
@@ -65,4 +67,7 @@ module _ {text : List ℕ} {at left written limit : ℕ} {out : List ℕ} where
           let d : drop (r .end - (i + 1)) (drop (i + 1) text) ≡ drop (r .end) text = drop-drop (r .end - (i + 1)) (i + 1) text ∙ ap (λ (j : ℕ). drop j text) z in
           record {
             is = λ w u rs. escape w u rs ∙ rw (le-leb (suc (r .end - (i + 1))) l (omega (arith, e .low)), y, d);
-            filled = filled-by p; low = omega (arith, e .low, p .low); high = e .high }
+            filled = filled-by p;
+            low = omega (arith, e .low, p .low);
+            high = e .high;
+          }

@@ -69,7 +69,8 @@ module _ {text : List ℕ} {at left written limit : ℕ} {out : List ℕ} where
     stop-left z = record {
       is = λ w m u rs. here w m u rs ∙ ap (λ (k : ℕ). before (take n out') (from w m k ((getD text i 0 ∷ drop (i + 1) text) ∷ u) (limit - n) rs)) z
           ∙ ap (before (take n out')) (none-left w m (getD text i 0) (drop (i + 1) text) u (limit - n) rs);
-      long = p .room .long }
+      long = p .room .long;
+    }
 
     module _ (b : getD text i 0 ≡ backslash → ⊥) (z : l ≡ 0 → ⊥) where
       -- it is copied
@@ -83,7 +84,8 @@ module _ {text : List ℕ} {at left written limit : ℕ} {out : List ℕ} where
       pub stop-room : limit ≤ n → Stops text at left written limit out 3 out'
       stop-room k = record {
         is = λ w m u rs. copies w m u rs ∙ full-total w m (getD text i 0 ∷ []) (l - 1) (drop (i + 1) text ∷ u) rs out' n limit (p .room .low) (omega arith);
-        long = p .room .long }
+        long = p .room .long;
+      }
 
       pub pass-byte : n < limit → Passed text at left written limit out (i + 1) (l - 1) (n + 1) (set out' n (getD text i 0))
       pass-byte k =
@@ -94,4 +96,5 @@ module _ {text : List ℕ} {at left written limit : ℕ} {out : List ℕ} where
             high = omega arith;
             room = record { long = q .long; low = omega arith; high = p .room .high };
             more = omega (arith, p .more);
-            kept = q .kept ∙ later out' out n (n + 1) (omega arith) (p .kept) }
+            kept = q .kept ∙ later out' out n (n + 1) (omega arith) (p .kept);
+          }

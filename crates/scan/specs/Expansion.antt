@@ -14,6 +14,8 @@ use Rattle.scan.specs.declared.Next.{Next}
 use Rattle.scan.specs.declared.Next.the-variants as next
 use Rattle.scan.specs.declared.Progress.{Progress}
 use Rattle.scan.specs.declared.Progress.the-variants.{Over, Ended, Refused}
+use Rattle.scan.specs.declared.Scanned as answer
+use Rattle.scan.specs.declared.Scanned.the-variants as scan
 use Rattle.scan.specs.Readings.{actionIn}
 use Rattle.scan.specs.Runs.{total}
 use Rattle.scan.specs.Writes.{Room}
@@ -66,3 +68,20 @@ pub record ExpandsTo (r : Progress) (w : Surroundings) (m : Mode) (text : List �
       → total w m out written limit left (text ∷ u) (tableOf fs ss vs ts count) ≡ progressOf r w m out' limit u (tableOf fs ss vs' ts count)
   pub table : Table fs ss vs' ts count
   pub sound : SoundProgress r out written limit out'
+
+-- the expanded line in the buffer, or a refusal, with the registers after it
+abbrev pub scannedOf : answer.Scanned → (out : List ℕ) → List Register → rules.Scanned
+scannedOf (scan.Line n) out rs = scanned (take n out) rs
+scannedOf (scan.Refused k) out rs = refused k rs
+
+-- the bytes behind the line are as they were
+abbrev pub KeptBehind : answer.Scanned → (out out' : List ℕ) → Type 0
+KeptBehind (scan.Line n) out out' = (n ≤ 512) × (drop n out' ≡ drop n out)
+KeptBehind (scan.Refused k) out out' = Unit
+
+-- a line is expanded as the rules say, and the registers stay a table
+pub record ScannedTo (r : answer.Scanned) (w : Surroundings) (m : Mode) (prefix : ℕ) (line : List ℕ) (fs ss : List ℕ) (vs ts : List ℤ) (count : ℕ) (out out' : List ℕ) (vs' : List ℤ) : Type 0 where
+  pub is : scannedOf r out' (tableOf fs ss vs' ts count) ≡ rules.scan w m (tableOf fs ss vs ts count) prefix line
+  pub table : Table fs ss vs' ts count
+  pub kept : KeptBehind r out out'
+  pub long : length out' ≡ 512

@@ -6,7 +6,7 @@ use rules::Mode;
 use rules::Name;
 use rules::Turn;
 use texts::Found;
-ghost use Prim.Native.Nat.{_≤_, _<_};
+ghost use Prim.Native.Nat.{_≤_, _-_};
 ghost use lib.ListN.{length, getD};
 ghost use mathlib.Core.List.{[], _∷_};
 ghost use Rattle.scan.specs.Writes.{Room, WroteTo, CopiedTo};
@@ -18,7 +18,7 @@ ghost use Rattle.scan.specs.Digits.{DigitsAt};
 ghost use Rattle.registers.specs.Columns.{Table};
 ghost use Rattle.scan.specs.Acts.{wroteAs, ShownTo, EnteredTo, Ready, ActsTo};
 ghost use Rattle.texts.specs.Table.{Lies};
-ghost use Rattle.scan.specs.Expansion.{NextIs, ExpandsTo};
+ghost use Rattle.scan.specs.Expansion.{NextIs, ExpandsTo, ScannedTo};
 ghost use Rattle.scan.specs.Around.{Arguments, Begins, beginOf, argumentsOf, givenAt, around};
 ghost use Rattle.rules.specs.Escapes.{number, aString, slash, numbering, naming, argument};
 ghost use Rattle.rules.specs.declared.Mode.the-variants.{Plain, Copy};
@@ -786,5 +786,78 @@ fn expand_text(
                 return Progress::Refused(k);
             }
         }
+    }
+}
+
+// How many more the first is, or 0.
+fn less(a: usize, b: usize) -> usize
+    ensures { λ r. ⌜ r ≡ a - b ⌝ }
+{
+    if b < a {
+        return a - b;
+    }
+    0
+}
+
+// The expanded line stands in the buffer, so many bytes; or the number of a refusal.
+pub enum Scanned {
+    Line(usize),
+    Refused(u8),
+}
+
+// The expansion of a line, of which `prefix` bytes that stand before it are already counted.
+pub fn expand(
+    line: &[u8],
+    mode: Mode,
+    prefix: usize,
+    store: &[u8],
+    text_firsts: &[u8; 64],
+    text_seconds: &[u8; 64],
+    kinds: &[u8; 64],
+    lengths: &[u16; 64],
+    texts: usize,
+    firsts: &[u8; 64],
+    seconds: &[u8; 64],
+    values: &mut [i32; 64],
+    steps: &[i32; 64],
+    count: usize,
+    shown: Shown,
+    arguments: &[u8],
+    ends: &[u16; 9],
+    given: usize,
+    out: &mut [u8; 512],
+) -> Scanned
+    requires { ⌜ Ready (now store) (now «text_firsts») (now «text_seconds») (now kinds) (now lengths) texts (now firsts) (now seconds) (now values) (now steps) count (now arguments) (now ends) given × Room (now out) 0 512 ⌝ }
+    ensures { λ r. ⌜ ScannedTo r (around shown (now (store .entry)) (now («text_firsts» .entry)) (now («text_seconds» .entry)) (now (kinds .entry)) (now (lengths .entry)) texts (now (arguments .entry)) (now (ends .entry)) given) mode prefix (now (line .entry)) (now (firsts .entry)) (now (seconds .entry)) (now (values .entry)) (now (steps .entry)) count (now (out .entry)) (now (out .exit)) (now (values .exit)) ⌝ }
+{
+    let limit = less(512, prefix);
+    let left = less(8192, prefix);
+    match expand_text(
+        line,
+        0,
+        left,
+        store,
+        text_firsts,
+        text_seconds,
+        kinds,
+        lengths,
+        texts,
+        firsts,
+        seconds,
+        &mut *values,
+        steps,
+        count,
+        shown,
+        arguments,
+        ends,
+        given,
+        mode,
+        &mut *out,
+        0,
+        limit,
+    ) {
+        Progress::Over(_, n) => Scanned::Line(n),
+        Progress::Ended(n) => Scanned::Line(n),
+        Progress::Refused(k) => Scanned::Refused(k),
     }
 }

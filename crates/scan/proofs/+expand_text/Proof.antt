@@ -114,9 +114,10 @@ expand-text-expand-text-requires t c κs =
     let k = c .before .before .before in
     let a = k .before .before .before in
     let s = a .before .before .before .before .before .before .before .before .before .before .before .before in
-    let e = enters k in
-    (omega (arith, s .pre .0, e .acted .sound .2),
-    (record { lies = s .pre .1 .0 .lies; table = e .table; given = s .pre .1 .0 .given }, rw (e .acted .sound .0) (reads (a .before .before .before) .filled .room), e .acted .sound .2))
+    let e = enters k in (
+      omega (arith, s .pre .0, e .acted .sound .2),
+      (record { lies = s .pre .1 .0 .lies; table = e .table; given = s .pre .1 .0 .given }, rw (e .acted .sound .0) (reads (a .before .before .before) .filled .room), e .acted .sound .2),
+    )
 
 expand-text-enum-known-over-2 : (t : ℕ) → expand-text-lts.Need-enum-known-over-2 (claims t) (expand-text-at t) expand-text.Post Inv μ
 expand-text-enum-known-over-2 t c = search needs
