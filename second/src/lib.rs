@@ -4,7 +4,7 @@
 //! The modules follow document 01's sections:
 //! `session` (A session), `refusal` (Refusal numbers), `number` (Numbers), `escape`, `argument`,
 //! `text`, `line` and `request` (Lines and escapes), `fill` (Filling), `page` (Rows, pages, traps).
-//! `json` and `vector` serve the command line.
+//! `json`, `vector` and `part` serve the command line.
 
 pub mod argument;
 pub mod escape;
@@ -14,6 +14,7 @@ pub mod json;
 pub mod line;
 pub mod number;
 pub mod page;
+pub mod part;
 pub mod refusal;
 pub mod request;
 pub mod session;

@@ -7,6 +7,7 @@ use std::process::ExitCode;
 use second::generate::document;
 use second::json::{to_hex, Json};
 use second::number::{evaluate, is_change, round, DefaultScale, CELL, ROW};
+use second::part::{drawn, Parts};
 use second::refusal::{Work, STORE_LENGTH};
 use second::session::Ending;
 use second::state::State;
@@ -17,6 +18,8 @@ const USAGE: &str = "usage: second batch              answer one JSON object a l
        second format FILE          write the pages of a document to standard output
        second show FILE..          print vector files readably
        second generate SEED COUNT  write random documents, one JSON object a line
+       second parts                answer operations on the parts of the formatter from standard input
+       second draw LONGEST FILE..  operations on the parts, drawn from the documents of vector files up to LONGEST bytes
        second numbers              the values of arguments from standard input, one to a line, in units, cells and rows
 A FILE may be - for standard input.";
 
@@ -46,6 +49,8 @@ fn main() -> ExitCode {
         ["show", files @ ..] if !files.is_empty() => show(files),
         ["generate", seed, count] => generate(seed, count),
         ["numbers"] => numbers(),
+        ["parts"] => parts(),
+        ["draw", longest, files @ ..] if !files.is_empty() => number(longest).and_then(|longest| draw(longest, files)),
         _ => Err(Misuse(USAGE.to_string())),
     };
     result.unwrap_or_else(|Misuse(message)| misused(&message))
@@ -174,6 +179,36 @@ fn numbers() -> Result<ExitCode, Misuse> {
         let rows = evaluate(line, DefaultScale::Down).map(|value| round(value, ROW));
         let change = if is_change(line) { " a change" } else { "" };
         writeln!(out, "{} {} {}{change}", shown(units), shown(cells), shown(rows))?;
+    }
+    out.flush()?;
+    Ok(ExitCode::SUCCESS)
+}
+
+fn parts() -> Result<ExitCode, Misuse> {
+    let mut input = Vec::new();
+    io::stdin().lock().read_to_end(&mut input)?;
+    let mut out = BufWriter::new(io::stdout().lock());
+    let mut parts = Parts::default();
+    for line in input.strip_suffix(b"\n").unwrap_or(&input).split(|&byte| byte == b'\n') {
+        out.write_all(&parts.answer(line))?;
+        out.write_all(b"\n")?;
+    }
+    out.flush()?;
+    Ok(ExitCode::SUCCESS)
+}
+
+fn draw(longest: u64, files: &[&str]) -> Result<ExitCode, Misuse> {
+    let mut out = BufWriter::with_capacity(1 << 16, io::stdout().lock());
+    for file in files {
+        lines(file, |_, line| {
+            let document = Vector::parse(line)?.question.document;
+            // Other bytes are refused before any line is dealt with.
+            let plain = document.iter().all(|byte| matches!(byte, b'\n' | b' '..=b'~'));
+            if plain && document.len() as u64 <= longest {
+                out.write_all(&drawn(&document)).map_err(|error| error.to_string())?;
+            }
+            Ok(())
+        })?;
     }
     out.flush()?;
     Ok(ExitCode::SUCCESS)

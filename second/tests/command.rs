@@ -164,3 +164,25 @@ fn show_prints_a_vector_readably() {
         "{shown}"
     );
 }
+
+#[test]
+fn parts_answer_operations() {
+    let operations = "s a x\\*b\nm b\nl one\nl two\ne\nt a\nt b\nt c\nn r 5 2\nn % 1\na 1 \"2 \"\"3\" 4\np \\$2\\n+r\\*a\np \\$2\\n+r\n\
+        c \\e\\.\\$3\nh 3 b\nh -1 a\nx 5 2\nx 4 3\ny 1 2 9 1\nw a b cc dd\nw e\nb\no ab\nu  x\nr b\nq\n";
+    let answers = "ok 1 4\nok 1 4\nok 1 4\nok 1 4\nok 2 12\nstring x\\*b\nmacro one|two|\nnothing\nok 1\nrefused 7\n\
+        3 [1] [2 \"3] [4]\nrefused 9\n[2 \"39]\n[\\ee.4]\nok 1\nok 2\nnone 3\nb 4\nok\n   a b  cc|\nok\nok\n   dd e|\nok\n     ab|\nok\n    x|\nok\n\
+        ok 1 4\n?\n";
+    let output = run(&["parts"], operations.as_bytes());
+    assert!(output.status.success());
+    assert_eq!(text(&output.stdout), answers);
+}
+
+#[test]
+fn operations_are_drawn_from_documents() {
+    // .nr r 1, x
+    let vector = r#"{"doc": "2e6e72207220310a780a", "out": "", "end": "done"}"#;
+    let output = run(&["draw", "10", "-"], vector.as_bytes());
+    assert!(output.status.success(), "{}", text(&output.stderr));
+    assert_eq!(text(&output.stdout), "z\nn r 1\np x\nc x\nw x\nb\nx 66 0\nx 66 65\nx 5 2\n");
+    assert!(run(&["draw", "9", "-"], vector.as_bytes()).stdout.is_empty());
+}

@@ -3,4 +3,5 @@ pub mod Scales
 pub mod Rounding
 pub mod ScaleLaws
 pub mod RoundingLaws
+pub mod Counts
 pub mod Worked

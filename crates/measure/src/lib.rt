@@ -3,6 +3,7 @@ ghost use mathlib.Core.Path.{_≡_};
 ghost use lib.IntN.{pos, _*ℤ_};
 ghost use Rattle.measure.specs.Pitches.{tenPitch};
 ghost use Rattle.measure.specs.Scales.{scaleOf, ratioOf, literalOf};
+ghost use Rattle.measure.specs.Counts.{acrossOf, downOf, cellsAcross, rowsDown};
 ghost use Rattle.measure.specs.Rounding.{halfUp, nearestOf, cellsOf, rowsOf, unitsOfCells, unitsOfRows};
 
 // A count of cells across: a width, an indent, or a change of one.
@@ -158,4 +159,40 @@ pub fn units_of_rows(rows: Rows, pitch: Pitch) -> i64
     ensures { λ r. ⌜ r ≡ unitsOfRows pitch rows ⌝ }
 {
     times(rows.0, pitch.row)
+}
+
+// A count of cells as a plain number; a negative one is none.
+pub fn across(cells: Cells) -> u32
+    ensures { λ r. ⌜ r ≡ acrossOf cells ⌝ }
+{
+    let n = cells.0;
+    if n < 0 {
+        return 0;
+    }
+    n as u32
+}
+
+// A count of rows as a plain number; a negative one is none.
+pub fn down(rows: Rows) -> u32
+    ensures { λ r. ⌜ r ≡ downOf rows ⌝ }
+{
+    let n = rows.0;
+    if n < 0 {
+        return 0;
+    }
+    n as u32
+}
+
+// So many cells.
+pub fn cells_across(count: u16) -> Cells
+    ensures { λ r. ⌜ r ≡ cellsAcross count ⌝ }
+{
+    Cells(count as i32)
+}
+
+// So many rows.
+pub fn rows_down(count: u16) -> Rows
+    ensures { λ r. ⌜ r ≡ rowsDown count ⌝ }
+{
+    Rows(count as i32)
 }

@@ -10,19 +10,9 @@ use borrow.Author.Tests.{ltb-true, ltb-false, lt-leb, le-leb}
 use mir.Syntax.{w32, w64}
 use mir.Val.{SFits}
 use Rattle.measure.specs.RoundingLaws.{abs-neg}
-use Rattle.measure.proofs.Signed.{small}
+use Rattle.measure.proofs.Signed.{small, abs-add}
 use Rattle.rules.specs.Refusals.{value, bad}
 use Rattle.rules.specs.Numbers.{within}
-
-abs-sub : (a b : ℕ) (t : Bool) → ltb a b ≡ t → natAbs (cond t (negsuc (b - suc a)) (pos (a - b))) ≤ a + b
-abs-sub a b true e = let h = ltb-true a b e in omega arith
-abs-sub a b false e = omega arith
-
-abs-add : (a b : ℤ) → natAbs (a +ℤ b) ≤ natAbs a + natAbs b
-abs-add (pos a) (pos b) = omega arith
-abs-add (pos a) (negsuc b) = abs-sub a (suc b) (ltb a (suc b)) refl
-abs-add (negsuc a) (pos b) = let h = abs-sub b (suc a) (ltb b (suc a)) refl in omega arith
-abs-add (negsuc a) (negsuc b) = omega arith
 
 -- what two of 32 bits give fits 64
 module _ (a b : ℤ) (h : SFits w32 a) (k : SFits w32 b) where

@@ -15,7 +15,7 @@ use Rattle.rules.specs.Names.{sameName}
 use Rattle.rules.specs.Refusals.{value}
 use Rattle.rules.specs.RefusalLaws.{judge-value, both}
 use Rattle.rules.specs.NameLaws.{same-self, same-one, same-swap}
-use Rattle.rules.specs.Texts.{Text, text, textOf, remove, live, defineString, openMacro, keepLine, closeMacro}
+use Rattle.rules.specs.Texts.{Text, text, textOf, remove, live, defineStringIn, openMacro, keepLineIn, closeMacro}
 
 -- No two texts have one name.
 abbrev pub Distinct : List Text → Type 0
@@ -133,9 +133,9 @@ distinct-end t (u ∷ us) d h =
     (kept-end (u .name) t us (same-swap (t .name) (u .name) (none-first (t .name) u us h)) ∙ d .0, distinct-end t us (d .1) (none-later (t .name) u us h))
 
 -- A ds that is not refused leaves its string behind the other texts.
-pub define-is : (n : Name) (l : List ℕ) (ts us : List Text) → defineString n l ts ≡ value us → us ≡ remove n ts ++ text n String l ∷ []
-unfolding defineString
-define-is n l ts us h = sym (judge-value (ltb (length (remove n ts)) 64 && leb (live (remove n ts) + length l) 8192) 11 (remove n ts ++ text n String l ∷ []) us h .1)
+pub define-is : (room : ℕ) (n : Name) (l : List ℕ) (ts us : List Text) → defineStringIn room n l ts ≡ value us → us ≡ remove n ts ++ text n String l ∷ []
+unfolding defineStringIn
+define-is room n l ts us h = sym (judge-value (ltb (length (remove n ts)) 64 && leb (live (remove n ts) + length l) room) 11 (remove n ts ++ text n String l ∷ []) us h .1)
 
 -- A de that is not refused leaves the other texts.
 pub open-is : (n : Name) (ts us : List Text) → openMacro n ts ≡ value us → us ≡ remove n ts
@@ -143,21 +143,21 @@ unfolding openMacro
 open-is n ts us h = sym (judge-value (ltb (length (remove n ts)) 64) 11 (remove n ts) us h .1)
 
 -- A body line that is not refused stands behind those before it, with a newline.
-pub keep-is : (ts : List Text) (body line new : List ℕ) → keepLine ts body line ≡ value new → new ≡ body ++ line ++ newline ∷ []
-unfolding keepLine
-keep-is ts body line new h = sym (judge-value (leb (live ts + (length body + suc (length line))) 8192) 11 (body ++ line ++ newline ∷ []) new h .1)
+pub keep-is : (room : ℕ) (ts : List Text) (body line new : List ℕ) → keepLineIn room ts body line ≡ value new → new ≡ body ++ line ++ newline ∷ []
+unfolding keepLineIn
+keep-is room ts body line new h = sym (judge-value (leb (live ts + (length body + suc (length line))) room) 11 (body ++ line ++ newline ∷ []) new h .1)
 
 -- After a ds its string is found under its name.
-pub found-define : (n : Name) (l : List ℕ) (ts us : List Text) → Distinct ts → defineString n l ts ≡ value us → textOf n us ≡ some (text n String l)
-found-define n l ts us d h = rw (define-is n l ts us h) (found-end (text n String l) (remove n ts) (gone-remove n ts d))
+pub found-define : (room : ℕ) (n : Name) (l : List ℕ) (ts us : List Text) → Distinct ts → defineStringIn room n l ts ≡ value us → textOf n us ≡ some (text n String l)
+found-define room n l ts us d h = rw (define-is room n l ts us h) (found-end (text n String l) (remove n ts) (gone-remove n ts d))
 
 -- After a ds every other name is found as before.
-pub kept-define : (m n : Name) (l : List ℕ) (ts us : List Text) → sameName m n ≡ false → defineString n l ts ≡ value us → textOf m us ≡ textOf m ts
-kept-define m n l ts us e h = rw (define-is n l ts us h) (kept-end m (text n String l) (remove n ts) e ∙ kept-remove m n ts e)
+pub kept-define : (room : ℕ) (m n : Name) (l : List ℕ) (ts us : List Text) → sameName m n ≡ false → defineStringIn room n l ts ≡ value us → textOf m us ≡ textOf m ts
+kept-define room m n l ts us e h = rw (define-is room n l ts us h) (kept-end m (text n String l) (remove n ts) e ∙ kept-remove m n ts e)
 
 -- A ds keeps the names distinct.
-pub distinct-define : (n : Name) (l : List ℕ) (ts us : List Text) → Distinct ts → defineString n l ts ≡ value us → Distinct us
-distinct-define n l ts us d h = rw (define-is n l ts us h) (distinct-end (text n String l) (remove n ts) (distinct-remove n ts d) (gone-remove n ts d))
+pub distinct-define : (room : ℕ) (n : Name) (l : List ℕ) (ts us : List Text) → Distinct ts → defineStringIn room n l ts ≡ value us → Distinct us
+distinct-define room n l ts us d h = rw (define-is room n l ts us h) (distinct-end (text n String l) (remove n ts) (distinct-remove n ts d) (gone-remove n ts d))
 
 -- After a de its name is not found: "A macro exists once closed".
 pub gone-open : (n : Name) (ts us : List Text) → Distinct ts → openMacro n ts ≡ value us → textOf n us ≡ none
@@ -236,13 +236,13 @@ unfolding live
 live-end t ts = rw (live-append ts (t ∷ [])) (omega arith)
 
 -- A ds that is not refused leaves a table within the limits.
-pub within-define : (n : Name) (l : List ℕ) (ts us : List Text) → defineString n l ts ≡ value us → Within us
-unfolding defineString
-within-define n l ts us h =
+pub within-define : (room : ℕ) (n : Name) (l : List ℕ) (ts us : List Text) → room ≤ 8192 → defineStringIn room n l ts ≡ value us → Within us
+unfolding defineStringIn
+within-define room n l ts us k h =
     let o = remove n ts in
-    let j = judge-value (ltb (length o) 64 && leb (live o + length l) 8192) 11 (o ++ text n String l ∷ []) us h in
-    let b = both (ltb (length o) 64) (leb (live o + length l) 8192) (j .0) in
-    rw (← j .1) (omega (arith, ltb-true (length o) 64 (b .0), length-end (text n String l) o), omega (arith, leb-true (live o + length l) 8192 (b .1), live-end (text n String l) o))
+    let j = judge-value (ltb (length o) 64 && leb (live o + length l) room) 11 (o ++ text n String l ∷ []) us h in
+    let b = both (ltb (length o) 64) (leb (live o + length l) room) (j .0) in
+    rw (← j .1) (omega (arith, ltb-true (length o) 64 (b .0), length-end (text n String l) o), omega (arith, leb-true (live o + length l) room (b .1), live-end (text n String l) o))
 
 -- A de that is not refused keeps the limits, with a body that is empty.
 pub within-open : (n : Name) (ts us : List Text) → Within ts → openMacro n ts ≡ value us → WithinOpen us []
@@ -252,11 +252,11 @@ within-open n ts us w h =
     rw (← j .1) (omega (arith, ltb-true (length (remove n ts)) 64 (j .0)), omega (arith, remove-lighter n ts))
 
 -- A body line that is not refused keeps the limits.
-pub within-keep : (ts : List Text) (body line new : List ℕ) → WithinOpen ts body → keepLine ts body line ≡ value new → WithinOpen ts new
-unfolding keepLine
-within-keep ts body line new w h =
-    let j = judge-value (leb (live ts + (length body + suc (length line))) 8192) 11 (body ++ line ++ newline ∷ []) new h in
-    rw (← j .1) (w .0, rw (length-append (body ++ line) (newline ∷ []), length-append body line) (omega (arith, leb-true (live ts + (length body + suc (length line))) 8192 (j .0))))
+pub within-keep : (room : ℕ) (ts : List Text) (body line new : List ℕ) → room ≤ 8192 → WithinOpen ts body → keepLineIn room ts body line ≡ value new → WithinOpen ts new
+unfolding keepLineIn
+within-keep room ts body line new k w h =
+    let j = judge-value (leb (live ts + (length body + suc (length line))) room) 11 (body ++ line ++ newline ∷ []) new h in
+    rw (← j .1) (w .0, rw (length-append (body ++ line) (newline ∷ []), length-append body line) (omega (arith, leb-true (live ts + (length body + suc (length line))) room (j .0))))
 
 -- The end of a definition keeps the limits.
 pub within-close : (n : Name) (body : List ℕ) (ts : List Text) → WithinOpen ts body → Within (closeMacro n body ts)

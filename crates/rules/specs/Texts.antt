@@ -38,22 +38,30 @@ live [] = 0
 live (t ∷ ts) = length (t .bytes) + live ts
 
 -- ds: a string in the place of what had its name; "the old text counts as gone when the new definition starts";
--- "11: .. 65th name .. or live text past 8,192 bytes"
-unfoldable pub defineString : Name → List ℕ → List Text → Judged (List Text)
+-- "11: .. 65th name .. or live text past" so many bytes
+unfoldable pub defineStringIn : (room : ℕ) → Name → List ℕ → List Text → Judged (List Text)
 unfolding remove live
-defineString n l ts =
+defineStringIn room n l ts =
     let others = remove n ts in
-    judge (ltb (length others) 64 && leb (live others + length l) 8192) 11 (others ++ text n String l ∷ [])
+    judge (ltb (length others) 64 && leb (live others + length l) room) 11 (others ++ text n String l ∷ [])
+
+-- "11: .. 65th name .. or live text past 8,192 bytes"
+abbrev pub defineString : Name → List ℕ → List Text → Judged (List Text)
+defineString n l ts = defineStringIn 8192 n l ts
 
 -- de: the texts while a macro is open; the old text is gone, and "A macro exists once closed"
 unfoldable pub openMacro : Name → List Text → Judged (List Text)
 unfolding remove
 openMacro n ts = let others = remove n ts in judge (ltb (length others) 64) 11 others
 
--- a body line behind those before it
-unfoldable pub keepLine : List Text → (body line : List ℕ) → Judged (List ℕ)
+-- a body line behind those before it, within so many bytes of live text
+unfoldable pub keepLineIn : (room : ℕ) → List Text → (body line : List ℕ) → Judged (List ℕ)
 unfolding live
-keepLine ts body line = judge (leb (live ts + (length body + suc (length line))) 8192) 11 (body ++ line ++ newline ∷ [])
+keepLineIn room ts body line = judge (leb (live ts + (length body + suc (length line))) room) 11 (body ++ line ++ newline ∷ [])
+
+-- "live text past 8,192 bytes"
+abbrev pub keepLine : List Text → (body line : List ℕ) → Judged (List ℕ)
+keepLine ts body line = keepLineIn 8192 ts body line
 
 -- "A macro exists once closed"
 abbrev pub closeMacro : Name → (body : List ℕ) → List Text → List Text

@@ -15,7 +15,7 @@ use Rattle.rules.specs.Printers.{tenToTheInch}
 use Rattle.rules.specs.Requests.{requestOf}
 use Rattle.rules.specs.Numbers.{evaluate, cells, units}
 use Rattle.rules.specs.Registers.{lookup, setValue, shown}
-use Rattle.rules.specs.Texts.{textOf, remove, live, defineString, openMacro, keepLine}
+use Rattle.rules.specs.Texts.{textOf, remove, live, defineStringIn, openMacro, keepLineIn}
 use Rattle.rules.specs.Escapes.{escaped, scan}
 use Rattle.rules.specs.Arguments.{arguments, first, stringText, condition, word}
 use Rattle.rules.specs.Filling.{words, width, span, place, gaps, spread, spelled, printed, trimmed}
@@ -32,7 +32,7 @@ use Rattle.rules.specs.Pages.{pages}
 
 -- the pages at ten to the inch; whoever unfolds this unfolds every rule
 unfoldable pub pagesHere : List ℕ → Pages
-unfolding halfUp scaleOf firstWhere requestOf evaluate lookup setValue shown textOf remove live defineString openMacro keepLine escaped scan arguments first stringText condition word words width span place gaps spread spelled printed trimmed seenAt nearestTrap plant removeTrap onStack lines spring down break skip eject beginEnd ejectLast fill textLine lineOf holds act perform defines deal dealAgain takeByte readEnd step load pages
+unfolding halfUp scaleOf firstWhere requestOf evaluate lookup setValue shown textOf remove live defineStringIn openMacro keepLineIn escaped scan arguments first stringText condition word words width span place gaps spread spelled printed trimmed seenAt nearestTrap plant removeTrap onStack lines spring down break skip eject beginEnd ejectLast fill textLine lineOf holds act perform defines deal dealAgain takeByte readEnd step load pages
 pagesHere d = pages tenToTheInch d
 
 -- A worked fact: a document with its pages and closing answer, an expression with its value, or one that is rounded to cells.

@@ -9,6 +9,7 @@ use lib.ListN.{length, take, drop, getD}
 use lib.Seq.{sets, slice}
 use Rattle.rules.specs.Bytes.{byte}
 use Rattle.rules.specs.Arguments.{Place, Part, part, afterSpaces, upTo, word, first, arguments}
+use Rattle.scan.specs.Around.{argumentsOf, Arguments}
 use Rattle.scan.specs.declared.Cut.{Cut}
 use Rattle.scan.specs.declared.Argument.{Argument}
 use Rattle.scan.specs.declared.Argument.the-variants.{There, Nothing}
@@ -30,7 +31,7 @@ abbrev pub quoteAt : List ℕ → ℕ → Bool
 quoteAt line at = eqb (getD line at 0) (byte "\"")
 
 -- "expanded line passes 512 bytes" is refused: what is unread of an expanded line has room behind what is written of it
-pub record Room (line : List ℕ) (at : ℕ) (out : List ℕ) (written : ℕ) : Type 0 where
+pub record Unread (line : List ℕ) (at : ℕ) (out : List ℕ) (written : ℕ) : Type 0 where
   pub inside : at ≤ length line
   pub long : length out ≡ 512
   pub short : written + (length line - at) ≤ 512
@@ -57,27 +58,7 @@ abbrev pub Takes : (line : List ℕ) (at : ℕ) (out : List ℕ) (written : ℕ)
 Takes line at out w (There c) out' = Took line at out w c out'
 Takes line at out w Nothing out' = (first (drop at line) ≡ none) × (out' ≡ out)
 
--- the sum of some lengths
-unfoldable pub sum : List ℕ → ℕ
-sum [] = 0
-sum (l ∷ ls) = l + sum ls
-
--- bytes cut into parts of these lengths, one after the other
-unfoldable pub cut : (lengths : List ℕ) → List ℕ → List (List ℕ)
-cut [] bs = []
-cut (l ∷ ls) bs = take l bs ∷ cut ls (drop l bs)
-
--- the arguments of a call: their bytes lie one after the other
-abbrev pub argumentsOf : (bytes lengths : List ℕ) → (count : ℕ) → List (List ℕ)
-argumentsOf bs ls n = cut (take n ls) bs
-
--- arguments lie within their bytes, at most nine
-pub record Held (bytes lengths : List ℕ) (count : ℕ) : Type 0 where
-  pub nine : length lengths ≡ 9
-  pub few : count ≤ 9
-  pub inside : sum (take count lengths) ≤ length bytes
-
 -- the arguments of a line are written
-pub record Arguments (line : List ℕ) (at r : ℕ) (out' lengths' : List ℕ) : Type 0 where
-  pub is : argumentsOf out' lengths' r ≡ arguments (drop at line)
-  pub held : Held out' lengths' r
+pub record PartedAll (line : List ℕ) (at r : ℕ) (out' ends' : List ℕ) : Type 0 where
+  pub is : argumentsOf out' ends' r ≡ arguments (drop at line)
+  pub held : Arguments out' ends' r

@@ -3,16 +3,16 @@ use mathlib.Core.Path.{_≡_, refl, sym, subst}
 use Prim.Native.Nat.{_-_}
 use native.Mathlib.Omega.{arith}
 use borrow.Author.Needs.{needs}
-use Rattle.scan.specs.Parting.{Took, Arguments}
+use Rattle.scan.specs.Parting.{Took, PartedAll}
 use Rattle.scan.proofs.Parting.{Onward, none-yet, one-more, no-more, nine-there}
 use Rattle.scan.proofs.arguments.Statement.{statement}
 use Rattle.scan.proofs.arguments.Tie as tie
 
 abbrev Inv-loop : tie.InvT-loop
-Inv-loop line at out₀ lengths₀ count₀ i₀ w₀ out lengths count i w = Onward line at i out lengths count w
+Inv-loop line at out₀ ends₀ count₀ i₀ w₀ out ends count i w = Onward line at i out ends count w
 
 abbrev μ-loop : tie.MeasureT-loop
-μ-loop line at out₀ lengths₀ count₀ i₀ w₀ out lengths count i w = 9 - count
+μ-loop line at out₀ ends₀ count₀ i₀ w₀ out ends count i w = 9 - count
 
 loop-holds : tie.Need-loop-holds Inv-loop μ-loop
 loop-holds c = let p = c .before .pre in none-yet _ _ _ _ (p .0 .inside) (p .0 .long) (p .1) (p .0 .short)
@@ -29,17 +29,14 @@ took : (c : tie.After-struct-known Inv-loop μ-loop) →
     Took (c .before .before .before .before .before .before .before .before .before .args .line .now) (l .i) (l .out) (l .w) (c .before .before .cut .given .0 .0) (m .next-argument .last .1 .1 .0)
 took c = rw (c .before .before .cut .given .1) at (c .before .before .before .before .next-argument .ensures)
 
-sub-lengths : tie.Need-sub-lengths Inv-loop μ-loop
-sub-lengths c = omega (arith, took c .count)
+cast-ends : tie.Need-cast-ends Inv-loop μ-loop
+cast-ends c = record { fits = omega (arith, took c .short, took c .inside, c .before .before .before .before .before .before .before .loop .inv .short) }
 
-cast-lengths : tie.Need-cast-lengths Inv-loop μ-loop
-cast-lengths c = record { fits = omega (arith, took c .short, took c .inside, c .before .before .before .before .before .before .before .loop .inv .short) }
+mul-ends : tie.Need-mul-ends Inv-loop μ-loop
+mul-ends c = search needs
 
-mul-lengths : tie.Need-mul-lengths Inv-loop μ-loop
-mul-lengths c = search needs
-
-element-write-lengths : tie.Need-element-write-lengths Inv-loop μ-loop
-element-write-lengths c = search needs
+element-write-ends : tie.Need-element-write-ends Inv-loop μ-loop
+element-write-ends c = search needs
 
 add-count : tie.Need-add-count Inv-loop μ-loop
 add-count c = search needs
@@ -48,7 +45,7 @@ loop-less : tie.Need-loop-less Inv-loop μ-loop
 loop-less c = search needs
 
 loop-again : tie.Need-loop-again Inv-loop μ-loop
-loop-again c = one-more _ _ _ _ _ _ _ (c .before .before .before .before .before .before .before .loop .inv) _ _ _ (omega arith) (took c) refl
+loop-again c = one-more _ _ _ _ _ _ _ (c .before .before .before .before .before .before .before .loop .inv) _ _ (omega arith) (took c)
 
 enum-told : tie.Need-enum-told Inv-loop μ-loop
 enum-told c = search needs
@@ -58,7 +55,7 @@ returns c =
     let l = c .before .before .before .before .before .loop in
     let a = c .before .before .before .before .before .before .before .args in
     let t = rw (c .enum-told .given .1) at (c .before .before .next-argument .ensures) in
-    subst (λ o. Arguments (a .line .now) (a .at) (l .count) o (l .lengths)) (sym (t .1)) (no-more _ _ _ _ _ _ _ (l .inv) (omega arith) (t .0))
+    subst (λ o. PartedAll (a .line .now) (a .at) (l .count) o (l .ends)) (sym (t .1)) (no-more _ _ _ _ _ _ _ (l .inv) (omega arith) (t .0))
 
 returns-2 : tie.Need-returns-2 Inv-loop μ-loop
 returns-2 c = let l = c .before .loop in nine-there _ _ _ _ _ _ _ (l .inv) (omega arith)
@@ -72,10 +69,9 @@ arguments-spec =
     loop-holds
     next-argument-requires
     enum-known-cut
-    sub-lengths
-    cast-lengths
-    mul-lengths
-    element-write-lengths
+    cast-ends
+    mul-ends
+    element-write-ends
     add-count
     loop-less
     loop-again

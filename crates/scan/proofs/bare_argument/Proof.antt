@@ -7,7 +7,7 @@ use borrow.Author.Needs.{needs}
 use borrow.Author.Tests.{eq-eqb, ne-eqb}
 use Rattle.rules.specs.Bytes.{space}
 use Rattle.rules.specs.Arguments.{bare}
-use Rattle.scan.proofs.Places.{Onward, onward, ends, bare-turn, bare-stop, any-end}
+use Rattle.scan.proofs.Parts.{Onward, onward, ends, bare-turn, bare-stop, any-end}
 use Rattle.scan.proofs.bare_argument.Statement.{statement}
 use Rattle.scan.proofs.bare_argument.Tie as tie
 

@@ -7,7 +7,7 @@ use borrow.Author.Needs.{needs}
 use borrow.Author.Tests.{eqb-true, ne-eqb}
 use Rattle.rules.specs.Bytes.{byte}
 use Rattle.rules.specs.Arguments.{quoted}
-use Rattle.scan.proofs.Places.{Onward, onward, ends, quoted-turn, quoted-two, quoted-stop, quote-inside, any-end}
+use Rattle.scan.proofs.Parts.{Onward, onward, ends, quoted-turn, quoted-two, quoted-stop, quote-inside, any-end}
 use Rattle.scan.proofs.quoted_argument.Statement.{statement}
 use Rattle.scan.proofs.quoted_argument.Tie as tie
 

@@ -7,7 +7,7 @@ use borrow.Author.Needs.{needs}
 use borrow.Author.Tests.{eq-eqb, ne-eqb}
 use Rattle.rules.specs.Bytes.{space}
 use Rattle.rules.specs.Arguments.{afterSpaces}
-use Rattle.scan.proofs.Places.{space-more, space-stop, space-end}
+use Rattle.scan.proofs.Parts.{space-more, space-stop, space-end}
 use Rattle.scan.proofs.skip_spaces.Statement.{statement}
 use Rattle.scan.proofs.skip_spaces.Tie as tie
 

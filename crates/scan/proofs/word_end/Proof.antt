@@ -8,7 +8,7 @@ use borrow.Author.Tests.{eq-eqb, ne-eqb}
 use lib.ListN.{take}
 use Rattle.rules.specs.Bytes.{space}
 use Rattle.rules.specs.Arguments.{bare, upTo}
-use Rattle.scan.proofs.Places.{ahead, passing, passes, passed, bare-stop, any-end}
+use Rattle.scan.proofs.Parts.{ahead, passing, passes, passed, bare-stop, any-end}
 use Rattle.scan.proofs.word_end.Statement.{statement}
 use Rattle.scan.proofs.word_end.Tie as tie
 

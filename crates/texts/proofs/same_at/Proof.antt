@@ -1,0 +1,21 @@
+-- `texts::same_at` meets its contract, byte by byte. Assumes nothing.
+use borrow.Author.Needs.{needs}
+use borrow.Author.Tests.{eq-eqb, ne-eqb}
+use Rattle.texts.proofs.same_at.Statement.{statement}
+use Rattle.texts.proofs.same_at.Tie as tie
+
+element-copy-out-first : tie.Need-element-copy-out-first
+element-copy-out-first c = search needs
+
+element-copy-out-second : tie.Need-element-copy-out-second
+element-copy-out-second c = search needs
+
+returns : tie.Need-returns
+returns c = rw (eq-eqb _ _ (c .before .before .if1 .taken))
+
+returns-2 : tie.Need-returns-2
+returns-2 c = rw (ne-eqb _ _ (c .if1 .left))
+
+pub same-at-spec : {M : Type 1} → statement M
+same-at-spec =
+    tie.close (tie.spec element-copy-out-first element-copy-out-second returns returns-2)

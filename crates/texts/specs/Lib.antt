@@ -1,0 +1,5 @@
+pub mod Table
+pub mod Places
+pub mod Lines
+pub mod Requests
+pub mod Changes
