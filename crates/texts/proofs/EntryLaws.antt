@@ -17,7 +17,7 @@ use Rattle.rules.specs.Bytes.{newline}
 use Rattle.rules.specs.Texts.{Text, text, remove, live, defineStringIn, openMacro, keepLineIn}
 use Rattle.texts.specs.declared.Place.the-variants.{At, Not}
 use Rattle.texts.specs.declared.Stored.the-variants.{Set, Full}
-use Rattle.texts.specs.declared.Kept.the-variants.{Longer, Refused}
+use Rattle.texts.specs.declared.Kept.the-variants as kept
 use Rattle.texts.specs.Table.{zipWith, kindOf, row, asPair, namesOf, rowsOf, sum, cut, textsOf, Lies}
 use Rattle.texts.specs.Places.{placeOf}
 use Rattle.texts.specs.Changes.{lesser, roomOf, TakenOut, Appended, DefinedTo, Opens, bodyOf, OpenedTo, KeptTo, ClosedTo}
@@ -232,7 +232,7 @@ module _ (st ls : List ℕ) (n o : ℕ) (g : Opens st ls n o) (x : List ℕ) whe
   body-long : length (bodyOf st ls n o) ≡ o
   body-long = length-take-le o (drop (sum (take n ls)) st) (omega (arith, g .inside, length-drop (sum (take n ls)) st))
 
-  pub keep-refused : roomOf (length st) < sum (take n ls) + o + (length x + 1) → KeptTo st ls n o x Refused st
+  pub keep-refused : roomOf (length st) < sum (take n ls) + o + (length x + 1) → KeptTo st ls n o x kept.Full st
   keep-refused k =
       record {
         is = λ fs ss ks h. keep-full (roomOf (length st)) (textsOf st fs ss ks ls n) (bodyOf st ls n o) x (omega (arith, texts-live st fs ss ks ls n h, body-long));
@@ -282,7 +282,7 @@ module _ (st ls : List ℕ) (n o : ℕ) (g : Opens st ls n o) (x : List ℕ) whe
     new-long : length new ≡ length st
     new-long = length-set copied (place + length x) 10 ∙ copied-long
 
-    pub kept-line : KeptTo st ls n o x (Longer (o + (length x + 1))) (set (paste st (sum (take n ls) + o) x (length x)) (sum (take n ls) + o + length x) 10)
+    pub kept-line : KeptTo st ls n o x (kept.Longer (o + (length x + 1))) (set (paste st (sum (take n ls) + o) x (length x)) (sum (take n ls) + o + length x) 10)
     kept-line =
         record {
           is = λ fs ss ks h. keep-set (roomOf (length st)) (textsOf st fs ss ks ls n) (bodyOf st ls n o) x (bodyOf new ls n (o + (length x + 1))) (omega (arith, texts-live st fs ss ks ls n h, body-long)) body-is;

@@ -11,7 +11,7 @@ use Rattle.rules.specs.Texts.{Text, text, remove, defineStringIn, openMacro, ke
 use Rattle.texts.specs.declared.Stored.{Stored}
 use Rattle.texts.specs.declared.Stored.the-variants.{Set, Full}
 use Rattle.texts.specs.declared.Kept.{Kept}
-use Rattle.texts.specs.declared.Kept.the-variants.{Longer, Refused}
+use Rattle.texts.specs.declared.Kept.the-variants as kept
 use Rattle.texts.specs.Table.{kindOf, sum, textsOf, Lies}
 
 -- the lesser of two
@@ -123,18 +123,18 @@ pub record OpenedTo (st fs ss ks ls : List ℕ) (count : ℕ) (name : Name) (r :
 
 -- the body of an open definition after a line, or a refusal
 abbrev pub keptOf : Kept → (ℕ → List ℕ) → Judged (List ℕ)
-keptOf (Longer n) body = value (body n)
-keptOf Refused body = bad 11
+keptOf (kept.Longer n) body = value (body n)
+keptOf kept.Full body = bad 11
 
 -- how many bytes it has then, of so many before
 abbrev pub openedOf : Kept → ℕ → ℕ
-openedOf (Longer n) o = n
-openedOf Refused o = o
+openedOf (kept.Longer n) o = n
+openedOf kept.Full o = o
 
 -- a refused line changes nothing
 abbrev pub KeptRefused : Kept → (st st' : List ℕ) → Type 0
-KeptRefused (Longer n) st st' = Unit
-KeptRefused Refused st st' = st' ≡ st
+KeptRefused (kept.Longer n) st st' = Unit
+KeptRefused kept.Full st st' = st' ≡ st
 
 -- a body line is kept as the rules say, and the texts stay as they are
 pub record KeptTo (st ls : List ℕ) (count opened : ℕ) (line : List ℕ) (r : Kept) (st' : List ℕ) : Type 0 where

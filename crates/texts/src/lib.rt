@@ -49,7 +49,7 @@ pub enum Stored {
 // How many bytes the body of an open definition has, or no room for the line.
 pub enum Kept {
     Longer(usize),
-    Refused,
+    Full,
 }
 
 // A part of the store, from a place up to another.
@@ -557,10 +557,10 @@ pub fn open_macro(
             Stored::Set(count - 1)
         }
         Place::Not => {
-            if 64 <= count {
-                return Stored::Full;
+            if count < 64 {
+                return Stored::Set(count);
             }
-            Stored::Set(count)
+            Stored::Full
         }
     }
 }
@@ -580,7 +580,7 @@ pub fn keep_line(
     let room = room_of(store.len());
     let more = line.len() + 1;
     if too_long(room, at, more) {
-        return Kept::Refused;
+        return Kept::Full;
     }
     copy_in(store, at, line);
     store[at + line.len()] = b'\n';

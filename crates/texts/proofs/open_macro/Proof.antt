@@ -41,7 +41,7 @@ enum-told c = search needs
 
 returns : tie.Need-returns
 returns c =
-    let s = c .before .before .before .before .before .before .before in open-65 _ _ _ _ _ _ (s .pre) (s .args .name) (missing (c .before)) (c .if1 .taken)
+    let s = c .before .before .before .before .before .before .before in open-new _ _ _ _ _ _ (s .pre) (s .args .name) (missing (c .before)) (c .if1 .taken)
 
 same-length : tie.Need-same-length
 same-length c = search needs
@@ -52,7 +52,7 @@ returns-2 c =
 
 returns-3 : tie.Need-returns-3
 returns-3 c =
-    let s = c .before .before .before .before .before .before .before in open-new _ _ _ _ _ _ (s .pre) (s .args .name) (missing (c .before)) (omega arith)
+    let s = c .before .before .before .before .before .before .before in open-65 _ _ _ _ _ _ (s .pre) (s .args .name) (missing (c .before)) (omega arith)
 
 pub open-macro-spec : {M : Type 1} → statement M
 open-macro-spec =
