@@ -1,3 +1,6 @@
 pub mod Parts
 pub mod Words
 pub mod Ends
+pub mod Writing
+pub mod Signed
+pub mod Placing

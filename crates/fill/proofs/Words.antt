@@ -85,7 +85,7 @@ run-few (b ∷ l) = go (eqb b space) (run l) (run-few l)
     go false n h = omega arith
 
 -- a line is its leading spaces and the rest
-spaces-front : (l : List ℕ) → l ≡ replicate (spaces l) space ++ drop (spaces l) l
+pub spaces-front : (l : List ℕ) → l ≡ replicate (spaces l) space ++ drop (spaces l) l
 unfolding spaces
 spaces-front [] = refl
 spaces-front (b ∷ l) = go (eqb b space) refl (spaces-front l)
@@ -127,7 +127,7 @@ run-then (b ∷ l) = go (eqb b space) refl (run-then l)
     go false e h = h
 
 -- a word behind spaces
-gap-word : (g : ℕ) (m : List ℕ) → Starts m → 0 < length m → words (replicate g space ++ m) ≡ word g (take (run m) m) ∷ words (drop (run m) m)
+pub gap-word : (g : ℕ) (m : List ℕ) → Starts m → 0 < length m → words (replicate g space ++ m) ≡ word g (take (run m) m) ∷ words (drop (run m) m)
 unfolding run
 gap-word g [] s h = absurd (omega arith)
 gap-word g (b ∷ r) s h =

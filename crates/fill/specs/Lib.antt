@@ -1,2 +1,4 @@
 pub mod Parts
 pub mod Words
+pub mod Writing
+pub mod Filled
