@@ -4,3 +4,5 @@ pub mod Ends
 pub mod Writing
 pub mod Signed
 pub mod Placing
+pub mod Spreading
+pub mod Rows

@@ -49,13 +49,13 @@ module _ (l : List ℕ) (at to from : ℕ) (f : from ≡ at + spaces (part l at 
   front-is : part l at to ≡ replicate (spaces (part l at to)) space ++ part l from to
   front-is = spaces-front (part l at to) ∙ ap (λ (x : List ℕ). replicate (spaces (part l at to)) space ++ x) rest-is
 
-  part-starts : Starts (part l from to)
+  pub part-starts : Starts (part l from to)
   part-starts = subst Starts rest-is (spaces-then (part l at to))
 
   after-skip : (g : ℕ) → after g (words (part l at to)) ≡ after g (words (part l from to))
   after-skip g = ap (λ (x : List ℕ). after g (words x)) front-is ∙ after-spaces g (spaces (part l at to)) (part l from to)
 
-  words-skip : words (part l at to) ≡ after (from - at) (words (part l from to))
+  pub words-skip : words (part l at to) ≡ after (from - at) (words (part l from to))
   words-skip =
       let z : spaces (part l at to) ≡ from - at = omega arith in
       ap words front-is ∙ words-after (spaces (part l at to)) (part l from to) part-starts ∙ ap (λ (k : ℕ). after k (words (part l from to))) z
@@ -86,7 +86,7 @@ module _ (line : List ℕ) (at to gap : ℕ) (entry : List ℕ) (count room : �
 
   module _ (cells : List ℕ) (from before n : ℕ) (q : Placing line at to gap entry count room cells from before n) where
     -- all words are placed
-    pub placed-all : to ≤ from → PlacedTo line at to gap entry count room (All n) cells
+    pub placed-all : to ≤ from → PlacedTo line at to (after gap (words (part line at to))) entry count room (All n) cells
     unfolding words rules.place
     placed-all h = record {
       is = λ i k. sym (q .is i k ∙ ap (λ (x : List ℕ). rules.place (lineOf i room cells n k) (after before (words x))) (part-none line from to h));
@@ -125,7 +125,7 @@ module _ (line : List ℕ) (at to gap : ℕ) (entry : List ℕ) (count room : �
 
       -- the word does not fit
       pub placed-full : room < n + before + w .width
-          → PlacedTo line at to gap entry count room (Full (record { length = n; gap = before; from = from; to = w .to; width = w .width })) cells
+          → PlacedTo line at to (after gap (words (part line at to))) entry count room (Full (record { length = n; gap = before; from = from; to = w .to; width = w .width })) cells
       placed-full f = record {
         is = λ i j. sym (next-is i j ∙ place-stops (lineOf i room cells n j) (word before (part line from (w .to))) (words (part line (w .to) to))
             (lt-leb (length (take n cells) + before + width (part line from (w .to))) room (omega (arith, count-is, word-width))));
@@ -160,3 +160,17 @@ module _ (line : List ℕ) (at to gap : ℕ) (entry : List ℕ) (count room : �
         where
           further : (x y : List ℕ) (a b : ℕ) → drop a x ≡ drop a y → drop (a + b) x ≡ drop (a + b) y
           further x y a b e = sym (drop-drop b a x) ∙ ap (drop b) e ∙ drop-drop b a y
+
+-- the same words, read from further in front
+good-before : (line : List ℕ) (at from to : ℕ) (r : Placed) → at ≤ from → GoodPlaced line from to r → GoodPlaced line at to r
+good-before line at from to (All n) h g = tt
+good-before line at from to (Full o) h g = (omega (arith, g .0), g .1, g .2, g .3)
+
+pub placed-others : (line : List ℕ) (at to from : ℕ) (entry : List ℕ) (count room : ℕ) (r : Placed) (exit : List ℕ) → at ≤ from → from ≡ at + spaces (part line at to)
+    → PlacedTo line from to (after (from - at) (words (part line from to))) entry count room r exit → PlacedTo line at to (words (part line at to)) entry count room r exit
+placed-others line at to from entry count room r exit h f p = record {
+  is = λ i k. p .is i k ∙ ap (rules.place (lineOf i room entry count k)) (sym (words-skip line at to from f));
+  rest = p .rest;
+  cells = p .cells;
+  good = good-before line at from to r h (p .good);
+}

@@ -3,7 +3,7 @@ use mathlib.Core.Path.{_≡_}
 use mathlib.Core.List.{List}
 use Prim.Native.Nat.{ℕ, _≤_, _<_}
 use lib.ListN.{length, take, drop}
-use Rattle.rules.specs.Filling.{Collected, Word, word, words, width, after}
+use Rattle.rules.specs.Filling.{Collected, Word, word, words, width}
 use Rattle.rules.specs.Filling as rules
 use Rattle.fill.specs.Parts.{part}
 use Rattle.fill.specs.declared.Placed.{Placed}
@@ -35,8 +35,8 @@ GoodPlaced line at to (All n) = Unit {0}
 GoodPlaced line at to (Full o) = (at ≤ o .from) × (o .from < o .to) × (o .to ≤ to) × (o .width ≡ width (part line (o .from) (o .to)))
 
 -- words joined the collected line until one did not fit; the cells behind it are as before
-pub record PlacedTo (line : List ℕ) (at to gap : ℕ) (entry : List ℕ) (count room : ℕ) (r : Placed) (exit : List ℕ) : Type 0 where
-  pub is : (indent next : ℕ) → placedOf indent room exit next line to r ≡ rules.place (lineOf indent room entry count next) (after gap (words (part line at to)))
+pub record PlacedTo (line : List ℕ) (at to : ℕ) (ws : List Word) (entry : List ℕ) (count room : ℕ) (r : Placed) (exit : List ℕ) : Type 0 where
+  pub is : (indent next : ℕ) → placedOf indent room exit next line to r ≡ rules.place (lineOf indent room entry count next) ws
   pub rest : drop (countOf r) exit ≡ drop (countOf r) entry
   pub cells : Line exit (countOf r) room
   pub good : GoodPlaced line at to r

@@ -2,3 +2,4 @@ pub mod Parts
 pub mod Words
 pub mod Writing
 pub mod Filled
+pub mod Lines
