@@ -6,3 +6,4 @@ pub mod Signed
 pub mod Placing
 pub mod Spreading
 pub mod Rows
+pub mod Layouts

@@ -251,6 +251,7 @@ pub fn begin_line(
 ) -> usize
     requires { ⌜ Places (now line) from to × (lead ≤ from) × (length (now cells) ≡ 512) ⌝ }
     ensures { λ r. ⌜ Written (now (cells .entry)) 0 (printed (replicate lead fixedBlank ++ part (now (line .entry)) from to)) (now (cells .exit)) r ⌝ }
+    ensures { λ r. ⌜ Places (now (cells .exit)) 0 r ⌝ }
 {
     put_run(&mut *cells, 0, lead, b' ');
     put_word(line, from, to, &mut *cells, lead)
@@ -468,6 +469,7 @@ fn put_row(
 ) -> usize
     requires { ⌜ Places (now cells) 0 length × RowRoom (now row) (blanks + 1) (spread each few (part (now cells) 0 length)) ⌝ }
     ensures { λ r. ⌜ Written (now (row .entry)) 0 (rowOf blanks (spread each few (part (now (cells .entry)) 0 length))) (now (row .exit)) r ⌝ }
+    ensures { λ r. ⌜ r ≤ 872 ⌝ }
 {
     let end = cells_end(cells, length);
     if end == 0 {
@@ -490,6 +492,7 @@ pub fn broken_row(
 ) -> usize
     requires { ⌜ Places (now cells) 0 length × Margins (now row) offset indent ⌝ }
     ensures { λ r. ⌜ Written (now (row .entry)) 0 (rowOf (acrossOf offset + acrossOf indent) (level (take length (now (cells .entry))))) (now (row .exit)) r ⌝ }
+    ensures { λ r. ⌜ r ≤ 872 ⌝ }
 {
     let blanks = count(offset) + count(indent);
     put_row(cells, length, 0, length, blanks, row)
@@ -507,6 +510,7 @@ pub fn full_row(
 ) -> usize
     requires { ⌜ Line (now cells) length (acrossOf room) × Margins (now row) offset indent ⌝ }
     ensures { λ r. ⌜ Written (now (row .entry)) 0 (rowOf (acrossOf offset + acrossOf indent) (adjusted adjusting (lineOf (acrossOf indent) (acrossOf room) (now (cells .entry)) length 1))) (now (row .exit)) r ⌝ }
+    ensures { λ r. ⌜ r ≤ 872 ⌝ }
 {
     let blanks = count(offset) + count(indent);
     let share = share_of(cells, length, count(room), adjusting);
@@ -570,6 +574,7 @@ fn text_end(line: &[u8; 512], at: usize, to: usize) -> usize
 fn put_text(line: &[u8; 512], at: usize, to: usize, blanks: usize, row: &mut [u8; 872]) -> usize
     requires { ⌜ Places (now line) at to × RowRoom (now row) (blanks + 1) (printed (part (now line) at to)) ⌝ }
     ensures { λ r. ⌜ Written (now (row .entry)) 0 (rowOf blanks (printed (part (now (line .entry)) at to))) (now (row .exit)) r ⌝ }
+    ensures { λ r. ⌜ r ≤ 872 ⌝ }
 {
     let end = text_end(line, at, to);
     if end == at {
@@ -595,6 +600,7 @@ pub fn standing_row(
 ) -> usize
     requires { ⌜ Places (now line) at to × (acrossOf room ≤ 512) × Margins (now row) offset indent ⌝ }
     ensures { λ r. ⌜ Written (now (row .entry)) 0 (standingOf (acrossOf offset) (acrossOf indent) (acrossOf room) centred (words (part (now (line .entry)) at to))) (now (row .exit)) r ⌝ }
+    ensures { λ r. ⌜ r ≤ 872 ⌝ }
 {
     let end = trim_end(line, at, to);
     let left = left_blanks(line, at, end, centred, count(room));
@@ -606,6 +612,7 @@ pub fn standing_row(
 pub fn blank_rows(rows: Rows, row: &mut [u8; 872]) -> usize
     requires { ⌜ (length (now row) ≡ 872) × (downOf rows ≤ 500) ⌝ }
     ensures { λ r. ⌜ Written (now (row .entry)) 0 (blankRows (downOf rows)) (now (row .exit)) r ⌝ }
+    ensures { λ r. ⌜ r ≤ 872 ⌝ }
 {
     let n = count_rows(rows);
     put_run(&mut *row, 0, n, b'\n');

@@ -20,7 +20,7 @@ returns : tie.Need-returns
 returns c =
     let n = c .before .before .count-rows in
     let e = c .put-run .ensures in
-    record { is = e ∙ rw (n .ensures); end = omega (arith, n .ensures, length-replicate (downOf (c .before .before .before .args .rows)) newline); long = rw e (simp length-sets) }
+    (record { is = e ∙ rw (n .ensures); end = omega (arith, n .ensures, length-replicate (downOf (c .before .before .before .args .rows)) newline); long = rw e (simp length-sets) }, omega (arith, n .ensures, c .before .before .before .pre .1))
 
 pub blank-rows-spec : {M : Type 1} → statement M
 blank-rows-spec = tie.close (tie.spec count-rows-requires put-run-requires returns)

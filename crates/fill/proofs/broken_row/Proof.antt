@@ -30,7 +30,7 @@ put-row-requires c κs =
 returns : tie.Need-returns
 returns c =
     let a = c .before .before .before .before .args in
-    written-as (λ i. row (c .before .before .before .count .ensures i + c .before .before .count2 .ensures i) (share-off (now (a .cells)) (a .length) 0 (omega (arith, c .before .before .before .before .pre .0)) i)) (c .put-row .ensures)
+    (written-as (λ i. row (c .before .before .before .count .ensures i + c .before .before .count2 .ensures i) (share-off (now (a .cells)) (a .length) 0 (omega (arith, c .before .before .before .before .pre .0)) i)) (c .put-row .ensures .0), c .put-row .ensures .1)
 
 pub broken-row-spec : {M : Type 1} → statement M
 broken-row-spec =

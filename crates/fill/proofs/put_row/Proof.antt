@@ -30,7 +30,7 @@ element-write-row c = search needs
 returns : tie.Need-returns
 returns c =
     let a = c .before .before .args in
-    row-alone (now (a .row)) _ (cells-none (now (a .cells)) (a .length) (c .before .cells-end .result) (omega arith) (c .before .cells-end .ensures) (a .blanks) (a .each) (a .few) (c .if1 .taken))
+    (row-alone (now (a .row)) _ (cells-none (now (a .cells)) (a .length) (c .before .cells-end .result) (omega arith) (c .before .cells-end .ensures) (a .blanks) (a .each) (a .few) (c .if1 .taken)), search needs)
 
 put-run-requires : tie.Need-put-run-requires
 put-run-requires c κs = search needs
@@ -50,9 +50,11 @@ add-result c = omega (arith, below c)
 
 returns-2 : tie.Need-returns-2
 returns-2 c =
-    let a = c .before .before .before .before .before .before .args in
-    row-done (now (a .row)) _ _ _ _ (a .blanks) _ (c .before .before .put-run .ensures) (c .spread-cells .ensures)
-    (cells-row (now (a .cells)) (a .length) (c .before .before .before .before .before .cells-end .result) (omega (arith, c .before .before .before .before .before .before .pre .0)) (c .before .before .before .before .before .cells-end .ensures) (a .blanks) (a .each) (a .few) (omega (arith, c .before .before .before .before .if1 .left)))
+    let a = c .before .before .before .before .before .before .args in (
+      row-done (now (a .row)) _ _ _ _ (a .blanks) _ (c .before .before .put-run .ensures) (c .spread-cells .ensures)
+          (cells-row (now (a .cells)) (a .length) (c .before .before .before .before .before .cells-end .result) (omega (arith, c .before .before .before .before .before .before .pre .0)) (c .before .before .before .before .before .cells-end .ensures) (a .blanks) (a .each) (a .few) (omega (arith, c .before .before .before .before .if1 .left))),
+      omega (arith, below c),
+    )
 
 pub put-row-spec : {M : Type 1} → statement M
 put-row-spec =

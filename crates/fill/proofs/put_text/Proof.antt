@@ -34,7 +34,7 @@ element-write-row c = search needs
 returns : tie.Need-returns
 returns c =
     let a = c .before .before .args in
-    row-alone (now (a .row)) _ (text-none (now (a .line)) (a .at) (a .to) (c .before .text-end .result) (omega arith) (c .before .text-end .ensures) (a .blanks) (c .if1 .taken))
+    (row-alone (now (a .row)) _ (text-none (now (a .line)) (a .at) (a .to) (c .before .text-end .result) (omega arith) (c .before .text-end .ensures) (a .blanks) (c .if1 .taken)), search needs)
 
 put-run-requires : tie.Need-put-run-requires
 put-run-requires c κs = search needs
@@ -55,9 +55,11 @@ add-result c = omega (arith, below c)
 
 returns-2 : tie.Need-returns-2
 returns-2 c =
-    let a = c .before .before .before .before .before .before .args in
-    row-done (now (a .row)) _ _ _ _ (a .blanks) _ (c .before .before .put-run .ensures) (c .put-word .ensures)
-    (text-row (now (a .line)) (a .at) (a .to) (c .before .before .before .before .before .text-end .result) (omega (arith, c .before .before .before .before .before .before .pre .0)) (c .before .before .before .before .before .text-end .ensures) (a .blanks) (omega (arith, c .before .before .before .before .if1 .left, c .before .before .before .before .before .text-end .ensures .low)))
+    let a = c .before .before .before .before .before .before .args in (
+      row-done (now (a .row)) _ _ _ _ (a .blanks) _ (c .before .before .put-run .ensures) (c .put-word .ensures)
+          (text-row (now (a .line)) (a .at) (a .to) (c .before .before .before .before .before .text-end .result) (omega (arith, c .before .before .before .before .before .before .pre .0)) (c .before .before .before .before .before .text-end .ensures) (a .blanks) (omega (arith, c .before .before .before .before .if1 .left, c .before .before .before .before .before .text-end .ensures .low))),
+      omega (arith, below c),
+    )
 
 pub put-text-spec : {M : Type 1} → statement M
 put-text-spec =

@@ -67,7 +67,7 @@ returns c =
     let t = c .before .before .before .before .before .before .trim-end in
     let l : c .before .before .before .before .left-blanks .result ≡ left (oneIf (a .centred)) (acrossOf (a .room) - span (words (part (now (a .line)) (a .at) (a .to)))) =
     c .before .before .before .before .left-blanks .ensures ∙ (λ i. left (oneIf (a .centred)) (c .before .before .before .before .before .count .ensures i - standing-width (now (a .line)) (a .at) (a .to) (t .result) (t .ensures .0) i)) in
-    written-as (λ i. row (c .before .before .before .count2 .ensures i + c .before .before .count3 .ensures i + l i) (standing-bytes (now (a .line)) (a .at) (a .to) (t .result) (t .ensures .0) i)) (c .put-text .ensures)
+    (written-as (λ i. row (c .before .before .before .count2 .ensures i + c .before .before .count3 .ensures i + l i) (standing-bytes (now (a .line)) (a .at) (a .to) (t .result) (t .ensures .0) i)) (c .put-text .ensures .0), c .put-text .ensures .1)
 
 pub standing-row-spec : {M : Type 1} → statement M
 standing-row-spec =
