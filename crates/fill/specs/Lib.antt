@@ -1,0 +1,5 @@
+pub mod Parts
+pub mod Words
+pub mod Writing
+pub mod Filled
+pub mod Lines
