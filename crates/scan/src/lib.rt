@@ -6,23 +6,22 @@ use rules::Mode;
 use rules::Name;
 use rules::Turn;
 use texts::Found;
-ghost use Prim.Native.Nat.{_≤_, _-_};
-ghost use lib.ListN.{length, getD};
-ghost use mathlib.Core.List.{[], _∷_};
-ghost use Rattle.scan.specs.Writes.{Room, WroteTo, CopiedTo};
-ghost use Rattle.rules.specs.Escapes.{escaped};
 ghost use mathlib.Core.Path.{_≡_};
+ghost use mathlib.Core.List.{[], _∷_};
+ghost use Prim.Native.Nat.{_-_, _≤_};
+ghost use lib.ListN.{length, getD};
 ghost use lib.IntN.{natAbs};
-ghost use Rattle.rules.specs.Registers.{decimal};
-ghost use Rattle.scan.specs.Digits.{DigitsAt};
-ghost use Rattle.registers.specs.Columns.{Table};
-ghost use Rattle.scan.specs.Acts.{wroteAs, ShownTo, EnteredTo, Ready, ActsTo};
-ghost use Rattle.texts.specs.Table.{Lies};
-ghost use Rattle.scan.specs.Expansion.{NextIs, ExpandsTo, ScannedTo};
-ghost use Rattle.scan.specs.Around.{Arguments, Begins, beginOf, argumentsOf, givenAt, around};
-ghost use Rattle.rules.specs.Escapes.{number, aString, slash, numbering, naming, argument};
 ghost use Rattle.rules.specs.declared.Mode.the-variants.{Plain, Copy};
+ghost use Rattle.rules.specs.Registers.{decimal};
+ghost use Rattle.rules.specs.Escapes.{number, aString, slash, numbering, naming, argument, escaped};
+ghost use Rattle.registers.specs.Columns.{Table};
+ghost use Rattle.texts.specs.Table.{Lies};
 ghost use Rattle.scan.specs.Readings.{actionIn, lone, ReadingIs, ReadingIn, NamingIs};
+ghost use Rattle.scan.specs.Writes.{Room, WroteTo, CopiedTo};
+ghost use Rattle.scan.specs.Digits.{DigitsAt};
+ghost use Rattle.scan.specs.Around.{Arguments, Begins, beginOf, argumentsOf, givenAt, around};
+ghost use Rattle.scan.specs.Acts.{wroteAs, ShownTo, EnteredTo, Ready, ActsTo};
+ghost use Rattle.scan.specs.Expansion.{NextIs, ExpandsTo, ScannedTo};
 
 // What an escape leads to: a byte is written, or a backslash and a byte; a register is shown, a string is read, an
 // argument is given, counted from 0; the line ends; or the escape is not listed, or cut short.
