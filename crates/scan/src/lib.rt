@@ -25,7 +25,7 @@ ghost use Rattle.scan.specs.Expansion.{NextIs, ExpandsTo, ScannedTo};
 
 // What an escape leads to: a byte is written, or a backslash and a byte; a register is shown, a string is read, an
 // argument is given, counted from 0; the line ends; or the escape is not listed, or cut short.
-pub enum What {
+enum What {
     Writes(u8),
     Keeps(u8),
     Number(Turn, Name),
@@ -36,9 +36,9 @@ pub enum What {
 }
 
 // What was read, and the place after it.
-pub struct Reading {
-    pub end: usize,
-    pub what: What,
+struct Reading {
+    end: usize,
+    what: What,
 }
 
 // The name of a register or a string, and the place after it; or the text ends there.
@@ -244,7 +244,7 @@ fn copy_at(text: &[u8], at: usize) -> Reading
 }
 
 // The escape whose backslash stands before a place.
-pub fn escape_at(text: &[u8], at: usize, mode: Mode) -> Reading
+fn escape_at(text: &[u8], at: usize, mode: Mode) -> Reading
     requires { ⌜ at ≤ length (now text) ⌝ }
     ensures { λ r. ⌜ ReadingIs mode slash (lone mode) (now (text .entry)) at r ⌝ }
 {
