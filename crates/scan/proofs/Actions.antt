@@ -1,31 +1,28 @@
 -- What each action comes to. Assumes nothing.
 use mathlib.Core.Path.{_≡_, refl, sym, ap, _∙_}
 use mathlib.Core.List.{List, [], _∷_, append-nil}
-use mathlib.Core.Option.{Option, none, some}
+use mathlib.Core.Option.{Option, some}
 use borrow.Author.Tests.{le-leb, lt-leb}
-use Prim.Native.Nat.{ℕ, _+_, _-_, _≤_, _<_}
+use Prim.Native.Nat.{ℕ, _-_, _≤_, _<_}
 use native.Mathlib.Omega.{arith}
-use lib.ListN.{length, take, drop, getD}
+use lib.ListN.{length, take, getD}
 use lib.IntN.{ℤ}
 use Rattle.rules.specs.declared.Name.{Name}
 use Rattle.rules.specs.declared.Turn.{Turn}
 use Rattle.rules.specs.declared.Register.{Register}
 use Rattle.rules.specs.declared.Mode.{Mode}
-use Rattle.rules.specs.Refusals.{value, bad}
 use Rattle.rules.specs.Registers.{Reference, stepRegister, decimal}
 use Rattle.rules.specs.Texts.{Text, text, textOf}
-use Rattle.rules.specs.Escapes.{Surroundings, Scanned, refused, number, aString, scanned, Action, writes, wants, gives, ends, unlisted, before, follow, next, showIt, enter, run}
+use Rattle.rules.specs.Escapes.{Surroundings, refused, number, aString, scanned, writes, wants, gives, ends, unlisted, before, follow, next, showIt, enter, run}
 use Rattle.registers.specs.declared.Shown.{Shown}
-use Rattle.registers.specs.declared.Referred.{Referred}
 use Rattle.registers.specs.declared.Referred.the-variants.{Is, Bad, ReadOnly}
-use Rattle.registers.specs.Columns.{Table, tableOf}
+use Rattle.registers.specs.Columns.{tableOf}
 use Rattle.registers.specs.ReadOnly.{seenOf, ReferTo}
 use Rattle.scan.specs.declared.Wrote as kinds
 use Rattle.scan.specs.declared.Wrote.the-variants as wrote
-use Rattle.scan.specs.declared.Acted.{Acted}
 use Rattle.scan.specs.declared.Acted.the-variants.{Wrote, Enters, Ends, Refused}
 use Rattle.scan.specs.Runs.{standing, from, acts, total}
-use Rattle.scan.specs.Writes.{Room, Put, WroteTo}
+use Rattle.scan.specs.Writes.{Room, WroteTo}
 use Rattle.scan.specs.Acts.{wroteAs, behind, ActedTo, ShownTo, EnteredTo}
 use Rattle.rules.specs.declared.Kind.the-variants.{Macro, String}
 use Rattle.texts.specs.declared.Spot.{Spot}

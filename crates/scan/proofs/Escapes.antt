@@ -1,9 +1,9 @@
 -- An escape read at a time is what the rules read byte by byte. Assumes nothing.
-use mathlib.Core.Path.{_≡_, refl, sym, ap, _∙_}
+use mathlib.Core.Path.{_≡_, refl, ap, _∙_}
 use mathlib.Core.Bool.{Bool, true, false}
-use mathlib.Core.List.{List, [], _∷_, _++_}
+use mathlib.Core.List.{List, [], _∷_}
 use mathlib.Core.Option.{Option, none, some}
-use Prim.Native.Nat.{ℕ, zero, suc, _+_, _-_, _≤_, _<_}
+use Prim.Native.Nat.{ℕ, zero, suc, _-_}
 use native.Mathlib.Omega.{arith}
 use lib.Dec.{leb, leb·zero, leb·suc-suc, leb·suc-zero}
 use lib.ListN.{length, getD, drop}
@@ -17,7 +17,7 @@ use Rattle.rules.specs.declared.Mode.the-variants.{Plain, Copy}
 use Rattle.rules.specs.Refusals.{value, bad}
 use Rattle.rules.specs.Registers.{Reference, stepRegister, decimal}
 use Rattle.rules.specs.Texts.{Text, text, textOf}
-use Rattle.rules.specs.Escapes.{Surroundings, Scanned, scanned, refused, Wanted, number, aString, Escape, outside, slash, Action, writes, begins, holds, wants, gives, ends, unlisted, actionOf, Scan, Effect, goes, stops, write, writeBy, beginBy, enterBy, enter, showIt, want, given, effectOf, reads, next, before, follow, run}
+use Rattle.rules.specs.Escapes.{Surroundings, Scanned, scanned, refused, Wanted, number, aString, Escape, outside, slash, Action, writes, begins, holds, wants, gives, ends, unlisted, actionOf, Scan, writeBy, beginBy, enterBy, enter, showIt, want, given, effectOf, reads, next, before, follow, run}
 use Rattle.scan.specs.Readings.{lone, oneMore, onward, escapeOf}
 use Rattle.scan.specs.Runs.{standing, from, acts, ifLeft}
 

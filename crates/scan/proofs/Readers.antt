@@ -1,26 +1,25 @@
 -- The readers of escapes: what each way out comes to. Assumes nothing.
 use mathlib.Core.Path.{_≡_, refl, sym, ap, _∙_}
-use mathlib.Core.Bool.{Bool, true, false, _&&_}
+use mathlib.Core.Bool.{false}
 use mathlib.Core.List.{List, [], _∷_}
-use mathlib.Core.Option.{Option, none}
+use mathlib.Core.Option.{Option}
 use Prim.Native.Nat.{ℕ, suc, _+_, _-_, _≤_, _<_}
 use native.Mathlib.Omega.{arith}
-use lib.Dec.{eqb, leb}
+use lib.Dec.{eqb}
 use lib.ListN.{length, getD, drop, length-drop}
 use borrow.Author.Tests.{ne-eqb, le-leb, lt-leb}
-use Rattle.rules.specs.Bytes.{byte, backslash, firstWhere, inTable, orElse}
+use Rattle.rules.specs.Bytes.{byte, backslash, firstWhere, orElse}
 use Rattle.rules.specs.TableLaws.{Each, absent}
 use Rattle.rules.specs.Names.{oneByte, twoBytes}
 use Rattle.rules.specs.declared.Mode.{Mode}
 use Rattle.rules.specs.declared.Mode.the-variants.{Plain, Copy}
 use Rattle.rules.specs.declared.Turn.the-variants.{Still, Up, Down}
-use Rattle.rules.specs.Escapes.{Wanted, number, aString, Escape, slash, numbering, naming, long, longer, argument, Action, writes, holds, wants, gives, ends, unlisted, numbered, listed, listedInCopy, actionOf}
+use Rattle.rules.specs.Escapes.{Wanted, number, Escape, slash, numbering, naming, argument, Action, writes, wants, gives, ends, unlisted, listed, listedInCopy, actionOf}
 use Rattle.scan.specs.declared.What.{What}
-use Rattle.scan.specs.declared.What.the-variants.{Writes, Keeps, Number, Text, Gives, Ends, Bad}
 use Rattle.scan.specs.declared.Reading.{Reading}
 use Rattle.scan.specs.declared.Naming.{Naming}
 use Rattle.scan.specs.declared.Naming.the-variants.{Named, Cut}
-use Rattle.scan.specs.Readings.{lone, oneMore, onward, escapeOf, actionIn, namingOf, endOf, ReadingIs, ReadingIn, NamingIs}
+use Rattle.scan.specs.Readings.{oneMore, onward, escapeOf, actionIn, namingOf, endOf, ReadingIs, ReadingIn, NamingIs}
 use Rattle.scan.proofs.Places.{unread, nothing}
 
 -- an answer, field by field

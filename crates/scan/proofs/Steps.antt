@@ -1,5 +1,5 @@
 -- The bytes up to an escape, and the escape. Assumes nothing.
-use mathlib.Core.Path.{_≡_, refl, sym, ap, _∙_}
+use mathlib.Core.Path.{_≡_, refl, ap, _∙_}
 use mathlib.Core.List.{List, [], _∷_}
 use Prim.Native.Nat.{ℕ, suc, _+_, _-_, _≤_, _<_}
 use native.Mathlib.Omega.{arith}
@@ -9,11 +9,11 @@ use lib.Dec.{leb}
 use borrow.Author.Tests.{le-leb, lt-leb}
 use Rattle.rules.specs.declared.Register.{Register}
 use Rattle.rules.specs.declared.Mode.{Mode}
-use Rattle.rules.specs.Escapes.{Surroundings, Scanned, refused, slash, before, next, run}
+use Rattle.rules.specs.Escapes.{Surroundings, slash, before, next, run}
 use Rattle.scan.specs.declared.Reading.{Reading}
-use Rattle.scan.specs.Readings.{actionIn, lone, escapeOf, ReadingIs}
+use Rattle.scan.specs.Readings.{actionIn, lone, ReadingIs}
 use Rattle.scan.specs.Runs.{standing, from, acts, total, ifLeft}
-use Rattle.scan.specs.Writes.{Room, Passed, Stops}
+use Rattle.scan.specs.Writes.{Passed, Stops}
 use Rattle.scan.specs.Acts.{behind}
 use Rattle.scan.specs.Expansion.{Filled, ReadOver, ReadEscape, StopsIn}
 use Rattle.scan.proofs.Places.{unread, nothing}

@@ -6,7 +6,7 @@ use lib.ListN.{length, drop}
 use Rattle.rules.specs.Bytes.{backslash}
 use Rattle.rules.specs.declared.Mode.{Mode}
 use Rattle.rules.specs.declared.Mode.the-variants.{Plain, Copy}
-use Rattle.rules.specs.Escapes.{Wanted, number, aString, Escape, outside, slash, numbering, naming, argument, Action, writes, begins, holds, wants, gives, ends, unlisted, actionOf}
+use Rattle.rules.specs.Escapes.{Wanted, number, aString, Escape, slash, naming, Action, writes, begins, holds, wants, gives, ends, unlisted, actionOf}
 use Rattle.scan.specs.declared.What.{What}
 use Rattle.scan.specs.declared.What.the-variants.{Writes, Keeps, Number, Text, Gives, Ends, Bad}
 use Rattle.scan.specs.declared.Reading.{Reading}

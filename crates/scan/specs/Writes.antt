@@ -1,7 +1,7 @@
 -- Bytes written into a buffer of which `limit` bytes may be written. Assumes nothing.
 use mathlib.Core.Path.{_≡_}
 use mathlib.Core.List.{List, _∷_, _++_}
-use Prim.Native.Nat.{ℕ, _+_, _-_, _≤_, _<_}
+use Prim.Native.Nat.{ℕ, _+_, _≤_, _<_}
 use lib.ListN.{length, take, drop, getD}
 use Rattle.rules.specs.Bytes.{backslash}
 use Rattle.rules.specs.declared.Register.{Register}

@@ -8,27 +8,26 @@ use rules::Turn;
 use texts::Found;
 ghost use Rattle.rules.specs.Arguments.{bare, quoted};
 ghost use Rattle.scan.specs.Parting.{Spaces, WordAt, quoteAt, Unread, Parted, Takes, PartedAll};
-ghost use Prim.Native.Nat.{_≤_, _-_};
-ghost use lib.ListN.{length, getD};
-ghost use mathlib.Core.List.{[], _∷_};
-ghost use Rattle.scan.specs.Writes.{Room, WroteTo, CopiedTo};
-ghost use Rattle.rules.specs.Escapes.{escaped};
 ghost use mathlib.Core.Path.{_≡_};
+ghost use mathlib.Core.List.{[], _∷_};
+ghost use Prim.Native.Nat.{_-_, _≤_};
+ghost use lib.ListN.{length, getD};
 ghost use lib.IntN.{natAbs};
-ghost use Rattle.rules.specs.Registers.{decimal};
-ghost use Rattle.scan.specs.Digits.{DigitsAt};
-ghost use Rattle.registers.specs.Columns.{Table};
-ghost use Rattle.scan.specs.Acts.{wroteAs, ShownTo, EnteredTo, Ready, ActsTo};
-ghost use Rattle.texts.specs.Table.{Lies};
-ghost use Rattle.scan.specs.Expansion.{NextIs, ExpandsTo, ScannedTo};
-ghost use Rattle.scan.specs.Around.{Arguments, Begins, beginOf, argumentsOf, givenAt, around};
-ghost use Rattle.rules.specs.Escapes.{number, aString, slash, numbering, naming, argument};
 ghost use Rattle.rules.specs.declared.Mode.the-variants.{Plain, Copy};
+ghost use Rattle.rules.specs.Registers.{decimal};
+ghost use Rattle.rules.specs.Escapes.{number, aString, slash, numbering, naming, argument, escaped};
+ghost use Rattle.registers.specs.Columns.{Table};
+ghost use Rattle.texts.specs.Table.{Lies};
 ghost use Rattle.scan.specs.Readings.{actionIn, lone, ReadingIs, ReadingIn, NamingIs};
+ghost use Rattle.scan.specs.Writes.{Room, WroteTo, CopiedTo};
+ghost use Rattle.scan.specs.Digits.{DigitsAt};
+ghost use Rattle.scan.specs.Around.{Arguments, Begins, beginOf, argumentsOf, givenAt, around};
+ghost use Rattle.scan.specs.Acts.{wroteAs, ShownTo, EnteredTo, Ready, ActsTo};
+ghost use Rattle.scan.specs.Expansion.{NextIs, ExpandsTo, ScannedTo};
 
 // What an escape leads to: a byte is written, or a backslash and a byte; a register is shown, a string is read, an
 // argument is given, counted from 0; the line ends; or the escape is not listed, or cut short.
-pub enum What {
+enum What {
     Writes(u8),
     Keeps(u8),
     Number(Turn, Name),
@@ -39,9 +38,9 @@ pub enum What {
 }
 
 // What was read, and the place after it.
-pub struct Reading {
-    pub end: usize,
-    pub what: What,
+struct Reading {
+    end: usize,
+    what: What,
 }
 
 // The name of a register or a string, and the place after it; or the text ends there.
@@ -247,7 +246,7 @@ fn copy_at(text: &[u8], at: usize) -> Reading
 }
 
 // The escape whose backslash stands before a place.
-pub fn escape_at(text: &[u8], at: usize, mode: Mode) -> Reading
+fn escape_at(text: &[u8], at: usize, mode: Mode) -> Reading
     requires { ⌜ at ≤ length (now text) ⌝ }
     ensures { λ r. ⌜ ReadingIs mode slash (lone mode) (now (text .entry)) at r ⌝ }
 {

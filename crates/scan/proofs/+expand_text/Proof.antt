@@ -1,7 +1,6 @@
 -- The proof of the cycle of calls {expand_text}: the depth rises to at most 8. The invariant: what the rules make of the text is what they make of it from i on.
 -- Assumes nothing.
-use mathlib.Core.Path.{_≡_}
-use Prim.Native.Nat.{ℕ, _+_, _-_, _≤_, _<_}
+use Prim.Native.Nat.{ℕ, _+_, _-_, _<_}
 use native.Mathlib.Omega.{arith}
 use lib.ListN.{length}
 use denote.Ref.{now}

@@ -1,15 +1,11 @@
 -- `scan::act` meets its contract: what each action comes to is what its function says. Assumes nothing.
 use Rattle.scan.proofs.Actions.{acted-writes, acted-gives, acted-ends, acted-bad}
-use Rattle.scan.specs.Around.{around, argumentsOf}
-use Rattle.texts.specs.Table.{textsOf}
+use Rattle.scan.specs.Around.{around}
 use Rattle.rules.specs.declared.Register.{Register}
-use Rattle.registers.specs.ReadOnly.{seenOf}
 use Rattle.registers.specs.Columns.{tableOf}
 use Rattle.rules.specs.Escapes.{Surroundings}
 use denote.Ref.{now}
 use mathlib.Core.List.{List, [], _∷_}
-use mathlib.Core.Path.{_≡_, refl, sym, ap, _∙_}
-use native.Mathlib.Omega.{arith}
 use borrow.Author.Needs.{needs}
 use Rattle.scan.proofs.act.Statement.{statement}
 use Rattle.scan.proofs.act.Tie as tie

@@ -17,13 +17,13 @@ add-t10 : tie.Need-add-t10
 add-t10 c = search needs
 
 returns-2 : tie.Need-returns-2
-returns-2 c = let a = c .before .before .before .args in λ m. is-last (getD (a .text .now) (a .at) 0) (c .before .before .if1 .left) refl (λ l. below m (getD (a .text .now) (a .at) 0) l (c .if2 .taken))
+returns-2 c = let a = c .before .before .before .args in λ m. is-last (getD (a .text .now) (a .at) 0) (c .before .before .if1 .left) refl (λ l. below m (getD (a .text .now) (a .at) 0) l (omega arith))
 
 add-t12 : tie.Need-add-t12
 add-t12 c = search needs
 
 returns-3 : tie.Need-returns-3
-returns-3 c = let a = c .before .before .before .before .args in λ m. is-last (getD (a .text .now) (a .at) 0) (c .before .before .before .if1 .left) refl (λ l. above m (getD (a .text .now) (a .at) 0) l (c .if3 .taken))
+returns-3 c = let a = c .before .before .before .before .args in λ m. is-last (getD (a .text .now) (a .at) 0) (c .before .before .before .if1 .left) refl (λ l. above m (getD (a .text .now) (a .at) 0) l (omega arith))
 
 cast-k : tie.Need-cast-k
 cast-k c = search needs
@@ -32,7 +32,7 @@ add-t5 : tie.Need-add-t5
 add-t5 c = search needs
 
 returns-4 : tie.Need-returns-4
-returns-4 c = let a = c .before .before .before .before .args in λ m. is-last (getD (a .text .now) (a .at) 0) (c .before .before .before .if1 .left) refl (λ l. digit m (getD (a .text .now) (a .at) 0) l (c .before .if2 .left) (c .if3 .left))
+returns-4 c = let a = c .before .before .before .before .args in λ m. is-last (getD (a .text .now) (a .at) 0) (c .before .before .before .if1 .left) refl (λ l. digit m (getD (a .text .now) (a .at) 0) l (omega arith) (omega arith))
 
 pub argument-at-spec : {M : Type 1} → statement M
 argument-at-spec =

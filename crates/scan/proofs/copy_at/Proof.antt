@@ -1,6 +1,6 @@
 -- `scan::copy_at` meets its contract: each byte picks an entry of the rules' table. Assumes nothing.
 use mathlib.Core.List.{[], _∷_}
-use Rattle.rules.specs.Escapes.{actionOf, unlisted, writes}
+use Rattle.rules.specs.Escapes.{actionOf, writes}
 use Prim.Native.Nat.{ℕ}
 use lib.Dec.{eqb}
 use mathlib.Core.Bool.{false}
@@ -8,10 +8,9 @@ use mathlib.Core.Path.{_≡_, refl}
 use Rattle.scan.proofs.Readers.{is-cut, is-last, is-more, other-copy}
 use borrow.Author.Tests.{ne-eqb}
 use Rattle.scan.specs.Readings.{escapeOf}
-use Rattle.rules.specs.declared.Mode.the-variants.{Plain, Copy}
+use Rattle.rules.specs.declared.Mode.the-variants.{Copy}
 use Rattle.rules.specs.Bytes.{firstWhere}
 use lib.ListN.{getD}
-use native.Mathlib.Omega.{arith}
 use borrow.Author.Needs.{needs}
 use Rattle.scan.proofs.copy_at.Statement.{statement}
 use Rattle.scan.proofs.copy_at.Tie as tie

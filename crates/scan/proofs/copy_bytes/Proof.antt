@@ -4,7 +4,7 @@ use Rattle.scan.proofs.Buffers.{put-none, copy-again, copy-whole}
 use Rattle.scan.specs.Writes.{Put}
 use lib.ListN.{length, take}
 use Prim.Native.Nat.{_+_, _-_, _≤_}
-use mathlib.Core.Path.{_≡_, refl}
+use mathlib.Core.Path.{_≡_}
 use native.Mathlib.Omega.{arith}
 use Rattle.scan.proofs.copy_bytes.Statement.{statement}
 use Rattle.scan.proofs.copy_bytes.Tie as tie

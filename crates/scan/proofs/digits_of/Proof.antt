@@ -1,7 +1,6 @@
 -- `scan::digits_of` meets its contract. The invariant: n is still to be written before the digits that stand there. Assumes nothing.
 use borrow.Author.Needs.{needs}
 use Rattle.scan.proofs.Decimals.{Digits, start, again, last}
-use Prim.Native.Nat.{_≤_}
 use native.Mathlib.Omega.{arith}
 use Rattle.scan.proofs.digits_of.Statement.{statement}
 use Rattle.scan.proofs.digits_of.Tie as tie
@@ -31,7 +30,7 @@ loop-less : tie.Need-loop-less Inv-loop μ-loop
 loop-less c = search needs
 
 loop-again : tie.Need-loop-again Inv-loop μ-loop
-loop-again c = again (c .before .loop .inv) (c .loop-test .taken)
+loop-again c = again (c .before .loop .inv) (omega arith)
 
 sub-at-2 : tie.Need-sub-at-2 Inv-loop μ-loop
 sub-at-2 c = omega (arith, c .before .loop .inv .after)
@@ -46,7 +45,7 @@ element-write-digits-2 : tie.Need-element-write-digits-2 Inv-loop μ-loop
 element-write-digits-2 c = omega (arith, c .before .loop .inv .after, c .before .loop .inv .high)
 
 returns : tie.Need-returns Inv-loop μ-loop
-returns c = last (c .before .loop .inv) (c .loop-test .left)
+returns c = last (c .before .loop .inv) (omega arith)
 
 pub digits-of-spec : {M : Type 1} → statement M
 digits-of-spec =

@@ -18,7 +18,7 @@ enum-told-2 : tie.Need-enum-told-2
 enum-told-2 c = search needs
 
 returns : tie.Need-returns
-returns c = entered-deep (rw (c .before .before .before .before .spot .given .1) at (c .before .before .before .before .before .before .look-up .ensures)) (c .before .enum-told2 .given .1) (c .if1 .taken)
+returns c = entered-deep (rw (c .before .before .before .before .spot .given .1) at (c .before .before .before .before .before .before .look-up .ensures)) (c .before .enum-told2 .given .1) (omega arith)
 
 enum-told-3 : tie.Need-enum-told-3
 enum-told-3 c = search needs
@@ -27,7 +27,7 @@ returns-2 : tie.Need-returns-2
 returns-2 c = entered-macro (rw (c .before .before .before .spot .given .1) at (c .before .before .before .before .before .look-up .ensures)) (c .enum-told .given .1)
 
 returns-3 : tie.Need-returns-3
-returns-3 c = entered-string (rw (c .before .before .before .before .spot .given .1) at (c .before .before .before .before .before .before .look-up .ensures)) (c .before .enum-told2 .given .1) (c .if1 .left)
+returns-3 c = entered-string (rw (c .before .before .before .before .spot .given .1) at (c .before .before .before .before .before .before .look-up .ensures)) (c .before .enum-told2 .given .1) (omega arith)
 
 returns-4 : tie.Need-returns-4
 returns-4 c = entered-none (rw (c .enum-told3 .given .1) at (c .before .before .look-up .ensures))

@@ -1,14 +1,13 @@
 -- `scan::give_argument` meets its contract: a law for each way out. Assumes nothing.
 use Rattle.scan.proofs.Givens.{argument-is, argument-none, given-nothing, given-inside, given-plain, given-copy}
 use Rattle.scan.proofs.Givens.{argument-is, argument-none, given-nothing, given-inside}
-use Rattle.rules.specs.declared.Mode.{Mode}
-use mathlib.Core.List.{List, []}
-use Rattle.scan.specs.Around.{beginOf, argumentsOf, givenAt}
+use mathlib.Core.List.{[]}
+use Rattle.scan.specs.Around.{argumentsOf}
 use Rattle.scan.proofs.Buffers.{put-none, put-as}
 use denote.Ref.{now}
 use lib.ListN.{length, getD, take, drop}
 use Prim.Native.Nat.{ℕ, _-_, _≤_}
-use mathlib.Core.Path.{_≡_, refl, sym, ap, _∙_}
+use mathlib.Core.Path.{_≡_, sym, ap, _∙_}
 use native.Mathlib.Omega.{arith}
 use borrow.Author.Needs.{needs}
 use Rattle.scan.proofs.give_argument.Statement.{statement}
@@ -32,7 +31,7 @@ here c =
     ∙ ap (λ (b : ℕ). take (getD (now (s .args .ends)) (s .args .k) 0 - b) (drop b (s .args .arguments .now))) (sym (c .begin-of .ensures))
 
 returns : tie.Need-returns
-returns c = let s = c .before .before in put-as (given-inside (s .args .mode) (s .args .depth) (getD (argumentsOf (s .args .arguments .now) (now (s .args .ends)) (s .args .count)) (s .args .k) []) (c .if1 .taken)) (put-none (s .pre .1))
+returns c = let s = c .before .before in put-as (given-inside (s .args .mode) (s .args .depth) (getD (argumentsOf (s .args .arguments .now) (now (s .args .ends)) (s .args .count)) (s .args .k) []) (omega arith)) (put-none (s .pre .1))
 
 returns-2 : tie.Need-returns-2
 returns-2 c =
@@ -80,13 +79,13 @@ returns-3 : tie.Need-returns-3
 returns-3 c =
     let s = c .before .before .before .before .before .before .before .before .before .before in
     let b = c .before .before .before .before .before .before in
-    rw (c .before .before .enum-told .given .1, ← given-plain (s .args .depth) (c .before .before .before .before .before .before .before .before .if1 .left) (here b)) (c .copy-bytes .ensures)
+    rw (c .before .before .enum-told .given .1, ← given-plain (s .args .depth) (omega arith) (here b)) (c .copy-bytes .ensures)
 
 returns-4 : tie.Need-returns-4
 returns-4 c =
     let s = c .before .before .before .before .before .before .before .before .before .before in
     let b = c .before .before .before .before .before .before in
-    rw (c .before .before .enum-told2 .given .1, ← given-copy (s .args .depth) (c .before .before .before .before .before .before .before .before .if1 .left) (here b)) (c .write-back .ensures)
+    rw (c .before .before .enum-told2 .given .1, ← given-copy (s .args .depth) (omega arith) (here b)) (c .write-back .ensures)
 
 pub give-argument-spec : {M : Type 1} → statement M
 give-argument-spec =

@@ -7,7 +7,7 @@ use borrow.Author.Tests.{le-ltb}
 use lib.Signed.{ltZ}
 use lib.IntN.{ℤ, pos, negsuc, negℤ, natAbs, _-ℤ_, +ℤ-idl}
 use mathlib.Core.Bool.{true, false}
-use mathlib.Core.Path.{_≡_, refl, ap, _∙_}
+use mathlib.Core.Path.{_≡_, refl, ap}
 use Prim.Native.Nat.{ℕ, _^_, _<_, _≤_, zero-le}
 use native.Mathlib.Omega.{arith}
 use Rattle.scan.proofs.magnitude.Statement.{statement}

@@ -21,7 +21,7 @@ sub-left : tie.Need-sub-left
 sub-left c = search needs
 
 returns-3 : tie.Need-returns-3
-returns-3 c = let a = c .before .before .before .before .args in name-cut (a .text .now) (a .at) (omega arith) (c .before .if2 .left) (c .if3 .taken)
+returns-3 c = let a = c .before .before .before .before .args in name-cut (a .text .now) (a .at) (omega arith) (c .before .if2 .left) (omega arith)
 
 add-t5 : tie.Need-add-t5
 add-t5 c = search needs
@@ -39,7 +39,7 @@ shared-slice-read-t16 : tie.Need-shared-slice-read-t16
 shared-slice-read-t16 c = search needs
 
 returns-4 : tie.Need-returns-4
-returns-4 c = let a = c .before .before .before .before .before .before .args in name-two (a .text .now) (a .at) (c .before .before .before .if2 .left) (c .before .before .if3 .left)
+returns-4 c = let a = c .before .before .before .before .before .before .args in name-two (a .text .now) (a .at) (c .before .before .before .if2 .left) (omega arith)
 
 pub name-at-spec : {M : Type 1} → statement M
 name-at-spec =

@@ -24,13 +24,13 @@ sub-length : tie.Need-sub-length
 sub-length c = omega (arith, c .escape-at .ensures .low)
 
 returns-2 : tie.Need-returns-2
-returns-2 c = let p = rw (c .before .before .before .before .i .given .1) at (c .before .before .before .before .before .before .copy-plain .ensures) in let h = c .before .before .if1 .left in next-cut (p .0) h (p .1 h) (c .before .escape-at .ensures) (c .if2 .taken)
+returns-2 c = let p = rw (c .before .before .before .before .i .given .1) at (c .before .before .before .before .before .before .copy-plain .ensures) in let h = c .before .before .if1 .left in next-cut (p .0) h (p .1 h) (c .before .escape-at .ensures) (omega arith)
 
 enum-known-k : tie.Need-enum-known-k
 enum-known-k c = search needs
 
 returns-3 : tie.Need-returns-3
-returns-3 c = let p = rw (c .before .before .before .before .i .given .1) at (c .before .before .before .before .before .before .copy-plain .ensures) in let h = c .before .before .if1 .left in next-read (p .0) h (p .1 h) (c .before .escape-at .ensures) (c .if2 .left)
+returns-3 c = let p = rw (c .before .before .before .before .i .given .1) at (c .before .before .before .before .before .before .copy-plain .ensures) in let h = c .before .before .if1 .left in next-read (p .0) h (p .1 h) (c .before .escape-at .ensures) (omega arith)
 
 returns-4 : tie.Need-returns-4
 returns-4 c = next-stops (c .before .before .before .before .before .before .args .mode) (rw (c .before .k .given .1) at (c .before .before .before .copy-plain .ensures))

@@ -1,6 +1,5 @@
 -- `scan::plain_at` meets its contract: each byte picks an entry of the rules' table. Assumes nothing.
-use mathlib.Core.List.{[], _∷_}
-use Rattle.rules.specs.Escapes.{actionOf, unlisted, writes}
+use Rattle.rules.specs.Escapes.{actionOf, unlisted}
 use Prim.Native.Nat.{ℕ}
 use lib.Dec.{eqb}
 use mathlib.Core.Bool.{false}
@@ -8,10 +7,9 @@ use mathlib.Core.Path.{_≡_, refl}
 use Rattle.scan.proofs.Readers.{is-cut, is-last, is-more, other-plain}
 use borrow.Author.Tests.{ne-eqb}
 use Rattle.scan.specs.Readings.{escapeOf}
-use Rattle.rules.specs.declared.Mode.the-variants.{Plain, Copy}
+use Rattle.rules.specs.declared.Mode.the-variants.{Plain}
 use Rattle.rules.specs.Bytes.{firstWhere}
 use lib.ListN.{getD}
-use native.Mathlib.Omega.{arith}
 use borrow.Author.Needs.{needs}
 use Rattle.scan.proofs.plain_at.Statement.{statement}
 use Rattle.scan.proofs.plain_at.Tie as tie

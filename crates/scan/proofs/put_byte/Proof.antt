@@ -15,7 +15,7 @@ add-t8 : tie.Need-add-t8
 add-t8 c = search needs
 
 returns-2 : tie.Need-returns-2
-returns-2 c = let s = c .before in put-one (s .args .byte) (put-none (s .pre)) (c .if1 .left) (s .pre .high)
+returns-2 c = let s = c .before in put-one (s .args .byte) (put-none (s .pre)) (omega arith) (s .pre .high)
 
 pub put-byte-spec : {M : Type 1} → statement M
 put-byte-spec = tie.close (tie.spec returns element-write-out add-t8 returns-2)

@@ -1,7 +1,6 @@
 -- `scan::register_at` meets its contract: a sign and a name, or a name. Assumes nothing.
 use Rattle.scan.proofs.Readers.{is-cut, is-more, up, down, is-still}
 use mathlib.Core.Path.{refl}
-use native.Mathlib.Omega.{arith}
 use borrow.Author.Needs.{needs}
 use Rattle.scan.proofs.register_at.Statement.{statement}
 use Rattle.scan.proofs.register_at.Tie as tie

@@ -1,6 +1,6 @@
 -- `scan::string_at` meets its contract: a name is read as the name of a string. Assumes nothing.
 use Rattle.scan.proofs.Readers.{is-named}
-use mathlib.Core.Path.{refl, ap}
+use mathlib.Core.Path.{refl}
 use borrow.Author.Needs.{needs}
 use Rattle.scan.proofs.string_at.Statement.{statement}
 use Rattle.scan.proofs.string_at.Tie as tie

@@ -4,8 +4,7 @@ use Rattle.scan.proofs.Buffers.{put-none, back-again, back-full, back-w
 use Rattle.scan.specs.Writes.{Put}
 use Rattle.rules.specs.Escapes.{escaped}
 use lib.ListN.{length, take}
-use Prim.Native.Nat.{_+_, _-_, _≤_}
-use mathlib.Core.Path.{_≡_, refl}
+use Prim.Native.Nat.{_-_, _≤_}
 use native.Mathlib.Omega.{arith}
 use Rattle.scan.proofs.write_back.Statement.{statement}
 use Rattle.scan.proofs.write_back.Tie as tie

@@ -2,7 +2,7 @@
 use Rattle.scan.proofs.Decimals.{plain-bytes, signed-bytes}
 use mir.Facts.{toZ-ofZ}
 use lib.IntN.{ℤ, natAbs}
-use lib.ListN.{set, length-set}
+use lib.ListN.{length-set}
 use Prim.Native.Nat.{_-_}
 use mathlib.Core.Path.{_≡_, _∙_, ap}
 use native.Mathlib.Omega.{arith}
@@ -32,7 +32,7 @@ part-copy-bytes-start : tie.Need-part-copy-bytes-start
 part-copy-bytes-start c = search needs
 
 part-copy-bytes-end : tie.Need-part-copy-bytes-end
-part-copy-bytes-end c = let d = c .before .before .digits-of in omega (arith, length-set (d .last .1 .0) (d .result - 1) 45, d .ensures .long)
+part-copy-bytes-end c = let d = c .before .before .digits-of in rw length-set (omega (arith, d .ensures .long))
 
 copy-bytes-requires : tie.Need-copy-bytes-requires
 copy-bytes-requires c κs = search needs

@@ -1,5 +1,4 @@
 -- `scan::wrote_as` meets its contract. Assumes nothing.
-use mathlib.Core.Path.{refl}
 use borrow.Author.Needs.{needs}
 use Rattle.scan.proofs.wrote_as.Statement.{statement}
 use Rattle.scan.proofs.wrote_as.Tie as tie
