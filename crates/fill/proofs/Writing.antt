@@ -7,14 +7,14 @@ use native.Mathlib.Nat.{add-zero, suc-add, add-suc}
 use native.Mathlib.Numerals.{add-one}
 use native.Mathlib.Omega.{arith}
 use lib.Dec.{eqb}
-use lib.ListN.{length, getD, take, drop, set, replicate, length-append, length-set, length-replicate}
+use lib.ListN.{length, getD, take, drop, set, replicate, length-append, length-set, length-replicate, take-append-drop}
 use lib.Seq.{sets, length-sets, sets-eq, take-at, drop-at, length-take-le, take-append-seam}
 use borrow.Author.Tests.{eq-eqb, ne-eqb}
 use Rattle.rules.specs.Bytes.{space, mark, fixedBlank}
 use Rattle.rules.specs.Filling.{printed, printedByte, width, countIf, gapCells}
 use Rattle.rules.specs.FillingLaws.{printed-append, printed-length, width-append}
 use Rattle.fill.specs.Parts.{part}
-use Rattle.fill.specs.Writing.{shownIf}
+use Rattle.fill.specs.Writing.{shownIf, Written}
 use Rattle.fill.proofs.Parts.{part-none, part-cons, part-length}
 
 -- two runs of bytes, one behind the other
@@ -118,3 +118,18 @@ module _ (l p : List ℕ) (n : ℕ) where
   pub begin-length : n + length (printed p) ≡ 0 + length (printed (replicate n fixedBlank ++ p))
   begin-length =
       omega (arith, ap length (printed-append (replicate n fixedBlank) p), length-append (printed (replicate n fixedBlank)) (printed p), ap length (printed-blanks n), length-replicate n space)
+
+-- what stands in the array up to the answer, and behind it
+module _ {e : List ℕ} {at : ℕ} {b x : List ℕ} {r : ℕ} (w : Written e at b x r) (h : r ≤ length e) where
+  room : at + length b ≤ length e
+  room = omega (arith, w .end)
+
+  pub written-take : take r x ≡ take at e ++ b
+  written-take = (λ i. take (w .end i) (w .is i)) ∙ take-sets b e at room
+
+  pub written-drop : drop r x ≡ drop r e
+  written-drop = (λ i. drop (w .end i) (w .is i)) ∙ drop-sets b e at room ∙ ap (λ (k : ℕ). drop k e) (sym (w .end))
+
+-- from the start: the bytes, then the old ones
+pub written-front : {e b x : List ℕ} {r : ℕ} → Written e 0 b x r → r ≤ length e → x ≡ b ++ drop r e
+written-front {x = x} {r = r} w h = sym (take-append-drop r x) ∙ (λ i. written-take w h i ++ written-drop w h i)

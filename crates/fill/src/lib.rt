@@ -16,10 +16,17 @@ ghost use Rattle.fill.specs.Filled.{lineOf, Line, PlacedTo};
 ghost use Rattle.fill.specs.Lines.{isBlankCell, CellsEnd, RowRoom, Margins, oneIf, isBlankByte, TextEnd, standingOf};
 ghost use Rattle.fill.specs.Words.{spaces, WordEndIs, nextOf, GoodNext, isNone};
 
+// Codes that no source line holds: a mark of no width, a fixed blank, and the first cell of a gap in a collected line.
+const MARK: u8 = 2;
+
+const FIXED_BLANK: u8 = 3;
+
+const GAP_START: u8 = 4;
+
 // The place behind a word, and the word's width.
-pub struct WordEnd {
-    pub to: usize,
-    pub width: usize,
+struct WordEnd {
+    to: usize,
+    width: usize,
 }
 
 // A word of a line: the gap before it, where it stands, and its width.
@@ -72,7 +79,7 @@ fn cell_of(byte: u8) -> usize
     ensures { λ r. ⌜ r ≡ countIf (eqb byte mark) 0 ⌝ }
     ensures { λ r. ⌜ r ≤ 1 ⌝ }
 {
-    if byte == 2 { 0 } else { 1 }
+    if byte == MARK { 0 } else { 1 }
 }
 
 // The end of the word that begins at a place, and its width.
@@ -193,7 +200,7 @@ pub fn count(cells: Cells) -> usize
 fn shown(byte: u8) -> u8
     ensures { λ r. ⌜ r ≡ shownIf (eqb byte fixedBlank) byte ⌝ }
 {
-    if byte == 3 { b' ' } else { byte }
+    if byte == FIXED_BLANK { b' ' } else { byte }
 }
 
 // Puts one byte `n` times at a place.
@@ -219,7 +226,7 @@ fn put_word(line: &[u8; 512], from: usize, to: usize, buffer: &mut [u8], at: usi
     while i < to {
         let byte = line[i];
         i += 1;
-        if byte == 2 {
+        if byte == MARK {
             continue;
         }
         buffer[n] = shown(byte);
@@ -236,7 +243,7 @@ fn put_gap(cells: &mut [u8; 512], count: usize, gap: usize) -> usize
     if gap == 0 {
         return count;
     }
-    cells[count] = 4;
+    cells[count] = GAP_START;
     put_run(&mut *cells, count + 1, gap - 1, b' ');
     count + gap
 }
@@ -341,7 +348,7 @@ fn count_gaps(cells: &[u8; 512], length: usize) -> usize
     while i < length {
         let byte = cells[i];
         i += 1;
-        if byte != 4 {
+        if byte != GAP_START {
             continue;
         }
         n += 1;
@@ -384,7 +391,7 @@ fn is_blank_cell(byte: u8) -> bool
     if byte == b' ' {
         return true;
     }
-    byte == 4
+    byte == GAP_START
 }
 
 // The place behind the last cell that is not printed as a blank.
@@ -414,7 +421,7 @@ fn more_if(few: usize) -> usize
 fn few_after(byte: u8, few: usize) -> usize
     ensures { λ r. ⌜ r ≡ fewAfter (eqb byte gapStart) few ⌝ }
 {
-    if byte == 4 {
+    if byte == GAP_START {
         return spare(few, 1);
     }
     few
@@ -425,7 +432,7 @@ fn put_cell(row: &mut [u8; 872], at: usize, byte: u8, each: usize, few: usize) -
     requires { ⌜ (length (now row) ≡ 872) × (at + length (spreadCell (eqb byte gapStart) (each + moreIf few) byte []) ≤ 872) ⌝ }
     ensures { λ r. ⌜ Written (now (row .entry)) at (spreadCell (eqb byte gapStart) (each + moreIf few) byte []) (now (row .exit)) r ⌝ }
 {
-    if byte == 4 {
+    if byte == GAP_START {
         let n = each + more_if(few) + 1;
         put_run(&mut *row, at, n, b' ');
         return at + n;
@@ -549,10 +556,10 @@ fn is_blank_byte(byte: u8) -> bool
     if byte == b' ' {
         return true;
     }
-    if byte == 3 {
+    if byte == FIXED_BLANK {
         return true;
     }
-    byte == 2
+    byte == MARK
 }
 
 // The place behind the last byte of which more than a blank is printed.
