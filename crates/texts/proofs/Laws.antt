@@ -1,7 +1,7 @@
 -- Laws of the table: the place of a name, and the text that stands there. Assumes nothing.
 use mathlib.Core.Path.{_≡_, refl, sym, ap, _∙_, subst}
 use mathlib.Core.Bool.{Bool, true, false}
-use mathlib.Core.List.{List, [], _∷_, _++_}
+use mathlib.Core.List.{List, [], _∷_}
 use mathlib.Core.Option.{Option, none, some}
 use Prim.Native.Nat.{ℕ, zero, suc, _+_, _-_, _≤_, _<_}
 use native.Mathlib.Numerals.{add-one}
@@ -9,8 +9,7 @@ use native.Mathlib.Omega.{arith}
 use lib.ListN.{length, take, drop, getD, drop-of-length-le}
 use lib.Seq.{drop-cons, drop-drop, length-take-le, getD-take, take-take}
 use Rattle.rules.specs.declared.Name.{Name}
-use Rattle.rules.specs.declared.Kind.{Kind}
-use Rattle.rules.specs.declared.Kind.the-variants.{Macro, String}
+use Rattle.rules.specs.declared.Kind.the-variants.{String}
 use Rattle.rules.specs.Names.{twoBytes, sameName}
 use Rattle.rules.specs.NameLaws.{same-one}
 use Rattle.rules.specs.Texts.{Text, text, textOf}
