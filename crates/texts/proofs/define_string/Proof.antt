@@ -102,7 +102,7 @@ enum-told c = search needs
 
 returns-2 : tie.Need-returns-2
 returns-2 c =
-    let s = c .before .before .before .before .before .before .before .before .before .before .before in define-65 _ _ _ _ _ _ (s .pre) (s .args .name) (now (s .args .text)) (missing (c .before)) (c .if2 .taken)
+    let s = c .before .before .before .before .before .before .before .before .before .before .before in define-65 _ _ _ _ _ _ (s .pre) (s .args .name) (now (s .args .text)) (missing (c .before)) (omega arith)
 
 too-long-requires-2 : tie.Need-too-long-requires-2
 too-long-requires-2 c κs = search needs

@@ -41,7 +41,7 @@ enum-told c = search needs
 
 returns : tie.Need-returns
 returns c =
-    let s = c .before .before .before .before .before .before .before in open-new _ _ _ _ _ _ (s .pre) (s .args .name) (missing (c .before)) (c .if1 .taken)
+    let s = c .before .before .before .before .before .before .before in open-new _ _ _ _ _ _ (s .pre) (s .args .name) (missing (c .before)) (omega arith)
 
 same-length : tie.Need-same-length
 same-length c = search needs
