@@ -1,24 +1,23 @@
 -- Laws of changes: texts that are taken out, put behind the last, or left as they are. Assumes nothing.
-use mathlib.Core.Path.{_≡_, refl, sym, ap, _∙_, subst}
+use mathlib.Core.Path.{_≡_, refl, sym, ap, _∙_}
 use mathlib.Core.Bool.{Bool, true, false}
 use mathlib.Core.List.{List, [], _∷_, _++_}
-use mathlib.Core.Option.{Option, none, some}
 use Prim.Native.Nat.{ℕ, zero, suc, _+_, _-_, _≤_, _<_}
 use native.Mathlib.Numerals.{add-one}
 use native.Mathlib.Omega.{arith}
-use lib.ListN.{length, take, drop, getD, set, take-append-drop, length-drop}
+use lib.ListN.{length, take, drop, getD, take-append-drop, length-drop}
 use lib.Seq.{drop-drop, length-take-le, getD-take, take-take, length-paste, paste}
 use Rattle.rules.specs.declared.Name.{Name}
 use Rattle.rules.specs.Names.{twoBytes, sameName}
-use Rattle.rules.specs.Texts.{Text, text, textOf, remove, live}
+use Rattle.rules.specs.Texts.{Text, text, remove, live}
 use Rattle.rules.specs.TextLaws.{remove-first, remove-later}
 use Rattle.texts.specs.declared.Place.{Place}
 use Rattle.texts.specs.declared.Place.the-variants.{At, Not}
-use Rattle.texts.specs.Table.{zipWith, kindOf, Row, row, asPair, namesOf, rowsOf, sum, cut, textsOf, Names, Lies}
+use Rattle.texts.specs.Table.{zipWith, Row, row, asPair, namesOf, rowsOf, sum, cut, textsOf, Lies}
 use Rattle.texts.specs.Places.{next, placeOf}
-use Rattle.texts.specs.Changes.{without, closed, TakenOut, RemovedTo}
-use Rattle.texts.proofs.Lists.{zip-length, zip-closed, closed-rows, closed-length, front-same, rest-same, paste-front, paste-part, paste-past, sum-append, sum-step, sum-mono, sum-without}
-use Rattle.texts.proofs.Laws.{names, sizes, rows-same, rows-long, rows-names, rows-sizes, rows-length, text-inside, found-row}
+use Rattle.texts.specs.Changes.{without, closed, TakenOut}
+use Rattle.texts.proofs.Lists.{zip-closed, closed-rows, closed-length, front-same, rest-same, paste-front, paste-part, paste-past, sum-append, sum-mono, sum-without}
+use Rattle.texts.proofs.Laws.{names, sizes, rows-same, rows-long, rows-names, rows-sizes, rows-length}
 
 -- the texts of a store are those of its front
 pub cut-front : (rs : List Row) (st st' : List ℕ) → take (sum (sizes rs)) st ≡ take (sum (sizes rs)) st' → cut st rs ≡ cut st' rs

@@ -5,7 +5,7 @@ use mathlib.Core.List.{List, [], _∷_, _++_}
 use Prim.Native.Nat.{ℕ, suc, _+_, _-_, _≤_, _<_}
 use native.Mathlib.Numerals.{add-one}
 use native.Mathlib.Omega.{arith}
-use lib.Dec.{leb, ltb}
+use lib.Dec.{ltb}
 use lib.ListN.{length, take, drop, getD, set, length-set, length-append, length-drop}
 use lib.Seq.{length-take-le, take-suc-set, take-set-le, drop-set-lt, take-length, take-paste, drop-append-le, length-paste, paste}
 use borrow.Author.Tests.{ltb-true, ltb-false, lt-ltb, le-ltb, lt-leb, le-leb}
@@ -18,11 +18,11 @@ use Rattle.rules.specs.Texts.{Text, text, remove, live, defineStringIn, openMac
 use Rattle.texts.specs.declared.Place.the-variants.{At, Not}
 use Rattle.texts.specs.declared.Stored.the-variants.{Set, Full}
 use Rattle.texts.specs.declared.Kept.the-variants as kept
-use Rattle.texts.specs.Table.{zipWith, kindOf, row, asPair, namesOf, rowsOf, sum, cut, textsOf, Lies}
+use Rattle.texts.specs.Table.{zipWith, kindOf, row, asPair, namesOf, rowsOf, sum, textsOf, Lies}
 use Rattle.texts.specs.Places.{placeOf}
 use Rattle.texts.specs.Changes.{lesser, roomOf, TakenOut, Appended, DefinedTo, Opens, bodyOf, OpenedTo, KeptTo, ClosedTo}
 use Rattle.texts.proofs.Lists.{zip-set, sum-append, drop-take, front-same, paste-front, paste-part, paste-past}
-use Rattle.texts.proofs.Laws.{rows-same, rows-long, rows-sizes, found-row}
+use Rattle.texts.proofs.Laws.{rows-long, rows-sizes, found-row}
 use Rattle.texts.proofs.ChangeLaws.{cut-end, texts-length, texts-live, texts-same, lies-same, remove-found, remove-not, taken-out}
 
 -- room

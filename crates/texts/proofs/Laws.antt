@@ -1,16 +1,17 @@
 -- Laws of the table: the place of a name, and the text that stands there. Assumes nothing.
 use mathlib.Core.Path.{_≡_, refl, sym, ap, _∙_, subst}
 use mathlib.Core.Bool.{Bool, true, false}
-use mathlib.Core.List.{List, [], _∷_, _++_}
+use mathlib.Core.List.{List, [], _∷_}
 use mathlib.Core.Option.{Option, none, some}
 use Prim.Native.Nat.{ℕ, zero, suc, _+_, _-_, _≤_, _<_}
 use native.Mathlib.Numerals.{add-one}
 use native.Mathlib.Omega.{arith}
+use lib.Dec.{eqb}
 use lib.ListN.{length, take, drop, getD, drop-of-length-le}
 use lib.Seq.{drop-cons, drop-drop, length-take-le, getD-take, take-take}
+use borrow.Author.Tests.{eq-eqb, ne-eqb}
 use Rattle.rules.specs.declared.Name.{Name}
-use Rattle.rules.specs.declared.Kind.{Kind}
-use Rattle.rules.specs.declared.Kind.the-variants.{Macro, String}
+use Rattle.rules.specs.declared.Kind.the-variants.{String}
 use Rattle.rules.specs.Names.{twoBytes, sameName}
 use Rattle.rules.specs.NameLaws.{same-one}
 use Rattle.rules.specs.Texts.{Text, text, textOf}
@@ -20,6 +21,14 @@ use Rattle.texts.specs.declared.Place.the-variants.{At, Not}
 use Rattle.texts.specs.Table.{zipWith, kindOf, Row, row, asPair, namesOf, rowsOf, sum, cut, textsOf, Names, Lies}
 use Rattle.texts.specs.Places.{next, placeOf}
 use Rattle.texts.proofs.Lists.{zip-at, zip-length, sum-step, sum-mono}
+
+-- the bytes of two names
+
+pub same-second : (n : Name) (a b : ℕ) → n .first ≡ a → eqb (n .second) b ≡ sameName n (twoBytes a b)
+same-second n a b e = rw (eq-eqb (n .first) a e)
+
+pub other-first : (n : Name) (a b : ℕ) → (n .first ≡ a → ⊥) → false ≡ sameName n (twoBytes a b)
+other-first n a b e = rw (ne-eqb (n .first) a e)
 
 -- places
 

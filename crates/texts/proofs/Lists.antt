@@ -5,8 +5,8 @@ use Prim.Native.Nat.{ℕ, zero, suc, _+_, _-_, _≤_, _<_}
 use native.Mathlib.Nat.{add-assoc, zero-add}
 use native.Mathlib.Numerals.{add-one}
 use native.Mathlib.Omega.{arith}
-use lib.ListN.{length, take, drop, getD, set, length-drop, length-take}
-use lib.Seq.{take-add, take-take, take-nil, drop-drop, getD-drop, take-at, drop-at, length-take-le, paste, paste-suc, take-paste, drop-paste, take-length}
+use lib.ListN.{length, take, drop, getD, set, length-drop}
+use lib.Seq.{take-add, take-take, take-nil, drop-drop, getD-drop, take-at, drop-at, length-take-le, paste, paste-suc, take-paste, drop-paste}
 use Rattle.texts.specs.Table.{zipWith, sum}
 use Rattle.texts.specs.Changes.{without, closed}
 

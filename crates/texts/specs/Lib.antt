@@ -3,3 +3,4 @@ pub mod Places
 pub mod Lines
 pub mod Requests
 pub mod Changes
+pub mod KeptLaws

@@ -1,5 +1,5 @@
 -- The texts, as a store and the columns of their table stand for them. Assumes nothing.
-use mathlib.Core.Path.{_≡_, refl}
+use mathlib.Core.Path.{_≡_}
 use mathlib.Core.List.{List, [], _∷_}
 use Prim.Native.Nat.{ℕ, zero, suc, _+_, _≤_, zero-le}
 use lib.ListN.{length, take, drop}

@@ -9,17 +9,17 @@ ghost use mathlib.Core.List.{_∷_, []};
 ghost use Prim.Native.Nat.{_+_, _<_, _≤_, _-_};
 ghost use lib.Dec.{ltb};
 ghost use lib.Seq.{paste};
-ghost use Rattle.texts.specs.Changes.{roomOf, closed, TakenOut, Entered, Appended, RemovedTo, DefinedTo, Opens, OpenedTo, KeptTo, ClosedTo};
 ghost use lib.ListN.{length, getD, take, drop};
 ghost use Rattle.rules.specs.Names.{twoBytes, sameName};
 ghost use Rattle.rules.specs.Texts.{textOf};
+ghost use Rattle.rules.specs.Lines.{isClosing};
+ghost use Rattle.rules.specs.Requests.{requests, requestOf};
+ghost use Rattle.texts.specs.declared.Named.the-variants.{Other};
 ghost use Rattle.texts.specs.Table.{kindOf, namesOf, sum, textsOf, Names, Lies, Starts};
 ghost use Rattle.texts.specs.Places.{placeOf, bytesOr, LookedUp};
 ghost use Rattle.texts.specs.Lines.{firstLine, nextLine, TopInside, isPair};
 ghost use Rattle.texts.specs.Requests.{requestFrom, among};
-ghost use Rattle.texts.specs.declared.Named.the-variants.{Other};
-ghost use Rattle.rules.specs.Lines.{isClosing};
-ghost use Rattle.rules.specs.Requests.{requests, requestOf};
+ghost use Rattle.texts.specs.Changes.{roomOf, closed, TakenOut, Entered, Appended, RemovedTo, DefinedTo, Opens, OpenedTo, KeptTo, ClosedTo};
 
 // The place of a name in the table, if it is there.
 pub enum Place {

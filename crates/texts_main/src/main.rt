@@ -8,7 +8,6 @@ use rules::Name;
 use texts::Found;
 use texts::Kept;
 use texts::Stored;
-ghost use mathlib.Core.Path.{_≡_};
 ghost use mathlib.Core.Bool.{true, false};
 ghost use Prim.Native.Nat.{_≤_};
 ghost use lib.ListN.{length};

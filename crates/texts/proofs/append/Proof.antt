@@ -1,5 +1,4 @@
 -- `texts::append` meets its contract. Assumes nothing.
-use mathlib.Core.Path.{_≡_}
 use denote.Ref.{now}
 use Rattle.texts.proofs.EntryLaws.{appended}
 use borrow.Author.Needs.{needs}

@@ -1,5 +1,4 @@
 -- `texts::close_macro` meets its contract. Assumes nothing.
-use mathlib.Core.Path.{_≡_}
 use Rattle.texts.proofs.EntryLaws.{closed-macro}
 use borrow.Author.Needs.{needs}
 use Rattle.texts.proofs.close_macro.Statement.{statement}

@@ -1,7 +1,7 @@
 -- `texts::define_string` meets its contract, by whether the name is found and whether there is room. Assumes nothing.
 use Prim.Native.Nat.{_≤_, _<_, _+_, _-_}
 use mathlib.Core.Bool.{Bool, true, false}
-use mathlib.Core.Path.{_≡_, refl, sym, _∙_}
+use mathlib.Core.Path.{_≡_, sym, _∙_}
 use native.Mathlib.Omega.{arith}
 use lib.Dec.{ltb}
 use lib.ListN.{length, take, getD}
@@ -11,7 +11,7 @@ use Rattle.texts.specs.declared.Place.the-variants.{At, Not}
 use Rattle.texts.specs.Table.{namesOf, sum}
 use Rattle.texts.specs.Places.{placeOf}
 use Rattle.texts.specs.Changes.{roomOf}
-use Rattle.texts.proofs.Laws.{found-row, text-inside}
+use Rattle.texts.proofs.Laws.{found-row}
 use Rattle.texts.proofs.Lists.{sum-step, sum-mono}
 use Rattle.texts.proofs.EntryLaws.{room-small, define-65, define-past, define-new, define-over-room, define-old}
 use borrow.Author.Needs.{needs}
@@ -102,7 +102,7 @@ enum-told c = search needs
 
 returns-2 : tie.Need-returns-2
 returns-2 c =
-    let s = c .before .before .before .before .before .before .before .before .before .before .before in define-65 _ _ _ _ _ _ (s .pre) (s .args .name) (now (s .args .text)) (missing (c .before)) (c .if2 .taken)
+    let s = c .before .before .before .before .before .before .before .before .before .before .before in define-65 _ _ _ _ _ _ (s .pre) (s .args .name) (now (s .args .text)) (missing (c .before)) (omega arith)
 
 too-long-requires-2 : tie.Need-too-long-requires-2
 too-long-requires-2 c κs = search needs

@@ -1,6 +1,5 @@
 -- `texts::is_pair` meets its contract, byte by byte. Assumes nothing.
-use mathlib.Core.Path.{_≡_}
-use lib.ListN.{length, getD}
+use lib.ListN.{getD}
 use borrow.Author.Tests.{eq-eqb, ne-eqb}
 use denote.Ref.{now}
 use Rattle.texts.proofs.LineLaws.{pair-two, pair-other}

@@ -1,5 +1,5 @@
 -- `texts::keep_line` meets its contract, by whether there is room. Assumes nothing.
-use Prim.Native.Nat.{_≤_, _<_, _+_}
+use Prim.Native.Nat.{_≤_, _+_}
 use mathlib.Core.Bool.{Bool, true, false}
 use mathlib.Core.Path.{_≡_, sym, _∙_}
 use native.Mathlib.Omega.{arith}

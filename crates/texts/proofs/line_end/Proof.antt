@@ -6,7 +6,6 @@ use lib.ListN.{length, drop}
 use denote.Ref.{now}
 use Rattle.texts.specs.Lines.{firstLine}
 use Rattle.texts.proofs.LineLaws.{line-stops, line-goes, line-ends}
-use borrow.Author.Needs.{needs}
 use Rattle.texts.proofs.line_end.Statement.{statement}
 use Rattle.texts.proofs.line_end.Tie as tie
 

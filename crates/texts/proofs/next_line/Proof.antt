@@ -1,6 +1,6 @@
 -- `texts::next_line` meets its contract, by what is on top. Assumes nothing.
 use Prim.Native.Nat.{ℕ}
-use mathlib.Core.Path.{_≡_, ap, _∙_}
+use mathlib.Core.Path.{ap}
 use native.Mathlib.Nat.{sub-zero}
 use lib.ListN.{take}
 use denote.Ref.{now}

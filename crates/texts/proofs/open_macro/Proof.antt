@@ -1,6 +1,6 @@
 -- `texts::open_macro` meets its contract, by whether the name is found. Assumes nothing.
-use Prim.Native.Nat.{_≤_, _<_, _+_}
-use mathlib.Core.Path.{_≡_, refl, sym, _∙_}
+use Prim.Native.Nat.{_<_}
+use mathlib.Core.Path.{_≡_, sym, _∙_}
 use native.Mathlib.Omega.{arith}
 use denote.Ref.{now}
 use Rattle.texts.specs.declared.Place.the-variants.{At, Not}
@@ -41,7 +41,7 @@ enum-told c = search needs
 
 returns : tie.Need-returns
 returns c =
-    let s = c .before .before .before .before .before .before .before in open-new _ _ _ _ _ _ (s .pre) (s .args .name) (missing (c .before)) (c .if1 .taken)
+    let s = c .before .before .before .before .before .before .before in open-new _ _ _ _ _ _ (s .pre) (s .args .name) (missing (c .before)) (omega arith)
 
 same-length : tie.Need-same-length
 same-length c = search needs

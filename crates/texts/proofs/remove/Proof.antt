@@ -1,5 +1,5 @@
 -- `texts::remove` meets its contract, by whether the name is found. Assumes nothing.
-use Prim.Native.Nat.{_≤_, _<_, _+_}
+use Prim.Native.Nat.{_<_}
 use mathlib.Core.Path.{_≡_, refl, sym, _∙_}
 use native.Mathlib.Omega.{arith}
 use denote.Ref.{now}

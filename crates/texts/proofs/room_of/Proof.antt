@@ -1,5 +1,4 @@
 -- `texts::room_of` meets its contract. Assumes nothing.
-use mathlib.Core.Path.{sym}
 use borrow.Author.Tests.{lt-ltb, le-ltb}
 use Rattle.texts.proofs.room_of.Statement.{statement}
 use Rattle.texts.proofs.room_of.Tie as tie

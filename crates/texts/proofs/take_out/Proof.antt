@@ -1,6 +1,5 @@
 -- `texts::take_out` meets its contract: the law of a text that is taken out, for the state that the moves leave. Assumes nothing.
 use Prim.Native.Nat.{_≤_, _+_}
-use mathlib.Core.Path.{_≡_}
 use native.Mathlib.Omega.{arith}
 use lib.ListN.{length, take}
 use denote.Ref.{now}

@@ -1,5 +1,4 @@
 -- `texts_main::begin` leaves an open macro, or nothing has changed. Assumes nothing.
-use Prim.Native.Nat.{_≤_}
 use native.Mathlib.Omega.{arith}
 use borrow.Author.Needs.{needs}
 use Rattle.texts_main.proofs.begin.Statement.{statement}

@@ -1,5 +1,4 @@
 -- `texts_main::body` keeps the state ready. Assumes nothing.
-use mathlib.Core.Path.{_≡_}
 use borrow.Author.Needs.{needs}
 use Rattle.texts_main.proofs.body.Statement.{statement}
 use Rattle.texts_main.proofs.body.Tie as tie

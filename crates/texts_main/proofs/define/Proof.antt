@@ -1,5 +1,4 @@
 -- `texts_main::define` leaves the texts as `texts::define_string` does. Assumes nothing.
-use Prim.Native.Nat.{_≤_}
 use native.Mathlib.Omega.{arith}
 use borrow.Author.Needs.{needs}
 use Rattle.texts_main.proofs.define.Statement.{statement}

@@ -1,5 +1,4 @@
 -- `texts_main::keep` leaves the macro open. Assumes nothing.
-use mathlib.Core.Path.{_≡_}
 use borrow.Author.Needs.{needs}
 use Rattle.texts_main.proofs.keep.Statement.{statement}
 use Rattle.texts_main.proofs.keep.Tie as tie
