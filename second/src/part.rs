@@ -10,13 +10,14 @@
 //! | `r NAME` | removes a text | the same |
 //! | `t NAME` | shows a text | `macro ..` (a bar for each newline), `string ..` or `nothing` |
 //! | `n NAME VALUE STEP` | sets a register | `ok REGISTERS` or `refused N` |
-//! | `a REST` | parts REST; its arguments are those of the next lines | `COUNT [..] [..]` |
+//! | `g PAGE ROWS LENGTH` | the page, rows used and page length that registers show | `ok` |
+//! | `a REST` | expands and parts REST; its arguments are those of the next lines | `COUNT [..] [..]` or `refused N` |
 //! | `p LINE`, `c LINE` | expands a line, plain or in copy mode | `[..]` or `refused N` |
 //! | `h PLACE NAME`, `h PLACE` | plants a trap, removes one | `ok TRAPS` or `refused N` |
 //! | `x LENGTH ROW` | the trap seen at a row, and the nearest below it | `NAME NEAREST` |
 //! | `y OFFSET INDENT LENGTH ADJUST` | settings | `ok` |
 //! | `w LINE`, `u LINE`, `o LINE` | expands and fills a text line, writes it unfilled, or centred | `ok` or `refused N` |
-//! | `b` | breaks | `ok` |
+//! | `b`, `k N` | breaks, writes blank rows | `ok` |
 //!
 //! A mark, a fixed blank and a backslash are shown as escapes. An operation that is none of these is answered by `?`.
 
@@ -74,7 +75,8 @@ impl Parts {
             b's' | b'm' | b'l' | b'e' | b'r' => self.text(letter, rest),
             b't' => Ok(self.shown(rest)),
             b'n' => self.register(rest),
-            b'a' => Ok(self.parted(rest)),
+            b'g' => self.stands(rest),
+            b'a' => self.parted(rest),
             b'p' => self.expanded(rest, Mode::Plain).map(|text| bracketed(&text)),
             b'c' => self.expanded(rest, Mode::Copy).map(|text| bracketed(&text)),
             b'h' => self.trap(rest),
@@ -82,6 +84,7 @@ impl Parts {
             b'y' => self.settings(rest),
             b'w' | b'u' | b'o' => self.text_line(letter, rest),
             b'b' => self.break_line(),
+            b'k' => self.blank_rows(rest),
             _ => Ok(b"?".to_vec()),
         };
         let rows = std::mem::take(&mut self.state.waiting);
@@ -129,14 +132,27 @@ impl Parts {
         Ok(format!("ok {}", self.state.registers.len()).into_bytes())
     }
 
-    fn parted(&mut self, rest: &[u8]) -> Vec<u8> {
-        self.arguments = arguments(&[b". ", rest].concat());
+    fn stands(&mut self, rest: &[u8]) -> Work<Vec<u8>> {
+        let [page, rows, length] = self.numbers(rest)?[..] else { return Ok(b"?".to_vec()) };
+        let Ok(page) = u32::try_from(page) else { return Ok(b"?".to_vec()) };
+        (self.state.page, self.state.row, self.state.page_length) = (page, rows, length);
+        Ok(b"ok".to_vec())
+    }
+
+    fn numbers(&self, rest: &[u8]) -> Work<Vec<i64>> {
+        let words = arguments(&[b". ", rest].concat());
+        words.iter().map(|word| evaluate(word, DefaultScale::Units)).collect()
+    }
+
+    fn parted(&mut self, rest: &[u8]) -> Work<Vec<u8>> {
+        let expanded = self.expanded(rest, Mode::Plain)?;
+        self.arguments = arguments(&[b". ", &expanded[..]].concat());
         let mut shown = self.arguments.len().to_string().into_bytes();
         for argument in &self.arguments {
             shown.push(b' ');
             shown.extend(bracketed(argument));
         }
-        shown
+        Ok(shown)
     }
 
     fn trap(&mut self, rest: &[u8]) -> Work<Vec<u8>> {
@@ -163,39 +179,44 @@ impl Parts {
     }
 
     fn settings(&mut self, rest: &[u8]) -> Work<Vec<u8>> {
-        let [offset, indent, length, adjusting] = &arguments(&[b". ", rest].concat())[..] else {
-            return Ok(b"?".to_vec());
-        };
-        let number = |argument: &[u8]| evaluate(argument, DefaultScale::Units);
-        let (offset, indent, length) = (number(offset)?, number(indent)?, number(length)?);
+        let [offset, indent, length, adjusting] = self.numbers(rest)?[..] else { return Ok(b"?".to_vec()) };
         if !(0..=120).contains(&offset) || !(0..=239).contains(&indent) || !(1..=240).contains(&length) {
             return Ok(b"?".to_vec());
         }
         self.state.page_offset = Setting { value: offset, previous: offset };
         self.state.indent = Setting { value: indent, previous: indent };
         self.state.line_length = Setting { value: length, previous: length };
-        self.state.adjusting = adjusting != b"0";
+        self.state.adjusting = adjusting != 0;
         Ok(b"ok".to_vec())
+    }
+
+    /// Work at the top of the longest page, without traps: nothing can come between its rows.
+    fn apart(&mut self, work: impl FnOnce(&mut State) -> Work<()>) -> Work<Vec<u8>> {
+        let stands = (self.state.page, self.state.row, self.state.page_length);
+        let traps = std::mem::take(&mut self.state.traps);
+        (self.state.page, self.state.row, self.state.page_length) = (1, 0, LONGEST_PAGE);
+        let done = work(&mut self.state);
+        (self.state.page, self.state.row, self.state.page_length) = stands;
+        self.state.traps = traps;
+        done.map(|()| b"ok".to_vec())
     }
 
     fn break_line(&mut self) -> Work<Vec<u8>> {
-        self.state.break_line()?;
-        self.state.row = 0;
-        Ok(b"ok".to_vec())
+        self.apart(|state| state.break_line().map(|_| ()))
     }
 
-    /// A text line on a page without traps: nothing can come between its rows.
+    fn blank_rows(&mut self, rest: &[u8]) -> Work<Vec<u8>> {
+        let [count] = self.numbers(rest)?[..] else { return Ok(b"?".to_vec()) };
+        self.apart(|state| state.space(count))
+    }
+
     fn text_line(&mut self, letter: u8, rest: &[u8]) -> Work<Vec<u8>> {
         let line = self.expanded(rest, Mode::Plain)?;
-        let traps = std::mem::take(&mut self.state.traps);
-        self.state.page = 1;
-        self.state.filling = letter == b'w';
-        self.state.centring = i64::from(letter == b'o');
-        let written = self.state.text_line(line);
-        self.state.page = 0;
-        self.state.row = 0;
-        self.state.traps = traps;
-        written.map(|()| b"ok".to_vec())
+        self.apart(|state| {
+            state.filling = letter == b'w';
+            state.centring = i64::from(letter == b'o');
+            state.text_line(line)
+        })
     }
 }
 

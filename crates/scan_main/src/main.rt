@@ -1,20 +1,26 @@
-// Expands lines with `scan` and writes what it answers. The file stdout was worked out apart, by hand from document 01.
+// Expands lines with `scan`, in plain and in copy mode, and writes what it answers and what one register then has. The lines come from standard input, the
+// texts, the register and the arguments are those of `show`; the last lines stand behind bytes that are counted before them.
+ghost use Prim.Native.Nat.{_≤_};
+ghost use lib.ListN.{length};
+use libc::STDIN_FILENO;
 use libc::STDOUT_FILENO;
 use registers::Shown;
 use report::text;
 use rules::Mode;
 use scan::Scanned;
 
-// Writes the first bytes of a buffer, a mark as ^ and a fixed blank as ~.
+// Writes the first bytes of a buffer between brackets; a backslash, a mark and a fixed blank as \e, \& and backslash-space.
 fn print(out: &[u8; 512], n: usize) {
     let mut i = 0;
     while i < n {
         if i < 512 {
             let byte = out[i];
             if byte == 2 {
-                text(b"^");
+                text(b"\\&");
             } else if byte == 3 {
-                text(b"~");
+                text(b"\\ ");
+            } else if byte == 92 {
+                text(b"\\e");
             } else {
                 let one = [byte];
                 text(&one);
@@ -91,16 +97,17 @@ fn show(line: &[u8], mode: Mode, prefix: usize) {
         Scanned::Line(n) => {
             text(b"[");
             print(&out, n);
-            text(b"] ");
+            text(b"]\n");
         }
         Scanned::Refused(k) => {
             text(b"refused ");
             io::print_decimal(STDOUT_FILENO, k as u64);
-            text(b" ");
+            text(b"\n");
         }
     }
+    text(b"[");
     report::number(report::wide(values[0]));
-    text(b"\n");
+    text(b"]\n");
 }
 
 fn both(line: &[u8]) {
@@ -108,22 +115,34 @@ fn both(line: &[u8]) {
     show(line, Mode::Copy, 0);
 }
 
+// The place of the first newline at or behind a place, or the end.
+fn line_end(s: &[u8], from: usize) -> usize
+    requires { ⌜ from ≤ length (now s) ⌝ }
+    ensures { λ r. ⌜ (from ≤ r) × (r ≤ length (now (s .entry))) ⌝ }
+{
+    let mut i = from;
+    while i < s.len() {
+        if s[i] == 10 {
+            return i;
+        }
+        i += 1;
+    }
+    i
+}
+
+fn answer_all(s: &[u8]) {
+    let mut from: usize = 0;
+    while from < s.len() {
+        let end = line_end(s, from);
+        both(&s[from..end]);
+        from = end + 1;
+    }
+}
+
 fn main() {
-    both(b"a.b");
-    both(b"\\\\ \\e \\- \\& \\  \\. \\q");
-    both(b"\\\\ \\e \\- \\& \\ |");
-    both(b"\\*a|\\*b|\\nr");
-    both(b"\\n-r\\n-r\\n-r\\n-r\\n(nl\\n%\\n(.p\\nx\\n+x");
-    both(b"\\$1|\\$2|\\$3|\\*g");
-    both(b"\\$0");
-    both(b"\\n(");
-    both(b"\\*(a");
-    both(b"a\\");
-    both(b"\\*l");
-    both(b"1\\*e2");
-    both(b"\\*s");
-    both(b"\\*m");
-    both(b"\\n+%");
+    let mut buffer = io::large_buffer();
+    let n = io::read_full(STDIN_FILENO, &mut buffer);
+    answer_all(&buffer[..n]);
     let long = [b'x'; 513];
     show(&long[..512], Mode::Plain, 504);
     show(&long[..8], Mode::Plain, 504);

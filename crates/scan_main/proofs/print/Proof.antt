@@ -5,10 +5,10 @@ use Rattle.scan_main.proofs.print.Statement.{statement}
 use Rattle.scan_main.proofs.print.Tie as tie
 
 abbrev Inv-loop : tie.InvT-loop
-Inv-loop out n i₀ t6 t7 i = i ≤ n
+Inv-loop out n i₀ t6 t7 t8 i = i ≤ n
 
 abbrev μ-loop : tie.MeasureT-loop
-μ-loop out n i₀ t6 t7 i = n - i
+μ-loop out n i₀ t6 t7 t8 i = n - i
 
 loop-holds : tie.Need-loop-holds Inv-loop μ-loop
 loop-holds c = search needs
@@ -46,6 +46,12 @@ loop-again c = search needs
 returns : tie.Need-returns Inv-loop μ-loop
 returns c = search needs
 
+slice-aggregate-text-4 : tie.Need-slice-aggregate-text-4 Inv-loop μ-loop
+slice-aggregate-text-4 c = search needs
+
+text-requires-4 : tie.Need-text-requires-4 Inv-loop μ-loop
+text-requires-4 c κs = search needs
+
 pub print-spec : {M : Type 1} → statement M
 print-spec =
     tie.close
@@ -60,6 +66,8 @@ print-spec =
     text-requires-2
     slice-aggregate-text-3
     text-requires-3
+    slice-aggregate-text-4
+    text-requires-4
     add-i
     loop-less
     loop-again

@@ -161,6 +161,12 @@ text-requires-5 c κs = search needs
 returns : tie.Need-returns
 returns c = search needs
 
+slice-aggregate-text-6 : tie.Need-slice-aggregate-text-6
+slice-aggregate-text-6 c = search needs
+
+text-requires-6 : tie.Need-text-requires-6
+text-requires-6 c κs = search needs
+
 pub show-spec : {M : Type 1} → statement M
 show-spec =
     tie.close
@@ -202,9 +208,11 @@ show-spec =
     print-decimal-requires
     slice-aggregate-text-4
     text-requires-4
+    slice-aggregate-text-5
+    text-requires-5
     array-copy-out-wide
     wide-requires
     number-requires
-    slice-aggregate-text-5
-    text-requires-5
+    slice-aggregate-text-6
+    text-requires-6
     returns)

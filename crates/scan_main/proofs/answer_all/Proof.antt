@@ -1,0 +1,60 @@
+-- `scan_main::answer_all` stays within the text and ends: each line leaves fewer bytes. Assumes nothing.
+use Prim.Native.Nat.{_+_, _-_, _≤_}
+use native.Mathlib.Omega.{arith}
+use lib.ListN.{length}
+use borrow.Author.Needs.{needs}
+use Rattle.scan_main.proofs.answer_all.Statement.{statement}
+use Rattle.scan_main.proofs.answer_all.Tie as tie
+
+abbrev Inv-loop : tie.InvT-loop
+Inv-loop s from₀ from = from ≤ length s + 1
+
+abbrev μ-loop : tie.MeasureT-loop
+μ-loop s from₀ from = length s + 1 - from
+
+loop-holds : tie.Need-loop-holds Inv-loop μ-loop
+loop-holds c = search needs
+
+line-end-requires : tie.Need-line-end-requires Inv-loop μ-loop
+line-end-requires c κs = search needs
+
+sub-both : tie.Need-sub-both Inv-loop μ-loop
+sub-both c = search needs
+
+part-both-start : tie.Need-part-both-start Inv-loop μ-loop
+part-both-start c = search needs
+
+part-both-end : tie.Need-part-both-end Inv-loop μ-loop
+part-both-end c = search needs
+
+both-requires : tie.Need-both-requires Inv-loop μ-loop
+both-requires c κs = search needs
+
+add-from : tie.Need-add-from Inv-loop μ-loop
+add-from c = search needs
+
+loop-less : tie.Need-loop-less Inv-loop μ-loop
+loop-less c = search needs
+
+loop-again : tie.Need-loop-again Inv-loop μ-loop
+loop-again c = search needs
+
+returns : tie.Need-returns Inv-loop μ-loop
+returns c = search needs
+
+pub answer-all-spec : {M : Type 1} → statement M
+answer-all-spec =
+    tie.close
+    (tie.spec
+    Inv-loop
+    μ-loop
+    loop-holds
+    line-end-requires
+    sub-both
+    part-both-start
+    part-both-end
+    both-requires
+    add-from
+    loop-less
+    loop-again
+    returns)
