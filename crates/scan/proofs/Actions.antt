@@ -28,20 +28,20 @@ use Rattle.rules.specs.declared.Kind.the-variants.{Macro, String}
 use Rattle.texts.specs.declared.Spot.{Spot}
 use Rattle.texts.specs.declared.Found.the-variants.{There, Nothing}
 use Rattle.texts.specs.Table.{textsOf}
-use Rattle.texts.specs.Places.{partOf, LookedUp}
+use Rattle.texts.specs.Places.{partOf, bytesOr, LookedUp}
 use Rattle.scan.proofs.Escapes.{before-nothing}
 use Rattle.scan.specs.Around.{givenAt}
 use Rattle.scan.proofs.Givens.{given-at}
 use Rattle.scan.proofs.Totals.{put-total, full-total}
 
 -- bytes are written, or have no room
-pub acted-writes : (x : kinds.Wrote) (w : Surroundings) (m : Mode) (store : List ℕ) {out : List ℕ} {written limit : ℕ} (depth : ℕ) (l : List ℕ) (rs : List Register) {out' : List ℕ}
-    → Room out written limit → WroteTo x l out written limit out' → ActedTo (wroteAs x) w m store out written limit depth (writes l) rs out' rs
-acted-writes (wrote.To n) w m store {out} {written} {limit} depth l rs {out'} r p = record {
+pub acted-writes : (x : kinds.Wrote) (w : Surroundings) (m : Mode) {out : List ℕ} {written limit : ℕ} (depth : ℕ) (l : List ℕ) (rs : List Register) {out' : List ℕ}
+    → Room out written limit → WroteTo x l out written limit out' → ActedTo (wroteAs x) w m out written limit depth (writes l) rs out' rs
+acted-writes (wrote.To n) w m {out} {written} {limit} depth l rs {out'} r p = record {
   is = λ left t u e. put-total w m l left (t ∷ u) rs out written limit n out' p;
   sound = (record { long = p .long; low = p .fits; high = r .high }, omega (arith, p .count), p .kept);
 }
-acted-writes wrote.Full w m store {out} {written} {limit} depth l rs {out'} r p = record {
+acted-writes wrote.Full w m {out} {written} {limit} depth l rs {out'} r p = record {
   is = λ left t u e. full-total w m l left (t ∷ u) rs out written limit (r .low) (p .0);
   sound = p .1;
 }
@@ -56,9 +56,9 @@ module _ {shown : Shown} {fs ss : List ℕ} {vs ts : List ℤ} {count : ℕ} {tu
   pub shown-is : (v : ℤ) (x : kinds.Wrote) {out' : List ℕ} → ReferTo fs ss vs ts count shown turn name (Is v) vs' → Room out written limit → WroteTo x (decimal v) out written limit out'
       → ShownTo (wroteAs x) shown fs ss vs ts count turn name out written limit out' vs'
   shown-is v x {out'} f r p = record {
-    is = λ texts arguments m store depth.
+    is = λ texts arguments m depth.
         let w : Surroundings = record { seen = seenOf shown; texts = texts; arguments = arguments } in
-        let a = acted-writes x w m store depth (decimal v) (tableOf fs ss vs' ts count) r p in
+        let a = acted-writes x w m depth (decimal v) (tableOf fs ss vs' ts count) r p in
         record {
           is = λ left t u e. ap (before (take written out)) (by-reference w m turn name left (t ∷ u) (limit - written) (tableOf fs ss vs ts count) (f .is)) ∙ a .is left t u e;
           sound = a .sound;
@@ -68,7 +68,7 @@ module _ {shown : Shown} {fs ss : List ℕ} {vs ts : List ℤ} {count : ℕ} {tu
 
   pub shown-bad : ReferTo fs ss vs ts count shown turn name Bad vs' → Room out written limit → ShownTo (Refused 6) shown fs ss vs ts count turn name out written limit out vs'
   shown-bad f r = record {
-    is = λ texts arguments m store depth.
+    is = λ texts arguments m depth.
         let w : Surroundings = record { seen = seenOf shown; texts = texts; arguments = arguments } in
         record {
           is = λ left t u e. ap (before (take written out)) (by-reference w m turn name left (t ∷ u) (limit - written) (tableOf fs ss vs ts count) (f .is))
@@ -80,7 +80,7 @@ module _ {shown : Shown} {fs ss : List ℕ} {vs ts : List ℤ} {count : ℕ} {tu
 
   pub shown-read-only : ReferTo fs ss vs ts count shown turn name ReadOnly vs' → Room out written limit → ShownTo (Refused 7) shown fs ss vs ts count turn name out written limit out vs'
   shown-read-only f r = record {
-    is = λ texts arguments m store depth.
+    is = λ texts arguments m depth.
         let w : Surroundings = record { seen = seenOf shown; texts = texts; arguments = arguments } in
         record {
           is = λ left t u e. ap (before (take written out)) (by-reference w m turn name left (t ∷ u) (limit - written) (tableOf fs ss vs ts count) (f .is))
@@ -139,31 +139,32 @@ module _ {store fs ss ks ls : List ℕ} {count : ℕ} {name : Name} {depth writt
           };
     }
 
-    pub entered-string : spot .kind ≡ String → depth < 8 → EnteredTo (Enters (spot .at) (spot .length)) store fs ss ks ls count name depth written
+    pub entered-string : spot .kind ≡ String → depth < 8 → EnteredTo (Enters name) store fs ss ks ls count name depth written
     unfolding total
     entered-string k h = record {
       is = λ seen arguments m out limit rs r.
           let w : Surroundings = record { seen = seen; texts = textsOf store fs ss ks ls count; arguments = arguments } in
           record {
             is = λ left t u e. ap (before (take written out)) (by-text w m name left (t ∷ u) (limit - written) rs (ap (λ x. some (text name x (partOf store spot))) (sym k) ∙ l .is)
-                ∙ shallow w m name (partOf store spot) left (t ∷ u) (limit - written) rs (omega arith) ∙ before-nothing (from w m left (partOf store spot ∷ t ∷ u) (limit - written) rs));
-            sound = (refl, l .inside, omega arith);
+                ∙ shallow w m name (partOf store spot) left (t ∷ u) (limit - written) rs (omega arith) ∙ before-nothing (from w m left (partOf store spot ∷ t ∷ u) (limit - written) rs)
+                ∙ ap (λ x. from w m left (bytesOr x ∷ t ∷ u) (limit - written) rs) (l .is));
+            sound = (refl, omega arith);
           };
     }
 
 -- an argument that is given, the end of the line, and an escape that is not listed
-module _ {w : Surroundings} {m : Mode} {store out : List ℕ} {written limit depth : ℕ} {rs : List Register} where
+module _ {w : Surroundings} {m : Mode} {out : List ℕ} {written limit depth : ℕ} {rs : List Register} where
   pub acted-gives : (k : ℕ) (x : kinds.Wrote) {out' : List ℕ} → Room out written limit → WroteTo x (givenAt m depth (getD (w .arguments) k [])) out written limit out'
-      → ActedTo (wroteAs x) w m store out written limit depth (gives k) rs out' rs
+      → ActedTo (wroteAs x) w m out written limit depth (gives k) rs out' rs
   acted-gives k x r p =
-      let a = acted-writes x w m store depth (givenAt m depth (getD (w .arguments) k [])) rs r p in
+      let a = acted-writes x w m depth (givenAt m depth (getD (w .arguments) k [])) rs r p in
       record {
         is = λ left t u e. ap (λ l. behind w m out written limit (writes l) left (t ∷ u) rs) (given-at m t u depth (getD (w .arguments) k []) e) ∙ a .is left t u e;
         sound = a .sound;
       }
 
-  pub acted-ends : ActedTo Ends w m store out written limit depth ends rs out rs
+  pub acted-ends : ActedTo Ends w m out written limit depth ends rs out rs
   acted-ends = record { is = λ left t u e. ap (λ l. scanned l rs) (append-nil (take written out)); sound = refl }
 
-  pub acted-bad : length out ≡ 512 → ActedTo (Refused 5) w m store out written limit depth unlisted rs out rs
+  pub acted-bad : length out ≡ 512 → ActedTo (Refused 5) w m out written limit depth unlisted rs out rs
   acted-bad h = record { is = λ left t u e. refl; sound = h }

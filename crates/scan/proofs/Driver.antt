@@ -6,6 +6,9 @@ use native.Mathlib.Omega.{arith}
 use lib.ListN.{length, take, drop}
 use lib.IntN.{ℤ}
 use Rattle.rules.specs.declared.Mode.{Mode}
+use Rattle.rules.specs.declared.Name.{Name}
+use Rattle.rules.specs.Texts.{textOf}
+use Rattle.texts.specs.Places.{bytesOr}
 use Rattle.rules.specs.Escapes.{Surroundings, scanned, run, scan}
 use Rattle.registers.specs.Columns.{Table, tableOf}
 use Rattle.scan.specs.declared.What.{What}
@@ -57,8 +60,8 @@ module _ {w : Surroundings} {m : Mode} {text : List ℕ} {depth left : ℕ} {out
       so-far : Filled out written limit n2 out2
       so-far = fill-more (g .filled) (r .filled)
 
-      module _ {store out3 : List ℕ} {vs3 : List ℤ} where
-        pub wrote : {n3 : ℕ} → ActsTo (acted.Wrote n3) w m store out2 n2 limit depth (actionIn what) fs ss vs1 ts count out3 vs3
+      module _ {out3 : List ℕ} {vs3 : List ℤ} where
+        pub wrote : {n3 : ℕ} → ActsTo (acted.Wrote n3) w m out2 n2 limit depth (actionIn what) fs ss vs1 ts count out3 vs3
             → Going w m text depth left out written limit fs ss vs ts count end l2 n3 out3 vs3
         wrote a = record {
           is = λ u e. here u e ∙ a .acted .is l2 (drop end text) u e;
@@ -67,42 +70,38 @@ module _ {w : Surroundings} {m : Mode} {text : List ℕ} {depth left : ℕ} {out
           table = a .table;
         }
 
-        pub refuses : {k : ℕ} → ActsTo (acted.Refused k) w m store out2 n2 limit depth (actionIn what) fs ss vs1 ts count out3 vs3
+        pub refuses : {k : ℕ} → ActsTo (acted.Refused k) w m out2 n2 limit depth (actionIn what) fs ss vs1 ts count out3 vs3
             → ExpandsTo (Refused k) w m text depth left out written limit fs ss vs ts count out3 vs3
         refuses a = record { is = λ u e. here u e ∙ a .acted .is l2 (drop end text) u e; table = a .table; sound = a .acted .sound }
 
-        pub ends : ActsTo acted.Ends w m store out2 n2 limit depth (actionIn what) fs ss vs1 ts count out3 vs3
+        pub ends : ActsTo acted.Ends w m out2 n2 limit depth (actionIn what) fs ss vs1 ts count out3 vs3
             → ExpandsTo (Ended n2) w m text depth left out written limit fs ss vs ts count out3 vs3
         ends a = record { is = λ u e. here u e ∙ a .acted .is l2 (drop end text) u e; table = a .table; sound = rw (a .acted .sound) so-far }
 
-        module _ {begin size : ℕ} (a : ActsTo (acted.Enters begin size) w m store out2 n2 limit depth (actionIn what) fs ss vs1 ts count out3 vs3) where
-          -- the string's bytes
-          string : take size (drop begin store) ≡ take (begin + size - begin) (drop begin store)
-          string = let z : size ≡ begin + size - begin = omega arith in ap (λ (k : ℕ). take k (drop begin store)) z
-
-          module _ {p : Progress} {out4 : List ℕ} {vs4 : List ℤ}
-              (x : ExpandsTo p w m (take (begin + size - begin) (drop begin store)) (depth + 1) l2 out3 n2 limit fs ss vs3 ts count out4 vs4) where
+        module _ {name : Name} (a : ActsTo (acted.Enters name) w m out2 n2 limit depth (actionIn what) fs ss vs1 ts count out3 vs3) where
+          module _ {p : Progress} {string out4 : List ℕ} {vs4 : List ℤ} (b : string ≡ bytesOr (textOf name (w .texts)))
+              (x : ExpandsTo p w m string (depth + 1) l2 out3 n2 limit fs ss vs3 ts count out4 vs4) where
             inside : (u : List (List ℕ)) → length u ≡ depth
                 → total w m out written limit left (text ∷ u) (tableOf fs ss vs ts count) ≡ progressOf p w m out4 limit (drop end text ∷ u) (tableOf fs ss vs4 ts count)
             inside u e =
-                here u e ∙ a .acted .is l2 (drop end text) u e ∙ ap (λ t. total w m out3 n2 limit l2 (t ∷ drop end text ∷ u) (tableOf fs ss vs3 ts count)) string
+                here u e ∙ a .acted .is l2 (drop end text) u e ∙ ap (λ t. total w m out3 n2 limit l2 (t ∷ drop end text ∷ u) (tableOf fs ss vs3 ts count)) (sym b)
                 ∙ x .is (drop end text ∷ u) (omega arith)
 
           before-it : Filled out written limit n2 out3
           before-it = rw (a .acted .sound .0) so-far
 
-          module _ {out4 : List ℕ} {vs4 : List ℤ} where
-            pub string-over : {l3 n3 : ℕ} → ExpandsTo (Over l3 n3) w m (take (begin + size - begin) (drop begin store)) (depth + 1) l2 out3 n2 limit fs ss vs3 ts count out4 vs4
+          module _ {string out4 : List ℕ} {vs4 : List ℤ} (b : string ≡ bytesOr (textOf name (w .texts))) where
+            pub string-over : {l3 n3 : ℕ} → ExpandsTo (Over l3 n3) w m string (depth + 1) l2 out3 n2 limit fs ss vs3 ts count out4 vs4
                 → Going w m text depth left out written limit fs ss vs ts count end l3 n3 out4 vs4
-            string-over x = record { is = λ u e. inside x u e; high = r .high; filled = fill-more before-it (x .sound); table = x .table }
+            string-over x = record { is = λ u e. inside b x u e; high = r .high; filled = fill-more before-it (x .sound); table = x .table }
 
-            pub string-ended : {n3 : ℕ} → ExpandsTo (Ended n3) w m (take (begin + size - begin) (drop begin store)) (depth + 1) l2 out3 n2 limit fs ss vs3 ts count out4 vs4
+            pub string-ended : {n3 : ℕ} → ExpandsTo (Ended n3) w m string (depth + 1) l2 out3 n2 limit fs ss vs3 ts count out4 vs4
                 → ExpandsTo (Ended n3) w m text depth left out written limit fs ss vs ts count out4 vs4
-            string-ended x = record { is = λ u e. inside x u e; table = x .table; sound = fill-more before-it (x .sound) }
+            string-ended x = record { is = λ u e. inside b x u e; table = x .table; sound = fill-more before-it (x .sound) }
 
-            pub string-refused : {k : ℕ} → ExpandsTo (Refused k) w m (take (begin + size - begin) (drop begin store)) (depth + 1) l2 out3 n2 limit fs ss vs3 ts count out4 vs4
+            pub string-refused : {k : ℕ} → ExpandsTo (Refused k) w m string (depth + 1) l2 out3 n2 limit fs ss vs3 ts count out4 vs4
                 → ExpandsTo (Refused k) w m text depth left out written limit fs ss vs ts count out4 vs4
-            string-refused x = record { is = λ u e. inside x u e; table = x .table; sound = x .sound }
+            string-refused x = record { is = λ u e. inside b x u e; table = x .table; sound = x .sound }
 
 -- the whole line
 module _ {w : Surroundings} {m : Mode} {line : List ℕ} {left : ℕ} {out : List ℕ} {limit : ℕ} {fs ss : List ℕ} {vs ts : List ℤ} {count : ℕ} {out' : List ℕ} {vs' : List ℤ} where

@@ -465,11 +465,10 @@ fn next_escape(
     }
 }
 
-// What an action came to: so many bytes are written; a string's bytes are to be read, from a place of the store on, so
-// many; the line ends; or a refusal.
+// What an action came to: so many bytes are written; a string is to be read; the line ends; or a refusal.
 enum Acted {
     Wrote(usize),
-    Enters(usize, usize),
+    Enters(Name),
     Ends,
     Refused(u8),
 }
@@ -541,7 +540,7 @@ fn enter_string(
                     if 8 <= depth {
                         return Acted::Refused(4);
                     }
-                    Acted::Enters(spot.at, spot.length)
+                    Acted::Enters(name)
                 }
             }
         }
@@ -616,7 +615,7 @@ fn act(
     limit: usize,
 ) -> Acted
     requires { ⌜ Ready (now store) (now «text_firsts») (now «text_seconds») (now kinds) (now lengths) texts (now firsts) (now seconds) (now values) (now steps) count (now arguments) (now ends) given × Room (now out) written limit ⌝ }
-    ensures { λ r. ⌜ ActsTo r (around shown (now (store .entry)) (now («text_firsts» .entry)) (now («text_seconds» .entry)) (now (kinds .entry)) (now (lengths .entry)) texts (now (arguments .entry)) (now (ends .entry)) given) mode (now (store .entry)) (now (out .entry)) written limit depth (actionIn what) (now (firsts .entry)) (now (seconds .entry)) (now (values .entry)) (now (steps .entry)) count (now (out .exit)) (now (values .exit)) ⌝ }
+    ensures { λ r. ⌜ ActsTo r (around shown (now (store .entry)) (now («text_firsts» .entry)) (now («text_seconds» .entry)) (now (kinds .entry)) (now (lengths .entry)) texts (now (arguments .entry)) (now (ends .entry)) given) mode (now (out .entry)) written limit depth (actionIn what) (now (firsts .entry)) (now (seconds .entry)) (now (values .entry)) (now (steps .entry)) count (now (out .exit)) (now (values .exit)) ⌝ }
 {
     match what {
         What::Writes(byte) => wrote_as(put_byte(byte, &mut *out, written, limit)),
@@ -735,9 +734,16 @@ fn expand_text(
                         rest = after;
                         n = next;
                     }
-                    Acted::Enters(begin, size) => {
-                        let stop = begin + size;
-                        let string = &store[begin..stop];
+                    Acted::Enters(name) => {
+                        let string = texts::text_bytes(
+                            store,
+                            text_firsts,
+                            text_seconds,
+                            kinds,
+                            lengths,
+                            texts,
+                            name,
+                        );
                         match expand_text(
                             string,
                             depth + 1,

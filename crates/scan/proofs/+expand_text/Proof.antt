@@ -18,6 +18,7 @@ use Rattle.scan.proofs.expand_text.Kinds as expand-text-kinds
 use Rattle.scan.proofs.+expand_text.Lts-expand_text as expand-text-lts
 use Rattle.scan.proofs.act.Reads as act-reads
 use Rattle.scan.proofs.next_escape.Reads as next-escape-reads
+use Rattle.texts.proofs.text_bytes.Reads as text-bytes-reads
 use Rattle.scan.proofs.+expand_text.{statement}
 use Rattle.scan.proofs.+expand_text.Tie.{close}
 
@@ -32,7 +33,7 @@ expand-text-below t = and 13 expand-text-kinds.ps (falls 13 expand-text-kinds.ps
 
 -- what the calls ask and give
 abbrev claims : ℕ → expand-text-lts.Claims
-claims t = (next-escape-reads.Asked, next-escape-reads.Learnt, act-reads.Asked, act-reads.Learnt, expand-text-below t, expand-text.Post)
+claims t = (next-escape-reads.Asked, next-escape-reads.Learnt, act-reads.Asked, act-reads.Learnt, text-bytes-reads.Asked, text-bytes-reads.Learnt, expand-text-below t, expand-text.Post)
 
 abbrev Inv : expand-text-lts.InvT-loop
 Inv text depth left store text-firsts text-seconds kinds lengths texts firsts seconds values₀ steps count shown arguments ends given mode out₀ written limit i₀ rest₀ n₀ values out i rest n =
@@ -50,18 +51,18 @@ module _ {t : ℕ} where
       ReadEscape (s .args .mode) (s .args .text .now) (l .loop .i) (l .loop .rest) (l .loop .n) (s .args .limit) (l .loop .out) (e .0) (e .1 .0) (e .1 .1 .0) (e .1 .1 .1 .0) (c .before .before .before .next-escape .last .1 .1 .1 .1 .0)
   reads c = rw (c .before .end .given .1) at (c .before .before .before .next-escape .ensures)
 
-  -- the string that is to be read
+  -- the string that is to be read next
   enters : (c : expand-text-lts.After-known-told4 (claims t) (expand-text-at t) expand-text.Post Inv μ)
       → let a = c .before .before .before in
       let k = a .before .before .before in
       let l = k .before .before .before .before .before in
       let s = l .before .before .before .before in
       let e = k .before .end .given .0 in
-      ActsTo (Enters (c .before .begin .given .0 .0) (c .before .begin .given .0 .1 .0))
+      ActsTo (Enters (c .before .name .given .0 .0))
       (around (s .args .shown) (s .args .store .now) (now (s .args .text-firsts)) (now (s .args .text-seconds)) (now (s .args .kinds)) (now (s .args .lengths)) (s .args .texts) (s .args .arguments .now) (now (s .args .ends)) (s .args .given))
-      (s .args .mode) (s .args .store .now) (k .before .before .before .next-escape .last .1 .1 .1 .1 .0) (e .1 .1 .0) (s .args .limit) (s .args .depth) (actionIn (e .1 .1 .1 .0))
+      (s .args .mode) (k .before .before .before .next-escape .last .1 .1 .1 .1 .0) (e .1 .1 .0) (s .args .limit) (s .args .depth) (actionIn (e .1 .1 .1 .0))
       (now (s .args .firsts)) (now (s .args .seconds)) (l .loop .values) (now (s .args .steps)) (s .args .count) (a .act .last .1 .1 .1 .1 .1 .1 .1 .1 .1 .1 .1 .1 .1 .1 .1 .1 .1 .1 .0) (a .act .last .1 .1 .1 .1 .1 .1 .1 .1 .0)
-  enters c = rw (c .before .begin .given .1) at (c .before .before .before .act .ensures)
+  enters c = rw (c .before .name .given .1) at (c .before .before .before .act .ensures)
 
 expand-text-loop-holds : (t : ℕ) → expand-text-lts.Need-loop-holds (claims t) (expand-text-at t) expand-text.Post Inv μ
 expand-text-loop-holds t c = let s = c .before .before .before in start (s .pre .1 .1) (s .pre .1 .0 .table)
@@ -90,23 +91,14 @@ expand-text-loop-less t c = let a = c .before .before .before in let r = reads (
 expand-text-loop-again : (t : ℕ) → expand-text-lts.Need-loop-again (claims t) (expand-text-at t) expand-text.Post Inv μ
 expand-text-loop-again t c = let a = c .before .before .before in wrote (a .before .before .before .before .before .before .before .before .loop .inv) (reads (a .before .before .before)) (rw (c .before .next .given .1) at (a .act .ensures))
 
-expand-text-enum-known-begin : (t : ℕ) → expand-text-lts.Need-enum-known-begin (claims t) (expand-text-at t) expand-text.Post Inv μ
-expand-text-enum-known-begin t c = search needs
+expand-text-enum-known-name : (t : ℕ) → expand-text-lts.Need-enum-known-name (claims t) (expand-text-at t) expand-text.Post Inv μ
+expand-text-enum-known-name t c = search needs
 
-expand-text-add-stop : (t : ℕ) → expand-text-lts.Need-add-stop (claims t) (expand-text-at t) expand-text.Post Inv μ
-expand-text-add-stop t c = let s = c .before .before .before .before .before .before .before .before .before .before .before .before .before .before .before in record { fits = omega (arith, enters c .acted .sound .1, s .good .1 .1 .1 .0 .0) }
-
-expand-text-sub-string : (t : ℕ) → expand-text-lts.Need-sub-string (claims t) (expand-text-at t) expand-text.Post Inv μ
-expand-text-sub-string t c = omega arith
-
-expand-text-part-string-start : (t : ℕ) → expand-text-lts.Need-part-string-start (claims t) (expand-text-at t) expand-text.Post Inv μ
-expand-text-part-string-start t c = omega arith
-
-expand-text-part-string-end : (t : ℕ) → expand-text-lts.Need-part-string-end (claims t) (expand-text-at t) expand-text.Post Inv μ
-expand-text-part-string-end t c = enters c .acted .sound .1
+expand-text-text-bytes-requires : (t : ℕ) → expand-text-lts.Need-text-bytes-requires (claims t) (expand-text-at t) expand-text.Post Inv μ
+expand-text-text-bytes-requires t c κs = c .before .before .before .before .before .before .before .before .before .before .before .before .before .before .before .pre .1 .0 .lies
 
 expand-text-add-expand-text : (t : ℕ) → expand-text-lts.Need-add-expand-text (claims t) (expand-text-at t) expand-text.Post Inv μ
-expand-text-add-expand-text t c = record { fits = omega (arith, enters (c .before) .acted .sound .2) }
+expand-text-add-expand-text t c = record { fits = omega (arith, enters (c .before) .acted .sound .1) }
 
 expand-text-expand-text-requires : (t : ℕ) → expand-text-lts.Need-expand-text-requires (claims t) (expand-text-at t) expand-text.Post Inv μ
 expand-text-expand-text-requires t c κs =
@@ -114,8 +106,8 @@ expand-text-expand-text-requires t c κs =
     let a = k .before .before .before in
     let s = a .before .before .before .before .before .before .before .before .before .before .before .before in
     let e = enters k in (
-      omega (arith, s .pre .0, e .acted .sound .2),
-      (record { lies = s .pre .1 .0 .lies; table = e .table; given = s .pre .1 .0 .given }, rw (e .acted .sound .0) (reads (a .before .before .before) .filled .room), e .acted .sound .2),
+      omega (arith, s .pre .0, e .acted .sound .1),
+      (record { lies = s .pre .1 .0 .lies; table = e .table; given = s .pre .1 .0 .given }, rw (e .acted .sound .0) (reads (a .before .before .before) .filled .room), e .acted .sound .1),
     )
 
 expand-text-enum-known-over-2 : (t : ℕ) → expand-text-lts.Need-enum-known-over-2 (claims t) (expand-text-at t) expand-text.Post Inv μ
@@ -125,19 +117,19 @@ expand-text-loop-less-2 : (t : ℕ) → expand-text-lts.Need-loop-less-2 (claims
 expand-text-loop-less-2 t c = let a = c .before .before .before .before .before .before .before .before .before .before in let r = reads (a .before .before .before) in omega (arith, r .low, r .high)
 
 expand-text-loop-again-2 : (t : ℕ) → expand-text-lts.Need-loop-again-2 (claims t) (expand-text-at t) expand-text.Post Inv μ
-expand-text-loop-again-2 t c = let x = c .before .before .before in let k = x .before .before .before .before in let a = k .before .before .before in string-over (a .before .before .before .before .before .before .before .before .loop .inv) (reads (a .before .before .before)) (enters k) (rw (c .before .over2 .given .1) at (x .expand-text .ensures))
+expand-text-loop-again-2 t c = let x = c .before .before .before in let k = x .before .before .before .before in let a = k .before .before .before in string-over (a .before .before .before .before .before .before .before .before .loop .inv) (reads (a .before .before .before)) (enters k) (x .before .before .before .text-bytes .ensures) (rw (c .before .over2 .given .1) at (x .expand-text .ensures))
 
 expand-text-enum-known-next-2 : (t : ℕ) → expand-text-lts.Need-enum-known-next-2 (claims t) (expand-text-at t) expand-text.Post Inv μ
 expand-text-enum-known-next-2 t c = search needs
 
 expand-text-returns-2 : (t : ℕ) → expand-text-lts.Need-returns-2 (claims t) (expand-text-at t) expand-text.Post Inv μ
-expand-text-returns-2 t c = let x = c .before .before .before in let k = x .before .before .before .before in let a = k .before .before .before in string-ended (a .before .before .before .before .before .before .before .before .loop .inv) (reads (a .before .before .before)) (enters k) (rw (c .before .next2 .given .1) at (x .expand-text .ensures))
+expand-text-returns-2 t c = let x = c .before .before .before in let k = x .before .before .before .before in let a = k .before .before .before in string-ended (a .before .before .before .before .before .before .before .before .loop .inv) (reads (a .before .before .before)) (enters k) (x .before .before .before .text-bytes .ensures) (rw (c .before .next2 .given .1) at (x .expand-text .ensures))
 
 expand-text-enum-known-k : (t : ℕ) → expand-text-lts.Need-enum-known-k (claims t) (expand-text-at t) expand-text.Post Inv μ
 expand-text-enum-known-k t c = search needs
 
 expand-text-returns-3 : (t : ℕ) → expand-text-lts.Need-returns-3 (claims t) (expand-text-at t) expand-text.Post Inv μ
-expand-text-returns-3 t c = let x = c .before .before .before in let k = x .before .before .before .before in let a = k .before .before .before in string-refused (a .before .before .before .before .before .before .before .before .loop .inv) (reads (a .before .before .before)) (enters k) (rw (c .before .k .given .1) at (x .expand-text .ensures))
+expand-text-returns-3 t c = let x = c .before .before .before in let k = x .before .before .before .before in let a = k .before .before .before in string-refused (a .before .before .before .before .before .before .before .before .loop .inv) (reads (a .before .before .before)) (enters k) (x .before .before .before .text-bytes .ensures) (rw (c .before .k .given .1) at (x .expand-text .ensures))
 
 expand-text-enum-told : (t : ℕ) → expand-text-lts.Need-enum-told (claims t) (expand-text-at t) expand-text.Post Inv μ
 expand-text-enum-told t c = search needs
@@ -169,11 +161,8 @@ pub +expand-text-spec : {M : Type 1} → statement M
     (expand-text-enum-known-next t)
     (expand-text-loop-less t)
     (expand-text-loop-again t)
-    (expand-text-enum-known-begin t)
-    (expand-text-add-stop t)
-    (expand-text-sub-string t)
-    (expand-text-part-string-start t)
-    (expand-text-part-string-end t)
+    (expand-text-enum-known-name t)
+    (expand-text-text-bytes-requires t)
     (expand-text-add-expand-text t)
     (expand-text-expand-text-requires t)
     (expand-text-enum-known-over-2 t)

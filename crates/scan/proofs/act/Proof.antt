@@ -68,20 +68,20 @@ returns c =
     let s = c .before .before .before .before .before .before .before .before in
     let b = c .before .before .before .before .what .given .0 .0 in
     rw (c .before .before .before .before .what .given .1, c .wrote-as .ensures)
-    (record { acted = acted-writes (c .before .put-byte .result) (surroundings s) (s .args .mode) (s .args .store .now) (s .args .depth) (b ∷ []) (registers s) (s .pre .1) (c .before .put-byte .ensures); table = s .pre .0 .table })
+    (record { acted = acted-writes (c .before .put-byte .result) (surroundings s) (s .args .mode) (s .args .depth) (b ∷ []) (registers s) (s .pre .1) (c .before .put-byte .ensures); table = s .pre .0 .table })
 
 returns-2 : tie.Need-returns-2
 returns-2 c =
     let s = c .before .before .before .before .before .before .before .before in
     let b = c .before .before .before .before .what2 .given .0 .0 in
     rw (c .before .before .before .before .what2 .given .1, c .wrote-as2 .ensures)
-    (record { acted = acted-writes (c .before .put-kept .result) (surroundings s) (s .args .mode) (s .args .store .now) (s .args .depth) (92 ∷ b ∷ []) (registers s) (s .pre .1) (c .before .put-kept .ensures); table = s .pre .0 .table })
+    (record { acted = acted-writes (c .before .put-kept .result) (surroundings s) (s .args .mode) (s .args .depth) (92 ∷ b ∷ []) (registers s) (s .pre .1) (c .before .put-kept .ensures); table = s .pre .0 .table })
 
 returns-3 : tie.Need-returns-3
 returns-3 c =
     let s = c .before .before .before .before .before .before .before .before in
     let e = c .show-register .ensures in
-    rw (c .before .before .before .before .what3 .given .1) (record { acted = e .is (surroundings s .texts) (surroundings s .arguments) (s .args .mode) (s .args .store .now) (s .args .depth); table = e .table })
+    rw (c .before .before .before .before .what3 .given .1) (record { acted = e .is (surroundings s .texts) (surroundings s .arguments) (s .args .mode) (s .args .depth); table = e .table })
 
 returns-4 : tie.Need-returns-4
 returns-4 c =
