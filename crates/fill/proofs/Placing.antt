@@ -1,28 +1,26 @@
 -- Words that join a collected line one by one. Assumes nothing.
 use mathlib.Core.Path.{_≡_, refl, sym, ap, _∙_, subst}
-use mathlib.Core.Bool.{Bool, true, false}
+use mathlib.Core.Bool.{true}
 use mathlib.Core.List.{List, [], _∷_, _++_}
 use Prim.Native.Nat.{ℕ, zero, suc, _+_, _-_, _≤_, _<_}
-use native.Mathlib.Nat.{add-zero}
 use native.Mathlib.Omega.{arith}
-use lib.Dec.{eqb}
-use lib.ListN.{length, take, drop, replicate, length-append, length-take, length-drop}
-use lib.Seq.{sets, length-sets, length-take-le, drop-drop}
+use lib.ListN.{length, take, drop, replicate, length-append}
+use lib.Seq.{sets, length-take-le, drop-drop}
 use borrow.Author.Tests.{le-leb, lt-leb}
 use Rattle.rules.specs.Bytes.{space}
-use Rattle.rules.specs.Filling.{Collected, Word, word, words, after, width, printed, gapCells, joinByte, joined, fits}
+use Rattle.rules.specs.Filling.{Word, word, words, after, width, printed, gapCells, joinByte}
 use Rattle.rules.specs.Filling as rules
 use Rattle.rules.specs.FillingLaws.{place-fits, place-stops, printed-length, gapCells-length}
 use Rattle.fill.specs.Parts.{part, Places}
 use Rattle.fill.specs.Words.{spaces, run, WordEndIs}
 use Rattle.fill.specs.Writing.{Written}
-use Rattle.fill.specs.Filled.{lineOf, Line, countOf, placedOf, GoodPlaced, PlacedTo}
+use Rattle.fill.specs.Filled.{lineOf, Line, GoodPlaced, PlacedTo}
 use Rattle.fill.specs.declared.WordEnd.{WordEnd}
 use Rattle.fill.specs.declared.Placed.{Placed}
 use Rattle.fill.specs.declared.Placed.the-variants.{All, Full}
 use Rattle.fill.proofs.Parts.{part-none, part-length, part-drop, part-take}
 use Rattle.fill.proofs.Words.{Starts, spaces-front, spaces-then, spaces-few, run-few, run-some, gap-word}
-use Rattle.fill.proofs.Writing.{sets-append, take-sets, drop-sets, part-width}
+use Rattle.fill.proofs.Writing.{sets-append, take-sets, drop-sets}
 
 -- a given gap takes the place of spaces
 after-space : (g : ℕ) (ws : List Word) → after g (joinByte true space ws) ≡ after g ws

@@ -2,14 +2,13 @@
 use mathlib.Core.Path.{_≡_, refl, sym, ap, _∙_, subst}
 use mathlib.Core.Bool.{Bool, true, false}
 use mathlib.Core.List.{List, [], _∷_, _++_, append-nil}
-use Prim.Native.Nat.{ℕ, zero, suc, _+_, _-_, _≤_, _<_}
-use native.Mathlib.Numerals.{add-one}
+use Prim.Native.Nat.{ℕ, suc, _+_, _-_, _≤_, _<_}
 use native.Mathlib.Omega.{arith}
 use lib.Dec.{eqb, ltb, leb}
 use lib.ListN.{length, getD, take, drop, replicate, take-append-drop, length-drop, drop-of-length-le}
 use borrow.Author.Tests.{eq-eqb, ne-eqb, eqb-true, eqb-false, ltb-true, ltb-false, le-leb, lt-leb}
 use Rattle.rules.specs.Bytes.{space, mark}
-use Rattle.rules.specs.Filling.{Word, word, words, width, countIf, leads}
+use Rattle.rules.specs.Filling.{word, words, width, countIf, leads}
 use Rattle.rules.specs.LineLaws.{Without, Begins, words-gap, words-blank}
 use Rattle.fill.specs.Parts.{part}
 use Rattle.fill.specs.Words.{sucIf, sucUnless, spaces, run, isNone}
