@@ -18,6 +18,7 @@ use Rattle.fill.specs.Writing.{Written}
 use Rattle.fill.specs.Filled.{lineOf}
 use Rattle.fill.specs.Lines.{CellsEnd, isBlankByte, TextEnd, oneIf}
 use Rattle.fill.proofs.Parts.{part-none, part-cons, part-snoc}
+use Rattle.fill.proofs.Words.{count-if}
 use Rattle.fill.proofs.Writing.{sets-append}
 use Rattle.fill.proofs.Spreading.{end-last}
 
@@ -130,10 +131,6 @@ adjusted-same true i j r cs n g h = refl
 adjusted-same false i j r cs n g h = refl
 
 -- one byte more of a width; the end
-count-if : (t : Bool) (n : ℕ) → countIf t n ≡ countIf t 0 + n
-count-if true n = omega arith
-count-if false n = omega arith
-
 module _ (l : List ℕ) (i to w : ℕ) (k : to ≤ length l) where
   pub width-next : i < to → w + width (part l i to) ≡ w + countIf (eqb (getD l i 0) mark) 0 + width (part l (i + 1) to)
   unfolding width
