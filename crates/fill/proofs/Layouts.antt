@@ -1,5 +1,5 @@
 -- What the contracts say of rows, as the rules say it of a layout. Assumes nothing.
-use mathlib.Core.Path.{_≡_, ap, _∙_}
+use mathlib.Core.Path.{_≡_, ap}
 use mathlib.Core.List.{List}
 use Prim.Native.Nat.{ℕ, _+_, _-_}
 use lib.Dec.{ltb}
@@ -7,7 +7,7 @@ use lib.ListN.{take}
 use Rattle.rules.specs.Settings.{Layout}
 use Rattle.rules.specs.Filling.{Word, level, adjusted, row, printed, spelled, span, indentNow, roomNow, brokenRow, fullRow, standingRow}
 use Rattle.fill.specs.Filled.{lineOf}
-use Rattle.fill.specs.Lines.{oneIf, standingOf}
+use Rattle.fill.specs.Lines.{standingOf}
 use Rattle.fill.proofs.Rows.{adjusted-same, left-count}
 
 module _ (y : Layout) (cells : List ℕ) (count indent room next : ℕ) where

@@ -1,28 +1,26 @@
 -- Words that join a collected line one by one. Assumes nothing.
-use mathlib.Core.Path.{_≡_, refl, sym, ap, _∙_, subst}
-use mathlib.Core.Bool.{Bool, true, false}
+use mathlib.Core.Path.{_≡_, refl, sym, ap, _∙_}
+use mathlib.Core.Bool.{true}
 use mathlib.Core.List.{List, [], _∷_, _++_}
 use Prim.Native.Nat.{ℕ, zero, suc, _+_, _-_, _≤_, _<_}
-use native.Mathlib.Nat.{add-zero}
 use native.Mathlib.Omega.{arith}
-use lib.Dec.{eqb}
-use lib.ListN.{length, take, drop, replicate, length-append, length-take, length-drop}
-use lib.Seq.{sets, length-sets, length-take-le, drop-drop}
+use lib.ListN.{length, take, drop, replicate, length-append}
+use lib.Seq.{sets, length-take-le, drop-drop}
 use borrow.Author.Tests.{le-leb, lt-leb}
 use Rattle.rules.specs.Bytes.{space}
-use Rattle.rules.specs.Filling.{Collected, Word, word, words, after, width, printed, gapCells, joinByte, joined, fits}
+use Rattle.rules.specs.Filling.{Word, word, words, after, width, printed, gapCells, joinByte}
 use Rattle.rules.specs.Filling as rules
 use Rattle.rules.specs.FillingLaws.{place-fits, place-stops, printed-length, gapCells-length}
 use Rattle.fill.specs.Parts.{part, Places}
 use Rattle.fill.specs.Words.{spaces, run, WordEndIs}
 use Rattle.fill.specs.Writing.{Written}
-use Rattle.fill.specs.Filled.{lineOf, Line, countOf, placedOf, GoodPlaced, PlacedTo}
+use Rattle.fill.specs.Filled.{lineOf, Line, GoodPlaced, PlacedTo}
 use Rattle.fill.specs.declared.WordEnd.{WordEnd}
 use Rattle.fill.specs.declared.Placed.{Placed}
 use Rattle.fill.specs.declared.Placed.the-variants.{All, Full}
 use Rattle.fill.proofs.Parts.{part-none, part-length, part-drop, part-take}
-use Rattle.fill.proofs.Words.{Starts, spaces-front, spaces-then, spaces-few, run-few, run-some, gap-word}
-use Rattle.fill.proofs.Writing.{sets-append, take-sets, drop-sets, part-width}
+use Rattle.fill.proofs.Words.{Starts, rest-is, rest-starts, spaces-front, spaces-few, run-few, run-some, gap-word}
+use Rattle.fill.proofs.Writing.{sets-append, take-sets, drop-sets}
 
 -- a given gap takes the place of spaces
 after-space : (g : ℕ) (ws : List Word) → after g (joinByte true space ws) ≡ after g ws
@@ -43,14 +41,8 @@ words-after k (b ∷ r) s = gap-word k (b ∷ r) s (omega arith) ∙ sym (ap (af
 
 -- the same for a part of a line
 module _ (l : List ℕ) (at to from : ℕ) (f : from ≡ at + spaces (part l at to)) where
-  rest-is : drop (spaces (part l at to)) (part l at to) ≡ part l from to
-  rest-is = part-drop l at to (spaces (part l at to)) ∙ ap (λ (i : ℕ). part l i to) (sym f)
-
   front-is : part l at to ≡ replicate (spaces (part l at to)) space ++ part l from to
-  front-is = spaces-front (part l at to) ∙ ap (λ (x : List ℕ). replicate (spaces (part l at to)) space ++ x) rest-is
-
-  pub part-starts : Starts (part l from to)
-  part-starts = subst Starts rest-is (spaces-then (part l at to))
+  front-is = spaces-front (part l at to) ∙ ap (λ (x : List ℕ). replicate (spaces (part l at to)) space ++ x) (rest-is l at to from f)
 
   after-skip : (g : ℕ) → after g (words (part l at to)) ≡ after g (words (part l from to))
   after-skip g = ap (λ (x : List ℕ). after g (words x)) front-is ∙ after-spaces g (spaces (part l at to)) (part l from to)
@@ -58,7 +50,7 @@ module _ (l : List ℕ) (at to from : ℕ) (f : from ≡ at + spaces (part l at 
   pub words-skip : words (part l at to) ≡ after (from - at) (words (part l from to))
   words-skip =
       let z : spaces (part l at to) ≡ from - at = omega arith in
-      ap words front-is ∙ words-after (spaces (part l at to)) (part l from to) part-starts ∙ ap (λ (k : ℕ). after k (words (part l from to))) z
+      ap words front-is ∙ words-after (spaces (part l at to)) (part l from to) (rest-starts l at to from f) ∙ ap (λ (k : ℕ). after k (words (part l from to))) z
 
 -- what is collected so far, and where the next word stands
 pub record Placing (line : List ℕ) (at to gap : ℕ) (entry : List ℕ) (count room : ℕ) (cells : List ℕ) (from before n : ℕ) : Type 0 where
@@ -78,7 +70,7 @@ module _ (line : List ℕ) (at to gap : ℕ) (entry : List ℕ) (count room : �
     low = omega arith;
     high = omega (arith, spaces-few (part line at to), part-length line at to (omega arith));
     small = g;
-    starts = part-starts line at to from f;
+    starts = rest-starts line at to from f;
     kept = l;
     rest = refl;
     is = λ i k. ap (rules.place (lineOf i room entry count k)) (after-skip line at to from f gap);
@@ -149,7 +141,7 @@ module _ (line : List ℕ) (at to gap : ℕ) (entry : List ℕ) (count room : �
             low = omega (arith, q .low, word-some);
             high = t;
             small = omega arith;
-            starts = part-starts line (w .to) to from2 s;
+            starts = rest-starts line (w .to) to from2 s;
             kept = record { long = omega (arith, v .long, g .long); few = omega arith; narrow = q .kept .narrow };
             rest = rw (a, o) (drop-sets bs cells n r ∙ further cells entry n (length bs) (q .rest));
             is = λ i j. next-is i j

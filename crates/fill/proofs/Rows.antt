@@ -2,22 +2,23 @@
 use mathlib.Core.Path.{_≡_, refl, sym, ap, _∙_}
 use mathlib.Core.Bool.{Bool, true, false, _||_}
 use mathlib.Core.List.{List, [], _∷_, _++_, append-assoc, append-nil}
-use Prim.Native.Nat.{ℕ, zero, suc, _+_, _-_, _/_, _≤_, _<_}
+use Prim.Native.Nat.{ℕ, zero, suc, _+_, _-_, _≤_, _<_}
 use native.Mathlib.Nat.{div-le-self}
 use native.Mathlib.Omega.{arith}
 use lib.Dec.{eqb, ltb}
 use lib.ListN.{length, getD, take, set, replicate, length-append, length-replicate, length-set}
 use lib.Seq.{sets, length-sets, length-take-le}
 use borrow.Author.Tests.{eqb-true, lt-ltb}
-use Rattle.rules.specs.Bytes.{newline, space, mark, fixedBlank, gapStart}
-use Rattle.rules.specs.Filling.{Collected, words, gaps, spread, adjusted, level, trimmed, printed, printedByte, spelled, span, width, countIf, row, left}
+use Rattle.rules.specs.Bytes.{newline, space, mark, fixedBlank}
+use Rattle.rules.specs.Filling.{words, gaps, spread, adjusted, trimmed, printed, printedByte, spelled, span, width, countIf, row, left}
 use Rattle.rules.specs.FillingLaws.{trimmed-blank, trimmed-spaces, trimmed-ends, trimmed-short, printed-append, printed-length, spelled-width, level-length, share-length, adjusted-alone}
 use Rattle.rules.specs.LineLaws.{spelled-words}
 use Rattle.fill.specs.Parts.{part}
 use Rattle.fill.specs.Writing.{Written}
 use Rattle.fill.specs.Filled.{lineOf}
-use Rattle.fill.specs.Lines.{isBlankCell, CellsEnd, isBlankByte, TextEnd, oneIf}
-use Rattle.fill.proofs.Parts.{part-none, part-cons, part-snoc, part-zero, part-length}
+use Rattle.fill.specs.Lines.{CellsEnd, isBlankByte, TextEnd, oneIf}
+use Rattle.fill.proofs.Parts.{part-none, part-cons, part-snoc}
+use Rattle.fill.proofs.Words.{count-if}
 use Rattle.fill.proofs.Writing.{sets-append}
 use Rattle.fill.proofs.Spreading.{end-last}
 
@@ -130,10 +131,6 @@ adjusted-same true i j r cs n g h = refl
 adjusted-same false i j r cs n g h = refl
 
 -- one byte more of a width; the end
-count-if : (t : Bool) (n : ℕ) → countIf t n ≡ countIf t 0 + n
-count-if true n = omega arith
-count-if false n = omega arith
-
 module _ (l : List ℕ) (i to w : ℕ) (k : to ≤ length l) where
   pub width-next : i < to → w + width (part l i to) ≡ w + countIf (eqb (getD l i 0) mark) 0 + width (part l (i + 1) to)
   unfolding width

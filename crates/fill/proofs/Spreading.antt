@@ -3,21 +3,20 @@ use mathlib.Core.Path.{_≡_, refl, sym, ap, _∙_}
 use mathlib.Core.Bool.{Bool, true, false, _||_}
 use mathlib.Core.List.{List, [], _∷_, _++_, append-assoc, append-nil}
 use Prim.Native.Nat.{ℕ, zero, suc, _+_, _-_, _/_, _%_, _≤_, _<_}
-use native.Mathlib.Nat.{add-zero}
 use native.Mathlib.Numerals.{add-one}
 use native.Mathlib.Omega.{arith}
 use lib.Dec.{eqb}
-use lib.ListN.{length, getD, take, set, replicate, length-append, length-replicate}
-use lib.Seq.{sets, length-sets, length-take-le}
+use lib.ListN.{length, getD, take, replicate, length-append, length-replicate}
+use lib.Seq.{sets, length-take-le}
 use borrow.Author.Tests.{eq-eqb, ne-eqb, eqb-true}
 use Rattle.rules.specs.Bytes.{space, gapStart}
-use Rattle.rules.specs.Filling.{gaps, countGap, spread, spreadCell, fewAfter, moreIf, share, level, adjusted, trimmed}
-use Rattle.rules.specs.FillingLaws.{trimmed-spaces, trimmed-ends, trimmed-short}
+use Rattle.rules.specs.Filling.{gaps, countGap, spread, spreadCell, fewAfter, moreIf, share, adjusted, trimmed}
+use Rattle.rules.specs.FillingLaws.{trimmed-spaces, trimmed-ends}
 use Rattle.fill.specs.Parts.{part}
 use Rattle.fill.specs.Writing.{Written}
 use Rattle.fill.specs.Filled.{lineOf}
 use Rattle.fill.specs.Lines.{isBlankCell}
-use Rattle.fill.proofs.Parts.{part-none, part-cons, part-snoc, part-zero, part-length}
+use Rattle.fill.proofs.Parts.{part-none, part-cons, part-snoc, part-zero}
 use Rattle.fill.proofs.Writing.{sets-append}
 
 -- one gap more; another cell; the end

@@ -2,14 +2,13 @@
 use mathlib.Core.Path.{_≡_, refl, sym, ap, _∙_, subst}
 use mathlib.Core.Bool.{Bool, true, false}
 use mathlib.Core.List.{List, [], _∷_, _++_, append-nil}
-use Prim.Native.Nat.{ℕ, zero, suc, _+_, _-_, _≤_, _<_}
-use native.Mathlib.Numerals.{add-one}
+use Prim.Native.Nat.{ℕ, suc, _+_, _-_, _≤_, _<_}
 use native.Mathlib.Omega.{arith}
 use lib.Dec.{eqb, ltb, leb}
 use lib.ListN.{length, getD, take, drop, replicate, take-append-drop, length-drop, drop-of-length-le}
 use borrow.Author.Tests.{eq-eqb, ne-eqb, eqb-true, eqb-false, ltb-true, ltb-false, le-leb, lt-leb}
 use Rattle.rules.specs.Bytes.{space, mark}
-use Rattle.rules.specs.Filling.{Word, word, words, width, countIf, leads}
+use Rattle.rules.specs.Filling.{word, words, width, countIf, leads}
 use Rattle.rules.specs.LineLaws.{Without, Begins, words-gap, words-blank}
 use Rattle.fill.specs.Parts.{part}
 use Rattle.fill.specs.Words.{sucIf, sucUnless, spaces, run, isNone}
@@ -42,7 +41,8 @@ module _ (l : List ℕ) (i to : ℕ) (k : to ≤ length l) where
   unfolding run
   run-end h = rw (part-none l i to h) (omega arith)
 
-count-if : (t : Bool) (n : ℕ) → countIf t n ≡ countIf t 0 + n
+-- a cell more, or none
+pub count-if : (t : Bool) (n : ℕ) → countIf t n ≡ countIf t 0 + n
 count-if true n = omega arith
 count-if false n = omega arith
 
@@ -149,19 +149,21 @@ words-none l h =
     let z : drop (spaces l) l ≡ [] = drop-of-length-le l {i = spaces l} (omega arith) in
     ap words (spaces-front l) ∙ ap (λ (x : List ℕ). words (replicate (spaces l) space ++ x)) z ∙ ap words (append-nil (replicate (spaces l) space)) ∙ words-blank (spaces l)
 
+-- what stands behind the leading spaces of a part
+module _ (l : List ℕ) (at to from : ℕ) (f : from ≡ at + spaces (part l at to)) where
+  pub rest-is : drop (spaces (part l at to)) (part l at to) ≡ part l from to
+  rest-is = part-drop l at to (spaces (part l at to)) ∙ ap (λ (i : ℕ). part l i to) (sym f)
+
+  pub rest-starts : Starts (part l from to)
+  rest-starts = subst Starts rest-is (spaces-then (part l at to))
+
 module _ (l : List ℕ) (at to from : ℕ) (k : to ≤ length l) (o : at ≤ to) (f : from ≡ at + spaces (part l at to)) where
   pub first-none : from ≡ to → words (part l at to) ≡ []
   first-none e = words-none (part l at to) (omega (arith, part-length l at to k))
 
-  rest-is : drop (spaces (part l at to)) (part l at to) ≡ part l from to
-  rest-is = part-drop l at to (spaces (part l at to)) ∙ ap (λ (i : ℕ). part l i to) (sym f)
-
-  pub first-starts : Starts (part l from to)
-  first-starts = subst Starts rest-is (spaces-then (part l at to))
-
   module _ (e : ℕ) (g : e ≡ from + run (part l from to)) (h : from < to) where
     pub first-some : from < e
-    first-some = omega (arith, run-some (part l from to) first-starts (omega (arith, part-length l from to k)))
+    first-some = omega (arith, run-some (part l from to) (rest-starts l at to from f) (omega (arith, part-length l from to k)))
 
     pub first-high : e ≤ to
     first-high = omega (arith, run-few (part l from to), part-length l from to k)
@@ -175,7 +177,7 @@ module _ (l : List ℕ) (at to from : ℕ) (k : to ≤ length l) (o : at ≤ to)
         let z : spaces (part l at to) ≡ from - at = omega arith in
         let d : drop (run (part l from to)) (part l from to) ≡ part l e to = part-drop l from to (run (part l from to)) ∙ ap (λ (i : ℕ). part l i to) (sym g) in
         sym (words-first (part l at to) (omega (arith, part-length l at to k))
-        ∙ rw (rest-is, first-bytes, d, z))
+        ∙ rw (rest-is l at to from f, first-bytes, d, z))
 
 -- whether there is a word, and whether spaces lead
 leads-first : (l : List ℕ) → spaces l < length l → leads (words l) ≡ leb 1 (spaces l)

@@ -3,16 +3,16 @@ use mathlib.Core.Path.{_≡_, refl, sym, ap, _∙_}
 use mathlib.Core.Bool.{Bool, true, false}
 use mathlib.Core.List.{List, [], _∷_, _++_}
 use Prim.Native.Nat.{ℕ, zero, suc, _+_, _-_, _≤_, _<_}
-use native.Mathlib.Nat.{add-zero, suc-add, add-suc}
+use native.Mathlib.Nat.{add-zero}
 use native.Mathlib.Numerals.{add-one}
 use native.Mathlib.Omega.{arith}
 use lib.Dec.{eqb}
-use lib.ListN.{length, getD, take, drop, set, replicate, length-append, length-set, length-replicate, take-append-drop}
-use lib.Seq.{sets, length-sets, sets-eq, take-at, drop-at, length-take-le, take-append-seam}
+use lib.ListN.{length, getD, take, drop, set, replicate, length-append, length-replicate, take-append-drop}
+use lib.Seq.{sets, sets-eq, take-at, drop-at, length-take-le}
 use borrow.Author.Tests.{eq-eqb, ne-eqb}
 use Rattle.rules.specs.Bytes.{space, mark, fixedBlank}
 use Rattle.rules.specs.Filling.{printed, printedByte, width, countIf, gapCells}
-use Rattle.rules.specs.FillingLaws.{printed-append, printed-length, width-append}
+use Rattle.rules.specs.FillingLaws.{printed-append}
 use Rattle.fill.specs.Parts.{part}
 use Rattle.fill.specs.Writing.{shownIf, Written}
 use Rattle.fill.proofs.Parts.{part-none, part-cons, part-length}

@@ -1,9 +1,8 @@
 -- `fill::begin_line` meets its contract. Assumes nothing.
 use borrow.Author.Needs.{needs}
-use mathlib.Core.Path.{_≡_, refl, sym, _∙_}
+use mathlib.Core.Path.{_∙_}
 use native.Mathlib.Omega.{arith}
 use denote.Ref.{now}
-use lib.ListN.{length}
 use lib.Seq.{length-sets}
 use Rattle.rules.specs.FillingLaws.{printed-length}
 use Rattle.fill.specs.Parts.{part}

@@ -1,9 +1,8 @@
 -- `fill::blank_rows` meets its contract. Assumes nothing.
 use borrow.Author.Needs.{needs}
-use mathlib.Core.Path.{_≡_, refl, sym, _∙_}
+use mathlib.Core.Path.{_∙_}
 use native.Mathlib.Omega.{arith}
-use denote.Ref.{now}
-use lib.ListN.{length, replicate, length-set, length-append, length-replicate}
+use lib.ListN.{length-replicate}
 use lib.Seq.{length-sets}
 use Rattle.rules.specs.Bytes.{newline}
 use Rattle.fill.specs.Writing.{downOf}

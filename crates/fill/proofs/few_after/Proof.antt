@@ -1,7 +1,6 @@
 -- `fill::few_after` meets its contract. Assumes nothing.
 use borrow.Author.Needs.{needs}
-use mathlib.Core.Path.{_≡_, refl, sym, _∙_}
-use native.Mathlib.Omega.{arith}
+use mathlib.Core.Path.{_∙_}
 use borrow.Author.Tests.{eq-eqb, ne-eqb}
 use Rattle.fill.proofs.Spreading.{few-gap}
 use Rattle.fill.proofs.few_after.Statement.{statement}

@@ -1,6 +1,6 @@
 -- `fill::gap_after` meets its contract: what a line ends in is what it ends in without its trailing spaces. Assumes nothing.
 use borrow.Author.Needs.{needs}
-use mathlib.Core.Path.{_≡_, refl, sym, _∙_}
+use mathlib.Core.Path.{_∙_}
 use native.Mathlib.Omega.{arith}
 use denote.Ref.{now}
 use Rattle.fill.proofs.Ends.{gap-none, gap-last}

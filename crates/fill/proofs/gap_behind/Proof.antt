@@ -1,7 +1,5 @@
 -- `fill::gap_behind` meets its contract: each return rewrites with the tests that led there. Assumes nothing.
 use borrow.Author.Needs.{needs}
-use mathlib.Core.Path.{_≡_, refl, sym, _∙_}
-use native.Mathlib.Omega.{arith}
 use borrow.Author.Tests.{eq-eqb, ne-eqb}
 use Rattle.fill.proofs.gap_behind.Statement.{statement}
 use Rattle.fill.proofs.gap_behind.Tie as tie

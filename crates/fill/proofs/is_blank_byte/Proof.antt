@@ -1,6 +1,4 @@
 -- `fill::is_blank_byte` meets its contract. Assumes nothing.
-use borrow.Author.Needs.{needs}
-use mathlib.Core.Path.{_≡_, refl, sym, _∙_}
 use borrow.Author.Tests.{eq-eqb, ne-eqb}
 use Rattle.fill.proofs.is_blank_byte.Statement.{statement}
 use Rattle.fill.proofs.is_blank_byte.Tie as tie

@@ -1,6 +1,4 @@
 -- `fill::is_blank_cell` meets its contract. Assumes nothing.
-use borrow.Author.Needs.{needs}
-use mathlib.Core.Path.{_≡_, refl, sym, _∙_}
 use borrow.Author.Tests.{eq-eqb, ne-eqb}
 use Rattle.fill.proofs.is_blank_cell.Statement.{statement}
 use Rattle.fill.proofs.is_blank_cell.Tie as tie

@@ -1,8 +1,5 @@
 -- `fill::left_blanks` meets its contract. Assumes nothing.
 use borrow.Author.Needs.{needs}
-use mathlib.Core.Path.{_≡_, refl, sym, _∙_}
-use native.Mathlib.Omega.{arith}
-use denote.Ref.{now}
 use Rattle.fill.proofs.left_blanks.Statement.{statement}
 use Rattle.fill.proofs.left_blanks.Tie as tie
 

@@ -1,7 +1,5 @@
 -- `fill::more_if` meets its contract. Assumes nothing.
 use borrow.Author.Needs.{needs}
-use mathlib.Core.Path.{_≡_, refl, sym, _∙_}
-use native.Mathlib.Omega.{arith}
 use Rattle.fill.proofs.Spreading.{more-none}
 use Rattle.fill.proofs.more_if.Statement.{statement}
 use Rattle.fill.proofs.more_if.Tie as tie

@@ -1,6 +1,5 @@
 -- `fill::place` meets its contract. The invariant: what is collected so far, and that the words from here on give what all of them give. Assumes nothing.
 use borrow.Author.Needs.{needs}
-use mathlib.Core.Path.{_≡_, refl, sym, _∙_}
 use native.Mathlib.Omega.{arith}
 use denote.Ref.{now}
 use Prim.Native.Nat.{_-_}

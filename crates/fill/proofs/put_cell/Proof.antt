@@ -1,13 +1,12 @@
 -- `fill::put_cell` meets its contract. Assumes nothing.
 use borrow.Author.Needs.{needs}
-use mathlib.Core.Path.{_≡_, refl, sym, _∙_}
+use mathlib.Core.Path.{refl, _∙_}
 use native.Mathlib.Omega.{arith}
 use denote.Ref.{now}
 use borrow.Author.Tests.{eq-eqb, ne-eqb}
 use Prim.Native.Nat.{suc, _+_, _≤_}
-use lib.ListN.{length-set, replicate}
-use lib.Seq.{sets, length-sets}
-use native.Mathlib.Numerals.{add-one}
+use lib.ListN.{length-set}
+use lib.Seq.{length-sets}
 use Rattle.rules.specs.Filling.{moreIf}
 use Rattle.fill.proofs.Spreading.{gap-length, gap-row}
 use Rattle.fill.proofs.put_cell.Statement.{statement}

@@ -1,9 +1,9 @@
 -- `fill::put_gap` meets its contract. Assumes nothing.
 use borrow.Author.Needs.{needs}
-use mathlib.Core.Path.{_≡_, refl, sym, _∙_}
+use mathlib.Core.Path.{refl, _∙_}
 use native.Mathlib.Omega.{arith}
 use denote.Ref.{now}
-use lib.ListN.{length, length-set}
+use lib.ListN.{length-set}
 use lib.Seq.{length-sets}
 use Rattle.rules.specs.FillingLaws.{gapCells-length}
 use Rattle.fill.proofs.Writing.{gap-cells}

@@ -1,10 +1,10 @@
 -- `fill::put_row` meets its contract. Assumes nothing.
 use borrow.Author.Needs.{needs}
-use mathlib.Core.Path.{_≡_, refl, sym, _∙_}
+use mathlib.Core.Path.{_∙_}
 use native.Mathlib.Omega.{arith}
 use denote.Ref.{now}
-use lib.ListN.{length, replicate, length-set, length-append, length-replicate}
-use Prim.Native.Nat.{_+_, _≤_, _<_}
+use lib.ListN.{length, replicate}
+use Prim.Native.Nat.{_≤_, _<_}
 use lib.Seq.{length-sets}
 use Rattle.rules.specs.Filling.{spread}
 use Rattle.fill.specs.Parts.{part}

@@ -1,10 +1,9 @@
 -- `fill::put_text` meets its contract. Assumes nothing.
 use borrow.Author.Needs.{needs}
-use mathlib.Core.Path.{_≡_, refl, sym, _∙_}
 use native.Mathlib.Omega.{arith}
 use denote.Ref.{now}
-use lib.ListN.{length, replicate, length-set, length-append, length-replicate}
-use Prim.Native.Nat.{_+_, _≤_, _<_}
+use lib.ListN.{length, replicate}
+use Prim.Native.Nat.{_≤_, _<_}
 use lib.Seq.{length-sets}
 use Rattle.rules.specs.Filling.{printed, width}
 use Rattle.rules.specs.FillingLaws.{printed-length}

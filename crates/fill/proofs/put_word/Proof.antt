@@ -1,13 +1,12 @@
 -- `fill::put_word` meets its contract. The invariant: what is still to be put from here on. Assumes nothing.
 use borrow.Author.Needs.{needs}
-use mathlib.Core.Path.{_≡_, refl, sym, _∙_}
+use mathlib.Core.Path.{_≡_, refl, sym, _∙_, ap}
 use native.Mathlib.Omega.{arith}
 use denote.Ref.{now}
-use mathlib.Core.Path.{ap}
 use Prim.Native.Nat.{ℕ, _+_, _-_, _≤_, _<_}
 use lib.ListN.{length, length-set}
 use lib.Seq.{sets}
-use Rattle.rules.specs.Filling.{width, printed}
+use Rattle.rules.specs.Filling.{printed}
 use Rattle.rules.specs.FillingLaws.{printed-length}
 use Rattle.fill.specs.Parts.{part}
 use Rattle.fill.proofs.Writing.{write-mark, write-byte, count-mark, count-byte, printed-end}

@@ -1,5 +1,4 @@
 -- `fill::shown` meets its contract. Assumes nothing.
-use borrow.Author.Needs.{needs}
 use borrow.Author.Tests.{eq-eqb, ne-eqb}
 use Rattle.fill.proofs.shown.Statement.{statement}
 use Rattle.fill.proofs.shown.Tie as tie

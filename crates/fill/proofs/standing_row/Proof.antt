@@ -1,10 +1,9 @@
 -- `fill::standing_row` meets its contract: a line without its trailing spaces is its words as text. Assumes nothing.
 use borrow.Author.Needs.{needs}
-use mathlib.Core.Path.{_≡_, refl, sym, _∙_}
+use mathlib.Core.Path.{_≡_, _∙_}
 use native.Mathlib.Omega.{arith}
 use denote.Ref.{now}
-use mathlib.Core.Path.{ap}
-use Prim.Native.Nat.{ℕ, _+_, _-_, _≤_}
+use Prim.Native.Nat.{_+_, _-_, _≤_}
 use Rattle.rules.specs.Filling.{words, row, left, width, span}
 use Rattle.fill.specs.Writing.{acrossOf}
 use Rattle.rules.specs.FillingLaws.{printed-length}

@@ -1,13 +1,7 @@
 -- `fill_main::fill_others` keeps the state good and ends: each full line leaves fewer bytes. Assumes nothing.
 use borrow.Author.Needs.{needs}
-use mathlib.Core.Path.{_≡_, refl, sym, _∙_}
 use native.Mathlib.Omega.{arith}
-use denote.Ref.{now}
-use Prim.Native.Nat.{_-_, _≤_, _<_}
-use lib.ListN.{length}
-use Rattle.fill.specs.declared.Placed.{Placed}
-use Rattle.fill.specs.declared.Placed.the-variants.{All, Full}
-use Rattle.fill.specs.Filled.{Line, countOf, GoodPlaced, PlacedTo}
+use Prim.Native.Nat.{_-_, _≤_}
 use Rattle.fill_main.specs.States.{Good, Arrays}
 use Rattle.fill_main.proofs.fill_others.Statement.{statement}
 use Rattle.fill_main.proofs.fill_others.Tie as tie

@@ -1,8 +1,6 @@
 -- `fill_main::fill_words` keeps the state good. Assumes nothing.
 use borrow.Author.Needs.{needs}
-use mathlib.Core.Path.{_≡_, refl, sym, _∙_}
 use native.Mathlib.Omega.{arith}
-use denote.Ref.{now}
 use Rattle.fill_main.proofs.fill_words.Statement.{statement}
 use Rattle.fill_main.proofs.fill_words.Tie as tie
 

@@ -1,6 +1,5 @@
 -- `fill_main::number_at` gives a place within the text and ends. Assumes nothing.
 use borrow.Author.Needs.{needs}
-use native.Mathlib.Omega.{arith}
 use Prim.Native.Nat.{_-_, _≤_}
 use lib.ListN.{length}
 use Rattle.fill_main.proofs.number_at.Statement.{statement}

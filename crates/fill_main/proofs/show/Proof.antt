@@ -1,6 +1,5 @@
 -- `fill_main::show` stays within the row and ends. Assumes nothing.
 use borrow.Author.Needs.{needs}
-use native.Mathlib.Omega.{arith}
 use Prim.Native.Nat.{_-_, _≤_}
 use Rattle.fill_main.proofs.show.Statement.{statement}
 use Rattle.fill_main.proofs.show.Tie as tie
