@@ -195,9 +195,10 @@ fn the_functions_exist() {
         for span in spans(&functions) {
             let (crate_name, function) = span.split_once("::").unwrap_or_else(|| panic!("{quote}: {span}"));
             let text = read(&format!("crates/{crate_name}/src/lib.rt"));
-            assert!(text.contains(&format!("fn {function}(")), "{quote}: no function {span}");
+            let there = ["(", "<"].iter().any(|next| text.contains(&format!("fn {function}{next}")));
+            assert!(there, "{quote}: no function {span}");
             named += 1;
         }
     }
-    assert!(named > 40, "{named} functions");
+    assert!(named > 100, "{named} functions");
 }
