@@ -1,16 +1,17 @@
 -- Laws of the table: the place of a name, and the text that stands there. Assumes nothing.
 use mathlib.Core.Path.{_≡_, refl, sym, ap, _∙_, subst}
 use mathlib.Core.Bool.{Bool, true, false}
-use mathlib.Core.List.{List, [], _∷_, _++_}
+use mathlib.Core.List.{List, [], _∷_}
 use mathlib.Core.Option.{Option, none, some}
 use Prim.Native.Nat.{ℕ, zero, suc, _+_, _-_, _≤_, _<_}
 use native.Mathlib.Numerals.{add-one}
 use native.Mathlib.Omega.{arith}
+use lib.Dec.{eqb}
 use lib.ListN.{length, take, drop, getD, drop-of-length-le}
 use lib.Seq.{drop-cons, drop-drop, length-take-le, getD-take, take-take}
+use borrow.Author.Tests.{eq-eqb, ne-eqb}
 use Rattle.rules.specs.declared.Name.{Name}
-use Rattle.rules.specs.declared.Kind.{Kind}
-use Rattle.rules.specs.declared.Kind.the-variants.{Macro, String}
+use Rattle.rules.specs.declared.Kind.the-variants.{String}
 use Rattle.rules.specs.Names.{twoBytes, sameName}
 use Rattle.rules.specs.NameLaws.{same-one}
 use Rattle.rules.specs.Texts.{Text, text, textOf}
@@ -20,6 +21,14 @@ use Rattle.texts.specs.declared.Place.the-variants.{At, Not}
 use Rattle.texts.specs.Table.{zipWith, kindOf, Row, row, asPair, namesOf, rowsOf, sum, cut, textsOf, Names, Lies}
 use Rattle.texts.specs.Places.{next, placeOf}
 use Rattle.texts.proofs.Lists.{zip-at, zip-length, sum-step, sum-mono}
+
+-- the bytes of two names
+
+pub same-second : (n : Name) (a b : ℕ) → n .first ≡ a → eqb (n .second) b ≡ sameName n (twoBytes a b)
+same-second n a b e = rw (eq-eqb (n .first) a e)
+
+pub other-first : (n : Name) (a b : ℕ) → (n .first ≡ a → ⊥) → false ≡ sameName n (twoBytes a b)
+other-first n a b e = rw (ne-eqb (n .first) a e)
 
 -- places
 
@@ -141,10 +150,10 @@ textOf-place n st (r ∷ rs) = go (sameName n (r .name)) refl (textOf-place n (d
     go false e ih = found-later n first (cut (drop (r .size) st) rs) e ∙ ih ∙ sym (textIn-next n (placeOf n (names rs)) st r rs)
 
 module _ (st fs ss ks ls : List ℕ) (n : ℕ) (h : Lies st fs ss ks ls n) where
-  rows-same : length (zipWith twoBytes fs ss) ≡ length (zipWith asPair ks ls)
+  pub rows-same : length (zipWith twoBytes fs ss) ≡ length (zipWith asPair ks ls)
   rows-same = omega (arith, zip-length twoBytes fs ss (omega arith), zip-length asPair ks ls (omega arith))
 
-  rows-long : length (zipWith row (zipWith twoBytes fs ss) (zipWith asPair ks ls)) ≡ 64
+  pub rows-long : length (zipWith row (zipWith twoBytes fs ss) (zipWith asPair ks ls)) ≡ 64
   rows-long =
       omega (arith, zip-length twoBytes fs ss (omega arith), zip-length row (zipWith twoBytes fs ss) (zipWith asPair ks ls) rows-same)
 

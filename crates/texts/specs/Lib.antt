@@ -1,2 +1,6 @@
 pub mod Table
 pub mod Places
+pub mod Lines
+pub mod Requests
+pub mod Changes
+pub mod KeptLaws

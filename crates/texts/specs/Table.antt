@@ -1,7 +1,7 @@
 -- The texts, as a store and the columns of their table stand for them. Assumes nothing.
-use mathlib.Core.Path.{_≡_, refl}
+use mathlib.Core.Path.{_≡_}
 use mathlib.Core.List.{List, [], _∷_}
-use Prim.Native.Nat.{ℕ, zero, suc, _+_, _≤_}
+use Prim.Native.Nat.{ℕ, zero, suc, _+_, _≤_, zero-le}
 use lib.ListN.{length, take, drop}
 use Rattle.rules.specs.declared.Name.{Name}
 use Rattle.rules.specs.declared.Kind.{Kind}
@@ -71,3 +71,9 @@ pub record Lies (store firsts seconds kinds lengths : List ℕ) (count : ℕ) : 
 pub record Starts (lengths : List ℕ) (k : ℕ) : Type 0 where
   pub few : k ≤ 64
   pub fits : sum (take k lengths) ≤ 18446744073709551615
+
+-- No texts lie in any store.
+pub lies-none : (st fs ss ks ls : List ℕ) → length fs ≡ 64 → length ss ≡ 64 → length ks ≡ 64 → length ls ≡ 64 → Lies st fs ss ks ls 0
+unfolding sum
+lies-none st fs ss ks ls f s k l =
+    record { names = record { firsts-long = f; seconds-long = s; few = zero-le }; kinds-long = k; lengths-long = l; inside = zero-le }

@@ -1,6 +1,8 @@
 -- `texts::same_at` meets its contract, byte by byte. Assumes nothing.
 use borrow.Author.Needs.{needs}
-use borrow.Author.Tests.{eq-eqb, ne-eqb}
+use lib.ListN.{getD}
+use denote.Ref.{now}
+use Rattle.texts.proofs.Laws.{same-second, other-first}
 use Rattle.texts.proofs.same_at.Statement.{statement}
 use Rattle.texts.proofs.same_at.Tie as tie
 
@@ -11,10 +13,14 @@ element-copy-out-second : tie.Need-element-copy-out-second
 element-copy-out-second c = search needs
 
 returns : tie.Need-returns
-returns c = rw (eq-eqb _ _ (c .before .before .if1 .taken))
+returns c =
+    let s = c .before .before .before .before .before in
+    same-second (s .args .name) (getD (now (s .args .firsts)) (s .args .i) 0) (getD (now (s .args .seconds)) (s .args .i) 0) (c .before .before .if1 .taken)
 
 returns-2 : tie.Need-returns-2
-returns-2 c = rw (ne-eqb _ _ (c .if1 .left))
+returns-2 c =
+    let s = c .before .before .before in
+    other-first (s .args .name) (getD (now (s .args .firsts)) (s .args .i) 0) (getD (now (s .args .seconds)) (s .args .i) 0) (c .if1 .left)
 
 pub same-at-spec : {M : Type 1} → statement M
 same-at-spec =
