@@ -1,6 +1,6 @@
 -- What the answers stand for, in the rules' terms, over a pitch. Assumes nothing.
 use mathlib.Core.Path.{_≡_, refl}
-use mathlib.Core.Bool.{Bool, true, false}
+use mathlib.Core.Bool.{Bool, true, false, not}
 use mathlib.Core.Option.{Option, none, some}
 use mathlib.Core.List.{List, [], _∷_}
 use Prim.Native.Nat.{ℕ}
@@ -21,6 +21,8 @@ use Rattle.settings.specs.declared.NewRows.{NewRows}
 use Rattle.settings.specs.declared.NewRows.the-variants as new-rows
 use Rattle.settings.specs.declared.NewTotal.{NewTotal}
 use Rattle.settings.specs.declared.NewTotal.the-variants as new-total
+use Rattle.settings.specs.declared.Condition.{Condition}
+use Rattle.settings.specs.declared.Condition.the-variants.{Holds, Fails, Malformed}
 
 -- the rules' setting
 abbrev pub settingOf : Setting → rule.Setting
@@ -62,3 +64,13 @@ newTotalIs new-total.OutOfRange = bad 7
 -- ti with an argument
 abbrev pub totalIn : Pitch → (indent : ℕ) → List ℕ → Judged ℕ
 totalIn p old l = cells p l >>= λ v. rule.indentRange (rule.changed (signed l) old v)
+
+-- whether a condition holds, or "anything else earns 6"
+abbrev pub conditionIs : Condition → Judged Bool
+conditionIs Holds = value true
+conditionIs Fails = value false
+conditionIs Malformed = bad 6
+
+-- "! negates"
+abbrev pub negatedOf : Judged Bool → Judged Bool
+negatedOf j = j >>= λ v. value (not v)
