@@ -2,7 +2,6 @@ pub mod Parts
 pub mod Words
 pub mod Ends
 pub mod Writing
-pub mod Signed
 pub mod Placing
 pub mod Spreading
 pub mod Rows

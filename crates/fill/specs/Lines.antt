@@ -9,7 +9,7 @@ use Rattle.measure.specs.declared.Cells.{Cells}
 use Rattle.rules.specs.Bytes.{space, mark, fixedBlank, gapStart}
 use Rattle.rules.specs.Filling.{Word, spread, trimmed, printed, spelled, span, row, left}
 use Rattle.fill.specs.Parts.{part}
-use Rattle.fill.specs.Writing.{acrossOf}
+use Rattle.measure.specs.Counts.{acrossOf}
 
 -- a cell that is printed as a blank
 abbrev pub isBlankCell : ℕ → Bool

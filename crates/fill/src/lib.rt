@@ -5,7 +5,8 @@ ghost use mathlib.Core.Path.{_≡_};
 ghost use mathlib.Core.List.{_++_, []};
 ghost use lib.ListN.{length, take, replicate};
 ghost use lib.Seq.{sets};
-ghost use Rattle.fill.specs.Writing.{acrossOf, downOf, shownIf, Written};
+ghost use Rattle.measure.specs.Counts.{acrossOf, downOf};
+ghost use Rattle.fill.specs.Writing.{shownIf, Written};
 ghost use Prim.Native.Nat.{_+_, _-_, _≤_};
 ghost use lib.Dec.{eqb};
 ghost use Rattle.rules.specs.Bytes.{mark, fixedBlank, gapStart};
@@ -189,11 +190,7 @@ pub fn gap_after(line: &[u8; 512], at: usize, to: usize) -> usize
 pub fn count(cells: Cells) -> usize
     ensures { λ r. ⌜ r ≡ acrossOf cells ⌝ }
 {
-    let n = cells.0;
-    if n < 0 {
-        return 0;
-    }
-    n as usize
+    measure::across(cells) as usize
 }
 
 // "Output is .. text": fixed blanks are spaces.
@@ -321,11 +318,7 @@ pub fn place_others(
 fn count_rows(rows: Rows) -> usize
     ensures { λ r. ⌜ r ≡ downOf rows ⌝ }
 {
-    let n = rows.0;
-    if n < 0 {
-        return 0;
-    }
-    n as usize
+    measure::down(rows) as usize
 }
 
 // What is left of a room, none if more is taken.

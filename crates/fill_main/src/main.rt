@@ -3,7 +3,7 @@ ghost use mathlib.Core.Path.{_≡_};
 ghost use Prim.Native.Nat.{_≤_, _<_};
 ghost use lib.ListN.{length};
 ghost use Rattle.fill.specs.Parts.{Places};
-ghost use Rattle.fill.specs.Writing.{acrossOf, downOf};
+ghost use Rattle.measure.specs.Counts.{acrossOf, downOf};
 ghost use Rattle.fill_main.specs.States.{Good, Arrays};
 use fill::Next;
 use fill::Overflow;

@@ -5,7 +5,7 @@ use native.Mathlib.Omega.{arith}
 use lib.ListN.{length-replicate}
 use lib.Seq.{length-sets}
 use Rattle.rules.specs.Bytes.{newline}
-use Rattle.fill.specs.Writing.{downOf}
+use Rattle.measure.specs.Counts.{downOf}
 use Rattle.fill.proofs.blank_rows.Statement.{statement}
 use Rattle.fill.proofs.blank_rows.Tie as tie
 

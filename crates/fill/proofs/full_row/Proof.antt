@@ -6,7 +6,7 @@ use denote.Ref.{now}
 use Prim.Native.Nat.{ℕ, _+_, _≤_}
 use lib.ListN.{length}
 use Rattle.rules.specs.Filling.{row, adjusted}
-use Rattle.fill.specs.Writing.{acrossOf}
+use Rattle.measure.specs.Counts.{acrossOf}
 use Rattle.fill.specs.Filled.{lineOf}
 use Rattle.fill.proofs.Rows.{adjusted-short, adjusted-same, written-as}
 use Rattle.fill.proofs.full_row.Statement.{statement}

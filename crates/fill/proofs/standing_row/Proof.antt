@@ -5,7 +5,7 @@ use native.Mathlib.Omega.{arith}
 use denote.Ref.{now}
 use Prim.Native.Nat.{_+_, _-_, _≤_}
 use Rattle.rules.specs.Filling.{words, row, left, width, span}
-use Rattle.fill.specs.Writing.{acrossOf}
+use Rattle.measure.specs.Counts.{acrossOf}
 use Rattle.rules.specs.FillingLaws.{printed-length}
 use Rattle.fill.specs.Parts.{part}
 use Rattle.fill.specs.Lines.{oneIf}
