@@ -389,7 +389,34 @@ fn of_traps(letter: u8) -> bool {
     letter == b'x'
 }
 
-// Any operation but those on traps; what it is about stands behind its letter and a space.
+// i NAME, + NAME and - NAME; one on traps is answered elsewhere, and no other is known.
+fn refer_line(
+    firsts: &[u8; 64],
+    seconds: &[u8; 64],
+    values: &mut [i32; 64],
+    steps: &[i32; 64],
+    count: usize,
+    letter: u8,
+    rest: &[u8],
+)
+    requires { ⌜ Table (now firsts) (now seconds) (now values) (now steps) count ⌝ }
+    ensures { λ r. ⌜ Table (now (firsts .entry)) (now (seconds .entry)) (now (values .exit)) (now (steps .entry)) count ⌝ }
+{
+    if of_traps(letter) {
+        return;
+    }
+    let Turning::Is(turn) = turn_of(letter) else {
+        unknown();
+        return;
+    };
+    let Naming::Is(name) = name_in(rest) else {
+        unknown();
+        return;
+    };
+    refer(firsts, seconds, &mut *values, steps, count, turn, name);
+}
+
+// Any operation but those on traps, by its letter and the line: what it is about stands behind a space.
 fn on_registers(
     firsts: &mut [u8; 64],
     seconds: &mut [u8; 64],
@@ -402,9 +429,6 @@ fn on_registers(
     requires { ⌜ Table (now firsts) (now seconds) (now values) (now steps) count ⌝ }
     ensures { λ r. ⌜ Table (now (firsts .exit)) (now (seconds .exit)) (now (values .exit)) (now (steps .exit)) r ⌝ }
 {
-    if of_traps(letter) {
-        return count;
-    }
     if line.len() < 2 {
         unknown();
         return count;
@@ -419,22 +443,14 @@ fn on_registers(
             &line[2..],
         );
     }
-    let Turning::Is(turn) = turn_of(letter) else {
-        unknown();
-        return count;
-    };
-    let Naming::Is(name) = name_in(&line[2..]) else {
-        unknown();
-        return count;
-    };
-    refer(
+    refer_line(
         &*firsts,
         &*seconds,
         &mut *values,
         &*steps,
         count,
-        turn,
-        name,
+        letter,
+        &line[2..],
     );
     count
 }
