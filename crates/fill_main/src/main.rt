@@ -1,4 +1,5 @@
-// Runs `fill` on operations, one to a line, and writes each row that they give, with a bar before its newline. The file stdout was computed apart, from document 01.
+// Runs `fill` on operations, one to a line, and writes each row that they give, with a bar before its newline. The file stdout was computed apart, from document 01,
+// and its last part by the second formatter.
 ghost use mathlib.Core.Path.{_≡_};
 ghost use Prim.Native.Nat.{_≤_, _<_};
 ghost use lib.ListN.{length};

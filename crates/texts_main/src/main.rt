@@ -1,5 +1,5 @@
 // Reads operations on texts, one to a line, and writes an answer to each: s NAME TEXT defines a string, m NAME opens a macro, l LINE is a line of it,
-// e closes it, r NAME removes a text, t NAME shows it. The file stdout was worked out apart, by a list in Python.
+// e closes it, r NAME removes a text, t NAME shows it. The file stdout was worked out apart, by a list in Python, and its last part by the second formatter.
 use libc::STDIN_FILENO;
 use libc::STDOUT_FILENO;
 use report::text;
