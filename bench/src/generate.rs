@@ -1,4 +1,4 @@
-//! The source text: lines of words with some escapes, the same in each run.
+//! The source texts, the same in each run.
 
 const WORDS: [&str; 40] = [
     "the",
@@ -75,9 +75,14 @@ impl Random {
     }
 }
 
-/// At least so many bytes of source lines. One word in sixteen is an escape, one line in twenty has leading spaces, one
-/// in two hundred ends in a comment, one in a thousand has an escape that is refused.
-pub fn text(size: usize) -> Vec<u8> {
+/// Whether one of so many words or lines has something, if the text has such things at all.
+fn one_in(random: &mut Random, bound: u64, some: bool) -> bool {
+    random.below(bound) == 0 && some
+}
+
+/// At least so many bytes of source lines of 4 to 15 words; one line in twenty has leading spaces. With escapes, one
+/// word in sixteen is one, one line in two hundred ends in a comment, one in a thousand has an escape that is refused.
+pub fn text(size: usize, escapes: bool) -> Vec<u8> {
     let mut random = Random(1);
     let mut text = String::with_capacity(size + 512);
     while text.len() < size {
@@ -89,19 +94,25 @@ pub fn text(size: usize) -> Vec<u8> {
             if i > 0 {
                 text.push_str(if random.below(50) == 0 { "  " } else { " " });
             }
-            let list: &[&str] = if random.below(16) == 0 { &ESCAPES } else { &WORDS };
+            let list: &[&str] = if one_in(&mut random, 16, escapes) { &ESCAPES } else { &WORDS };
             text.push_str(random.choice(list));
         }
         if random.below(3) == 0 {
             text.push('.');
         }
-        if random.below(200) == 0 {
+        if one_in(&mut random, 200, escapes) {
             text.push_str(" \\\" a comment");
         }
-        if random.below(1000) == 0 {
+        if one_in(&mut random, 1000, escapes) {
             text.push_str("\\q");
         }
         text.push('\n');
     }
     text.into_bytes()
+}
+
+/// At least so many bytes of one line, again and again: a processor that predicts its branches predicts these.
+pub fn repeated(size: usize) -> Vec<u8> {
+    let line = b"Lift cover, check lamps, close cover, press lever, start the page.\n";
+    line.repeat(size.div_ceil(line.len()))
 }

@@ -324,8 +324,7 @@ impl Filler {
     fn line(&mut self, line: &[u8]) {
         let mut rest = line;
         let mut first = true;
-        loop {
-            let Some(gap) = rest.iter().position(|byte| *byte != b' ') else { break };
+        while let Some(gap) = rest.iter().position(|byte| *byte != b' ') {
             rest = &rest[gap..];
             let end = rest.iter().position(|byte| *byte == b' ').unwrap_or(rest.len());
             let (word, behind) = rest.split_at(end);
