@@ -5,7 +5,7 @@ use mathlib.Core.List.{List, [], _∷_}
 use Prim.Native.Nat.{ℕ, zero, suc, _+_, _-_, _*_, _≤_, _<_}
 use native.Mathlib.Omega.{arith}
 use lib.Dec.{leb}
-use lib.ListN.{length, take, drop, getD}
+use lib.ListN.{length, take, drop, getD, set}
 use Rattle.input.specs.declared.Entry.{Entry}
 use Rattle.input.specs.declared.Stack.{Stack}
 use Rattle.input.specs.declared.Pushed.{Pushed}
@@ -69,3 +69,11 @@ top-first s bs ps h = let e : s .depth ≡ suc (s .depth - 1) = omega arith in a
 -- What lies below is a stack.
 pub below-stacked : (s : Stack) (arena ends : List ℕ) → Stacked s arena ends → Stacked (below s) arena ends
 below-stacked s bs ps k = record { few = omega (arith, k .few); long = k .long; ends-long = k .ends-long; sizes = λ i h. k .sizes i (omega arith) }
+
+-- an entry with another place
+abbrev pub placed : Entry → ℕ → Entry
+placed e n = record { kind = e .kind; first = e .first; second = e .second; place = n; count = e .count; page = e .page; size = e .size }
+
+-- the stack with another place in the frame on top
+abbrev pub advanced : Stack → (place : ℕ) → Stack
+advanced s n = record { entries = set (s .entries) (s .depth - 1) (placed (getD (s .entries) (s .depth - 1) noEntry) n); depth = s .depth }

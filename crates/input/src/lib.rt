@@ -3,7 +3,7 @@ ghost use mathlib.Core.Path.{_≡_};
 ghost use Prim.Native.Nat.{_+_, _-_, _*_, _≤_, _<_};
 ghost use lib.ListN.{length, take, drop, getD};
 ghost use lib.Seq.{paste};
-ghost use Rattle.input.specs.Frames.{noEntry, Stacked, PushedTo, below};
+ghost use Rattle.input.specs.Frames.{noEntry, Stacked, PushedTo, below, advanced};
 
 // What a frame is beside its bytes: the kind of the item, a name, a place, how many arguments, a page, and how many bytes.
 pub struct Entry {
@@ -120,5 +120,29 @@ pub fn pop(stack: Stack) -> Stack
     Stack {
         entries,
         depth: stack.depth - 1,
+    }
+}
+
+// The stack with another place in the frame on top.
+pub fn advance(stack: Stack, place: u16) -> Stack
+    requires { ⌜ (0 < stack .depth) × (stack .depth ≤ 16) ⌝ }
+    ensures { λ r. ⌜ r ≡ advanced stack place ⌝ }
+{
+    let at = stack.depth - 1;
+    let mut entries = stack.entries;
+    let entry = entries[at];
+    let moved = Entry {
+        kind: entry.kind,
+        first: entry.first,
+        second: entry.second,
+        place,
+        count: entry.count,
+        page: entry.page,
+        size: entry.size,
+    };
+    entries[at] = moved;
+    Stack {
+        entries,
+        depth: stack.depth,
     }
 }
