@@ -35,10 +35,10 @@ step-is c v e =
     sym (rw (toZ-ofZ {w = w32} {z = getD (now (s .args .steps)) (l .loop .i) (pos 0)} (record { sfits = c .before .step .given })) at (c .is-within2 .ensures)) ∙ e
 
 returns : tie.Need-returns Inv-loop μ-loop
-returns c = let s = c .before in sym (bounded-many (now (s .args .values)) (now (s .args .steps)) (s .args .count) (c .if1 .taken))
+returns c = let s = c .before in sym (bounded-many (now (s .args .values)) (now (s .args .steps)) (s .args .count) (omega arith))
 
 loop-holds : tie.Need-loop-holds Inv-loop μ-loop
-loop-holds c = let s = c .before in (omega arith, bounded-few (now (s .args .values)) (now (s .args .steps)) (s .args .count) (c .if1 .left))
+loop-holds c = let s = c .before in (omega arith, bounded-few (now (s .args .values)) (now (s .args .steps)) (s .args .count) (omega arith))
 
 mul-value : tie.Need-mul-value Inv-loop μ-loop
 mul-value c = omega arith
@@ -68,26 +68,26 @@ loop-again : tie.Need-loop-again Inv-loop μ-loop
 loop-again c =
     let v = c .before .before .before .before in let l = v .before .before .before in let s = l .before .before in (
       omega arith,
-      l .loop .inv .1 ∙ within-on (now (s .args .values)) (now (s .args .steps)) (s .args .count) (s .pre) (l .before .if1 .left) (l .loop .i) (v .before .before .loop-test .taken)
+      l .loop .inv .1 ∙ within-on (now (s .args .values)) (now (s .args .steps)) (s .args .count) (s .pre) (omega arith) (l .loop .i) (v .before .before .loop-test .taken)
           (value-is v true (c .before .before .before .if2 .taken)) (step-is (c .before) true (c .if3 .taken)),
     )
 
 returns-2 : tie.Need-returns-2 Inv-loop μ-loop
 returns-2 c =
     let v = c .before .before .before .before in let l = v .before .before .before in let s = l .before .before in
-    sym (l .loop .inv .1 ∙ step-stop (now (s .args .values)) (now (s .args .steps)) (s .args .count) (s .pre) (l .before .if1 .left) (l .loop .i) (v .before .before .loop-test .taken)
+    sym (l .loop .inv .1 ∙ step-stop (now (s .args .values)) (now (s .args .steps)) (s .args .count) (s .pre) (omega arith) (l .loop .i) (v .before .before .loop-test .taken)
     (value-is v true (c .before .before .before .if2 .taken)) (step-is (c .before) false (c .if3 .left)))
 
 returns-3 : tie.Need-returns-3 Inv-loop μ-loop
 returns-3 c =
     let v = c .before in let l = v .before .before .before in let s = l .before .before in
-    sym (l .loop .inv .1 ∙ value-stop (now (s .args .values)) (now (s .args .steps)) (s .args .count) (s .pre) (l .before .if1 .left) (l .loop .i) (v .before .before .loop-test .taken)
+    sym (l .loop .inv .1 ∙ value-stop (now (s .args .values)) (now (s .args .steps)) (s .args .count) (s .pre) (omega arith) (l .loop .i) (v .before .before .loop-test .taken)
     (value-is v false (c .if2 .left)))
 
 returns-4 : tie.Need-returns-4 Inv-loop μ-loop
 returns-4 c =
     let l = c .before in let s = l .before .before in
-    sym (l .loop .inv .1 ∙ within-end (now (s .args .values)) (now (s .args .steps)) (s .args .count) (s .pre) (l .before .if1 .left) (l .loop .i) (omega arith))
+    sym (l .loop .inv .1 ∙ within-end (now (s .args .values)) (now (s .args .steps)) (s .args .count) (s .pre) (omega arith) (l .loop .i) (omega arith))
 
 pub is-bounded-spec : {M : Type 1} → statement M
 is-bounded-spec =

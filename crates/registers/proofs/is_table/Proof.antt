@@ -31,7 +31,7 @@ abbrev table : tie.Start Inv-loop μ-loop → List Name
 table s = namesOf (now (s .args .firsts)) (now (s .args .seconds)) (s .args .count)
 
 columns : (c : tie.Else1 Inv-loop μ-loop) → let s = c .before in Names (now (s .args .firsts)) (now (s .args .seconds)) (s .args .count)
-columns c = let s = c .before in names-of (now (s .args .firsts)) (now (s .args .seconds)) (s .args .count) (s .pre) (c .if1 .left)
+columns c = let s = c .before in names-of (now (s .args .firsts)) (now (s .args .seconds)) (s .args .count) (s .pre) (omega arith)
 
 names-long : (c : tie.Else1 Inv-loop μ-loop) → length (table (c .before)) ≡ c .before .args .count
 names-long c = let s = c .before in namesOf-length (now (s .args .firsts)) (now (s .args .seconds)) (s .args .count) (columns c)
@@ -53,10 +53,10 @@ stop c v e f =
     ∙ order-stop (table s) (l .loop .i) (l .loop .next) (twoBytes 0 0) (l .loop .inv .0) (omega (arith, names-long (l .before))) (ap isEarlier (row c v e) ∙ f)
 
 returns : tie.Need-returns Inv-loop μ-loop
-returns c = let s = c .before in sym (table-many (now (s .args .firsts)) (now (s .args .seconds)) (s .args .count) (c .if1 .taken))
+returns c = let s = c .before in sym (table-many (now (s .args .firsts)) (now (s .args .seconds)) (s .args .count) (omega arith))
 
 loop-holds : tie.Need-loop-holds Inv-loop μ-loop
-loop-holds c = let s = c .before in (omega arith, table-few (now (s .args .firsts)) (now (s .args .seconds)) (s .args .count) (c .if1 .left))
+loop-holds c = let s = c .before in (omega arith, table-few (now (s .args .firsts)) (now (s .args .seconds)) (s .args .count) (omega arith))
 
 element-copy-out-first : tie.Need-element-copy-out-first Inv-loop μ-loop
 element-copy-out-first c = omega arith

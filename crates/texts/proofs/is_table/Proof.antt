@@ -19,7 +19,7 @@ abbrev μ-loop : tie.MeasureT-loop
 μ-loop store lengths count left₀ i₀ left i = count - i
 
 returns : tie.Need-returns Inv-loop μ-loop
-returns c = let s = c .before in sym (table-many (s .args .store) (now (s .args .lengths)) (s .args .count) (c .if1 .taken))
+returns c = let s = c .before in sym (table-many (s .args .store) (now (s .args .lengths)) (s .args .count) (omega arith))
 
 room-of-requires : tie.Need-room-of-requires Inv-loop μ-loop
 room-of-requires c κs = search needs
@@ -40,7 +40,7 @@ wide-requires c κs = search needs
 returns-2 : tie.Need-returns-2 Inv-loop μ-loop
 returns-2 c =
     let l = c .before .before .before .before in let s = l .before .before .before in
-    sym (table-over (s .args .store) (now (s .args .lengths)) (s .args .count) (l .before .before .if1 .left) (l .loop .i) (l .loop .left) (c .before .before .before .loop-test .taken) (l .loop .inv .1)
+    sym (table-over (s .args .store) (now (s .args .lengths)) (s .args .count) (omega arith) (l .loop .i) (l .loop .left) (c .before .before .before .loop-test .taken) (l .loop .inv .1)
     (omega (arith, c .before .wide .ensures, c .if2 .taken)))
 
 add-i : tie.Need-add-i Inv-loop μ-loop
@@ -57,7 +57,7 @@ loop-again c =
 returns-3 : tie.Need-returns-3 Inv-loop μ-loop
 returns-3 c =
     let l = c .before in let s = l .before .before .before in
-    sym (table-fits (s .args .store) (now (s .args .lengths)) (s .args .count) (l .before .before .if1 .left) (l .loop .i) (l .loop .left) (omega arith) (l .loop .inv .1))
+    sym (table-fits (s .args .store) (now (s .args .lengths)) (s .args .count) (omega arith) (l .loop .i) (l .loop .left) (omega arith) (l .loop .inv .1))
 
 pub is-table-spec : {M : Type 1} → statement M
 is-table-spec =

@@ -26,7 +26,7 @@ abbrev table : tie.Start Inv-loop μ-loop → List Name
 table s = namesOf (now (s .args .firsts)) (now (s .args .seconds)) (s .args .count)
 
 columns : (c : tie.Else1 Inv-loop μ-loop) → let s = c .before in Names (now (s .args .firsts)) (now (s .args .seconds)) (s .args .count)
-columns c = let s = c .before in names-of (now (s .args .firsts)) (now (s .args .seconds)) (s .args .count) (s .pre) (c .if1 .left)
+columns c = let s = c .before in names-of (now (s .args .firsts)) (now (s .args .seconds)) (s .args .count) (s .pre) (omega arith)
 
 names-long : (c : tie.Else1 Inv-loop μ-loop) → length (table (c .before)) ≡ c .before .args .count
 names-long c = let s = c .before in namesOf-length (now (s .args .firsts)) (now (s .args .seconds)) (s .args .count) (columns c)
@@ -41,10 +41,10 @@ rest c v e =
     ∙ sym (c .lacks-name .ensures) ∙ e
 
 returns : tie.Need-returns Inv-loop μ-loop
-returns c = let s = c .before in sym (twice-many (now (s .args .firsts)) (now (s .args .seconds)) (s .args .count) (c .if1 .taken))
+returns c = let s = c .before in sym (twice-many (now (s .args .firsts)) (now (s .args .seconds)) (s .args .count) (omega arith))
 
 loop-holds : tie.Need-loop-holds Inv-loop μ-loop
-loop-holds c = let s = c .before in (omega arith, twice-few (now (s .args .firsts)) (now (s .args .seconds)) (s .args .count) (c .if1 .left))
+loop-holds c = let s = c .before in (omega arith, twice-few (now (s .args .firsts)) (now (s .args .seconds)) (s .args .count) (omega arith))
 
 element-copy-out-first : tie.Need-element-copy-out-first Inv-loop μ-loop
 element-copy-out-first c = omega arith
