@@ -37,8 +37,10 @@ rest : (c : tie.After-lacks-name Inv-loop μ-loop) (v : Bool) → c .lacks-name 
     lacks (getD (table s) (l .loop .i) (twoBytes 0 0)) (drop (l .loop .i + 1) (table s)) ≡ v
 rest c v e =
     let l = c .before .before .before .before in let s = l .before .before in
-    ap (λ n. lacks n (drop (l .loop .i + 1) (table s))) (namesOf-at (now (s .args .firsts)) (now (s .args .seconds)) (s .args .count) (columns (l .before)) (l .loop .i) (omega arith))
-    ∙ sym (c .lacks-name .ensures) ∙ e
+    let n = twoBytes (getD (now (s .args .firsts)) (l .loop .i) 0) (getD (now (s .args .seconds)) (l .loop .i) 0) in
+    let given : c .lacks-name .result ≡ lacks n (drop (l .loop .i + 1) (table s)) = c .lacks-name .ensures in
+    ap (λ m. lacks m (drop (l .loop .i + 1) (table s))) (namesOf-at (now (s .args .firsts)) (now (s .args .seconds)) (s .args .count) (columns (l .before)) (l .loop .i) (omega arith))
+    ∙ sym given ∙ e
 
 returns : tie.Need-returns Inv-loop μ-loop
 returns c = let s = c .before in sym (twice-many (now (s .args .firsts)) (now (s .args .seconds)) (s .args .count) (omega arith))
