@@ -363,9 +363,12 @@ pub fn is_table(firsts: &[u8; 64], seconds: &[u8; 64], count: usize) -> bool
     let mut i: usize = 0;
     let mut next: usize = 1;
     while next < count {
-        let first = firsts[i];
-        let second = seconds[i];
-        let name = Name { first, second };
+        let first_byte = firsts[i];
+        let second_byte = seconds[i];
+        let name = Name {
+            first: first_byte,
+            second: second_byte,
+        };
         match order_at(firsts, seconds, next, name) {
             Order::Earlier => {
                 i = next;
@@ -382,13 +385,13 @@ pub fn is_table(firsts: &[u8; 64], seconds: &[u8; 64], count: usize) -> bool
     true
 }
 
-fn is_within(number: i32) -> bool
-    ensures { λ r. ⌜ r ≡ isWithin number ⌝ }
+fn is_within(n: i32) -> bool
+    ensures { λ r. ⌜ r ≡ isWithin n ⌝ }
 {
-    if number < -1000000000 {
+    if n < -1000000000 {
         return false;
     }
-    if 1000000000 < number {
+    if 1000000000 < n {
         return false;
     }
     true

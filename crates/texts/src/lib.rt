@@ -669,9 +669,12 @@ pub fn no_name_twice(firsts: &[u8; 64], seconds: &[u8; 64], count: usize) -> boo
     }
     let mut i: usize = 0;
     while i < count {
-        let first = firsts[i];
-        let second = seconds[i];
-        let name = Name { first, second };
+        let first_byte = firsts[i];
+        let second_byte = seconds[i];
+        let name = Name {
+            first: first_byte,
+            second: second_byte,
+        };
         let next = i + 1;
         if lacks_name(firsts, seconds, next, count, name) {
             i = next;

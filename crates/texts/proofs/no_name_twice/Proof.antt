@@ -48,11 +48,11 @@ returns c = let s = c .before in sym (twice-many (now (s .args .firsts)) (now (s
 loop-holds : tie.Need-loop-holds Inv-loop μ-loop
 loop-holds c = let s = c .before in (omega arith, twice-few (now (s .args .firsts)) (now (s .args .seconds)) (s .args .count) (omega arith))
 
-element-copy-out-first : tie.Need-element-copy-out-first Inv-loop μ-loop
-element-copy-out-first c = omega arith
+element-copy-out-first-byte : tie.Need-element-copy-out-first-byte Inv-loop μ-loop
+element-copy-out-first-byte c = omega arith
 
-element-copy-out-second : tie.Need-element-copy-out-second Inv-loop μ-loop
-element-copy-out-second c = omega arith
+element-copy-out-second-byte : tie.Need-element-copy-out-second-byte Inv-loop μ-loop
+element-copy-out-second-byte c = omega arith
 
 add-next : tie.Need-add-next Inv-loop μ-loop
 add-next c = omega arith
@@ -86,8 +86,8 @@ no-name-twice-spec =
     μ-loop
     returns
     loop-holds
-    element-copy-out-first
-    element-copy-out-second
+    element-copy-out-first-byte
+    element-copy-out-second-byte
     add-next
     lacks-name-requires
     loop-less
