@@ -1,3 +1,4 @@
 pub mod Laws
 pub mod Signed
 pub mod ReadOnlyLaws
+pub mod CheckLaws

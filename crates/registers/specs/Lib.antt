@@ -3,3 +3,4 @@ pub mod Places
 pub mod Moves
 pub mod Answers
 pub mod ReadOnly
+pub mod Checks

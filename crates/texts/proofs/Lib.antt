@@ -4,3 +4,4 @@ pub mod LineLaws
 pub mod RequestLaws
 pub mod ChangeLaws
 pub mod EntryLaws
+pub mod CheckLaws

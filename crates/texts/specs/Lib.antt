@@ -4,3 +4,4 @@ pub mod Lines
 pub mod Requests
 pub mod Changes
 pub mod KeptLaws
+pub mod Checks

@@ -20,6 +20,7 @@ ghost use Rattle.texts.specs.Places.{placeOf, bytesOr, LookedUp};
 ghost use Rattle.texts.specs.Lines.{firstLine, nextLine, TopInside, isPair};
 ghost use Rattle.texts.specs.Requests.{requestFrom, among};
 ghost use Rattle.texts.specs.Changes.{roomOf, closed, TakenOut, Entered, Appended, RemovedTo, DefinedTo, Opens, OpenedTo, KeptTo, ClosedTo};
+ghost use Rattle.texts.specs.Checks.{NameColumns, isTable, lacks, noNameTwice};
 
 // The place of a name in the table, if it is there.
 pub enum Place {
@@ -613,4 +614,73 @@ pub fn close_macro(
         size,
     );
     count + 1
+}
+
+// A length, as a number of bytes.
+fn wide(size: u16) -> usize
+    ensures { λ r. ⌜ r ≡ size ⌝ }
+{
+    size as usize
+}
+
+// Whether the first texts are at most 8,192 bytes and lie within a store of so many.
+pub fn is_table(store: usize, lengths: &[u16; 64], count: usize) -> bool
+    ensures { λ r. ⌜ r ≡ isTable store (now (lengths .entry)) count ⌝ }
+{
+    if 64 < count {
+        return false;
+    }
+    // what is left of the room, so that no sum is too great
+    let mut left = room_of(store);
+    let mut i: usize = 0;
+    while i < count {
+        let size = wide(lengths[i]);
+        if left < size {
+            return false;
+        }
+        left -= size;
+        i += 1;
+    }
+    true
+}
+
+// Whether no row from a place on has a name.
+fn lacks_name(firsts: &[u8; 64], seconds: &[u8; 64], place: usize, count: usize, name: Name) -> bool
+    requires { ⌜ Names (now firsts) (now seconds) count ⌝ }
+    ensures { λ r. ⌜ r ≡ lacks name (drop place (namesOf (now (firsts .entry)) (now (seconds .entry)) count)) ⌝ }
+{
+    let mut i = place;
+    while i < count {
+        if same_at(firsts, seconds, i, name) {
+            return false;
+        }
+        i += 1;
+    }
+    true
+}
+
+// Whether no two of the first rows have one name.
+pub fn no_name_twice(firsts: &[u8; 64], seconds: &[u8; 64], count: usize) -> bool
+    requires { ⌜ NameColumns (now firsts) (now seconds) ⌝ }
+    ensures { λ r. ⌜ r ≡ noNameTwice (now (firsts .entry)) (now (seconds .entry)) count ⌝ }
+{
+    if 64 < count {
+        return false;
+    }
+    let mut i: usize = 0;
+    while i < count {
+        let first_byte = firsts[i];
+        let second_byte = seconds[i];
+        let name = Name {
+            first: first_byte,
+            second: second_byte,
+        };
+        let next = i + 1;
+        if lacks_name(firsts, seconds, next, count, name) {
+            i = next;
+        } else {
+            return false;
+        }
+    }
+    true
 }

@@ -1,9 +1,10 @@
 // The table of planted traps: at most 16, in the order in which they were planted.
 ghost use mathlib.Core.Path.{_≡_};
 ghost use Prim.Native.Nat.{_≤_};
-ghost use lib.ListN.{take};
+ghost use lib.ListN.{take, drop};
 ghost use Rattle.rules.specs.Traps.{rowOf, isRow, nearer, seenAt, nearestTrap, removeTrap};
 ghost use Rattle.traps.specs.Table.{Within, emptyTable, plantedOf, rowIs, foundIs, holding, without, indexOf, plantingOf};
+ghost use Rattle.traps.specs.Checks.{lacks, isTable};
 use rules::Name;
 use rules::Trap;
 
@@ -238,4 +239,44 @@ pub fn remove(p: Planted, place: i32) -> Planted
     ensures { λ r. ⌜ r ≡ holding p (removeTrap place (plantedOf p)) ⌝ }
 {
     close_up(p, index_of(p, place))
+}
+
+// Whether no trap from an index on is planted at a place.
+fn lacks_place(p: Planted, start: usize, place: i32) -> bool
+    requires { ⌜ Within p ⌝ }
+    ensures { λ r. ⌜ r ≡ lacks place (drop start (plantedOf p)) ⌝ }
+{
+    let traps = p.traps;
+    let count = p.count;
+    let mut i = start;
+    while i < count {
+        let trap = traps[i];
+        if place == trap.place {
+            return false;
+        }
+        i += 1;
+    }
+    true
+}
+
+// Whether there are at most 16 traps, no two planted at one place.
+pub fn is_table(p: Planted) -> bool
+    ensures { λ r. ⌜ r ≡ isTable p ⌝ }
+{
+    let traps = p.traps;
+    let count = p.count;
+    if 16 < count {
+        return false;
+    }
+    let mut i: usize = 0;
+    while i < count {
+        let trap = traps[i];
+        let next = i + 1;
+        if lacks_place(p, next, trap.place) {
+            i = next;
+        } else {
+            return false;
+        }
+    }
+    true
 }
