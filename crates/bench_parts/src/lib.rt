@@ -5,7 +5,7 @@ ghost use Prim.Native.Nat.{_≤_};
 ghost use lib.ListN.{length};
 ghost use Rattle.scan.specs.Acts.{Ready};
 ghost use Rattle.fill.specs.Parts.{Places};
-ghost use Rattle.fill.specs.Writing.{acrossOf};
+ghost use Rattle.measure.specs.Counts.{acrossOf};
 ghost use Rattle.bench_parts.specs.States.{Good, Arrays, Fits};
 use fill::Next;
 use fill::Overflow;
