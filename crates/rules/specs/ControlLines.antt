@@ -59,10 +59,10 @@ nameLength (suc b) = 2
 abbrev pub prefixOf : Name → ℕ
 prefixOf n = suc (nameLength (n .second))
 
--- on with an expanded line, or its refusal
+-- on with an expanded line, or its refusal, with the registers as the escapes before left them
 abbrev pub onScan : Scanned → State → (List ℕ → State → Next) → Next
 onScan (scanned l rs) s k = k l (withRegisters rs s)
-onScan (refused n rs) s k = refuses n s
+onScan (refused n rs) s k = refuses n (withRegisters rs s)
 
 module _ (p : Printer) where
   -- A breaking request starts the first page; or breaks, and acts after that; or acts.

@@ -473,7 +473,7 @@ module _ (p : Printer) where
       → ((l : List ℕ) (t : State) → Good t → baseLoad t + stackLoad (t .input .stack) ≡ baseLoad s + stackLoad (s .input .stack) → length l ≤ 512 → Low (k l t) m)
       → Low (onScan x s k) m
   scan-low (scanned l rs) s k m j g h f c = c l (withRegisters rs s) g refl (omega arith)
-  scan-low (refusedScan n rs) s k m j g h f c = refuse-low n s m g h
+  scan-low (refusedScan n rs) s k m j g h f c = refuse-low n (withRegisters rs s) m g h
 
   expand-fits : (args : List (List ℕ)) (d : Mode) (j : ℕ) (l : List ℕ) (s : State) → Fits (512 - j) (expand p args d j l s)
   expand-fits args d j l s = scan-fits (record { seen = seen p s; texts = s .tables .texts; arguments = args }) d (s .tables .registers) j l
