@@ -1,38 +1,30 @@
--- `settings::page_within` meets its contract: a page used up to its longest has no length above. Assumes nothing.
-use mathlib.Core.Path.{_≡_, refl, sym, ap, _∙_}
-use Prim.Native.Nat.{ℕ}
-use native.Mathlib.Numerals.{add-one}
-use native.Mathlib.Omega.{arith}
-use lib.IntN.{ℤ}
-use mir.Facts.{toZ-ofZ}
+-- `settings::page_within` meets its contract. Assumes nothing.
+use mathlib.Core.Path.{ap, _∙_}
+use mathlib.Core.Bool.{Bool}
 use borrow.Author.Needs.{needs, sfits-of}
-use Rattle.measure.specs.declared.Cells.{Cells}
-use Rattle.measure.specs.declared.Rows.{Rows}
-use Rattle.measure.specs.Counts.{acrossOf, downOf}
-use Rattle.rules.specs.Refusals.{Judged, value, _>>=_}
-use Rattle.rules.specs.Numbers.{signed}
-use Rattle.rules.specs.Settings.{changed, inRange, indentRange, pageRange}
-use Rattle.settings.proofs.Ranges.{page-full}
+use mir.Facts.{toZ-ofZ}
+use Rattle.rules.specs.Settings.{changed, pageRange}
 use Rattle.settings.proofs.page_within.Statement.{statement}
 use Rattle.settings.proofs.page_within.Tie as tie
 
+signed-requires : tie.Need-signed-requires
+signed-requires c κs = search needs
+
+changed-requires : tie.Need-changed-requires
+changed-requires c κs = search needs
+
+page-count-requires : tie.Need-page-count-requires
+page-count-requires c κs = search needs
+
 returns : tie.Need-returns
-returns c = let a = c .before .before .args in page-full (a .used) (changed (signed (a .argument .now)) (a .old) (a .value)) (c .if1 .taken)
-
-add-count-from : tie.Need-add-count-from
-add-count-from c = search needs
-
-cast-count-from : tie.Need-cast-count-from
-cast-count-from c = record { fits = omega arith }
-
-count-from-requires : tie.Need-count-from-requires
-count-from-requires c κs = search needs
-
-returns-2 : tie.Need-returns-2
-returns-2 c =
-    let a = c .before .before .before .args in
-    (rw (toZ-ofZ (c .before .before .before .fits .value)) at (c .count-from .ensures)) ∙ ap (λ (n : ℕ). inRange n 500 (changed (signed (a .argument .now)) (a .old) (a .value))) (add-one (a .used))
+returns c =
+    let y = c .before in
+    let s = y .before .before .before in
+    let a = s .args in
+    let v = rw (toZ-ofZ (s .fits .value)) at (y .changed .ensures) in
+    let n = rw (toZ-ofZ (sfits-of (y .changed .ok))) at (c .page-count .ensures) in
+    n ∙ ap (pageRange (a .used)) (v ∙ ap (λ (t : Bool). changed t (a .old) (a .value)) (y .before .signed .ensures))
 
 pub page-within-spec : {M : Type 1} → statement M
 page-within-spec =
-    tie.close (tie.spec returns add-count-from cast-count-from count-from-requires returns-2)
+    tie.close (tie.spec signed-requires changed-requires page-count-requires returns)
