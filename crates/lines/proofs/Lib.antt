@@ -1,0 +1,4 @@
+pub mod LineLaws
+pub mod PlaceLaws
+pub mod MeaningLaws
+pub mod BackLaws

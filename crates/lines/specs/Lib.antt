@@ -1,0 +1,4 @@
+pub mod Lines
+pub mod Places
+pub mod Meanings
+pub mod Backs
