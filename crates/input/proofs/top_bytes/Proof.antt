@@ -30,7 +30,7 @@ part-result-start : tie.Need-part-result-start
 part-result-start c = search needs
 
 part-result-end : tie.Need-part-result-end
-part-result-end c = let e = ap (λ (x : Entry). x .size) (c .before .before .top .ensures) in omega (arith, e, c .before .before .before .before .pre .0, c .before .before .before .before .pre .1, c .before .before .before .before .pre .2, c .before .before .before .before .pre .3)
+part-result-end c = let e = ap (λ (x : Entry). x .size) (c .before .before .top .ensures) in omega (arith, e, c .before .before .before .before .pre .0 .some, c .before .before .before .before .pre .0 .few, c .before .before .before .before .pre .0 .size, c .before .before .before .before .pre .1)
 
 returns : tie.Need-returns
 returns c =

@@ -1,0 +1,338 @@
+-- Laws of the frames and the items on the stack: the top one first, the stack below it, and why texts may change under a stack. Assumes nothing.
+use mathlib.Core.Path.{_≡_, refl, sym, ap, _∙_, subst}
+use mathlib.Core.Bool.{Bool, true, false, _||_, false≢true}
+use mathlib.Core.List.{List, [], _∷_, _++_}
+use mathlib.Core.Option.{Option, some}
+use Prim.Native.Nat.{ℕ, zero, suc, _+_, _-_, _*_, _≤_, _<_}
+use native.Mathlib.Omega.{arith}
+use lib.Dec.{eqb, ltb}
+use lib.ListN.{length, take, drop, getD, set, length-drop, drop-of-length-le, List·getD-eq-default}
+use lib.Seq.{getD-set-same, getD-set-other, set-out, set-getD, drop-drop}
+use borrow.Author.Tests.{eqb-true, eqb-false, ltb-true, ltb-false}
+use Rattle.rules.specs.declared.Name.{Name}
+use Rattle.rules.specs.declared.Kind.{Kind}
+use Rattle.rules.specs.declared.Kind.the-variants.{Macro, String}
+use Rattle.rules.specs.Bytes.{firstWhere}
+use Rattle.rules.specs.Names.{sameName}
+use Rattle.rules.specs.NameLaws.{same-swap}
+use Rattle.rules.specs.Texts.{Text, textOf}
+use Rattle.rules.specs.TextLaws.{found-first, found-later}
+use Rattle.rules.specs.Rows.{lines, linesOf}
+use Rattle.rules.specs.State.{reading, isReading, onStack}
+use Rattle.texts.specs.Lines.{firstLine, lines-first}
+use Rattle.scan.specs.Around.{argumentsOf}
+use Rattle.input.specs.declared.What.{What}
+use Rattle.input.specs.declared.What.the-variants as what
+use Rattle.input.specs.declared.Entry.{Entry}
+use Rattle.input.specs.declared.Stack.{Stack}
+use Rattle.input.specs.Frames.{Frame, frame, entry, noEntry, noFrames, frameAt, framesTo, framesOf, topFrame, topEntry, topBytes, topEnds, Columns, Topped, PushedTo, below, moved, movedEntry, placedAt, isCalled, calledTo}
+use Rattle.input.specs.Items.{unreadBy, unread, itemBy, itemOf, itemsOf, stackOf, GoodBy, Good, Stacked}
+
+frames-to : (es : List Entry) (bs ps : List ℕ) (d : ℕ) → length (framesTo es bs ps d) ≡ d
+unfolding framesTo
+frames-to es bs ps zero = refl
+frames-to es bs ps (suc d) = ap suc (frames-to es bs ps d)
+
+-- There are as many frames as the stack is deep.
+pub frames-length : (s : Stack) (arena ends : List ℕ) → length (framesOf s arena ends) ≡ s .depth
+frames-length s bs ps = frames-to (s .entries) bs ps (s .depth)
+
+-- There are as many items as frames.
+pub items-length : (ts : List Text) (fs : List Frame) → length (itemsOf ts fs) ≡ length fs
+unfolding itemsOf
+items-length ts [] = refl
+items-length ts (f ∷ fs) = ap suc (items-length ts fs)
+
+-- There are as many items as the stack is deep.
+pub stack-length : (ts : List Text) (s : Stack) (arena ends : List ℕ) → length (stackOf ts s arena ends) ≡ s .depth
+stack-length ts s bs ps = items-length ts (framesOf s bs ps) ∙ frames-length s bs ps
+
+-- A stack is its top frame and the frames below it.
+pub top-first : (s : Stack) (arena ends : List ℕ) → 0 < s .depth → framesOf s arena ends ≡ topFrame s arena ends ∷ framesOf (below s) arena ends
+unfolding framesTo
+top-first s bs ps h = let e : s .depth ≡ suc (s .depth - 1) = omega arith in ap (framesTo (s .entries) bs ps) e
+
+-- The same of its items, where it is known what the one on top is.
+pub top-item : (ts : List Text) (s : Stack) (arena ends : List ℕ) (w : What) → 0 < s .depth → topEntry s .what ≡ w
+    → stackOf ts s arena ends ≡ itemBy ts w (topBytes s arena) (topEnds s ends) ∷ stackOf ts (below s) arena ends
+unfolding itemsOf
+top-item ts s bs ps w h e =
+    ap (itemsOf ts) (top-first s bs ps h) ∙ ap (λ (x : What). itemBy ts x (topBytes s bs) (topEnds s ps) ∷ stackOf ts (below s) bs ps) e
+
+-- The first of the frames is the one on top, and the others lie below it.
+pub top-known : (s : Stack) (arena ends : List ℕ) (f : Frame) (fs : List Frame) → framesOf s arena ends ≡ f ∷ fs
+    → (topFrame s arena ends ≡ f) × (framesOf (below s) arena ends ≡ fs)
+top-known s bs ps f fs e = let h = top-first s bs ps (omega (arith, frames-length s bs ps, ap length e)) in (cc, cc)
+
+-- The frame on top of a stack is good.
+pub top-good : (ts : List Text) (s : Stack) (arena ends : List ℕ) (w : What) → 0 < s .depth → topEntry s .what ≡ w
+    → Stacked ts s arena ends → GoodBy ts w (topBytes s arena) (topEnds s ends)
+top-good ts s bs ps w h e k =
+    subst (λ (x : What). GoodBy ts x (topBytes s bs) (topEnds s ps)) e (subst (Good ts) (top-first s bs ps h) (k .good) .0)
+
+-- Nothing lies on a stack that is not deep.
+pub none-there : (ts : List Text) (s : Stack) (arena ends : List ℕ) → s .depth ≡ 0 → stackOf ts s arena ends ≡ []
+unfolding itemsOf framesTo
+none-there ts s bs ps e = ap (λ (d : ℕ). itemsOf ts (framesTo (s .entries) bs ps d)) e
+
+-- There is a frame on top of a stack that is deep.
+pub topped : (s : Stack) (arena ends : List ℕ) → Columns s arena ends → 0 < s .depth → Topped s
+topped s bs ps k h = record { some = h; few = k .few; size = k .sizes (s .depth - 1) (omega arith) }
+
+-- What lies below keeps to the limits.
+pub below-columns : (s : Stack) (arena ends : List ℕ) → Columns s arena ends → Columns (below s) arena ends
+below-columns s bs ps k = record { few = omega (arith, k .few); long = k .long; ends-long = k .ends-long; sizes = λ i h. k .sizes i (omega arith) }
+
+good-down : (ts : List Text) (es : List Entry) (bs ps : List ℕ) (d : ℕ) → Good ts (framesTo es bs ps d) → Good ts (framesTo es bs ps (d - 1))
+unfolding framesTo
+good-down ts es bs ps zero g = g
+good-down ts es bs ps (suc d) g = let e : d ≡ suc d - 1 = omega arith in subst (λ (k : ℕ). Good ts (framesTo es bs ps k)) e (g .1)
+
+-- Its frames are good.
+pub below-stacked : (ts : List Text) (s : Stack) (arena ends : List ℕ) → Stacked ts s arena ends → Stacked ts (below s) arena ends
+below-stacked ts s bs ps k =
+    record { columns = below-columns s bs ps (k .columns); good = good-down ts (s .entries) bs ps (s .depth) (k .good) }
+
+-- Nothing is a stack.
+pub empty-stacked : (ts : List Text) (arena ends : List ℕ) → length arena ≡ 8704 → length ends ≡ 153 → Stacked ts noFrames arena ends
+unfolding framesTo
+empty-stacked ts bs ps a b = record { columns = record { few = omega arith; long = a; ends-long = b; sizes = λ i h. absurd (omega arith) }; good = tt }
+
+-- a frame is pushed
+module _ (ts : List Text) (s : Stack) (bs ps : List ℕ) (w : What) (l g : List ℕ) (r : Stack) (bs' ps' : List ℕ) (p : PushedTo s bs ps w l g r bs' ps') where
+  -- It is one item more.
+  pub pushed-items : stackOf ts r bs' ps' ≡ itemBy ts w l g ∷ stackOf ts s bs ps
+  unfolding itemsOf
+  pushed-items = ap (itemsOf ts) (p .frames)
+
+  -- A good frame leaves all good.
+  pub pushed-good : GoodBy ts w l g → Good ts (framesOf s bs ps) → Good ts (framesOf r bs' ps')
+  pushed-good a b = subst (Good ts) (sym (p .frames)) (a, b)
+
+  -- With it there is a stack.
+  pub pushed-stacked : GoodBy ts w l g → Stacked ts s bs ps → Stacked ts r bs' ps'
+  pushed-stacked a k = record { columns = p .columns; good = pushed-good a (k .good) }
+
+-- a frame that is read up to another place
+abbrev pub movedFrame : (place : ℕ) → Frame → Frame
+movedFrame p f = frame (movedEntry p (f .entry)) (f .bytes) (f .ends)
+
+-- the frames with another place in the first one
+abbrev pub movedFirst : (place : ℕ) → List Frame → List Frame
+movedFirst p [] = []
+movedFirst p (f ∷ fs) = movedFrame p f ∷ fs
+
+-- the frames below a depth, where the entries below it are the same
+frames-same : (es es' : List Entry) (bs ps : List ℕ) (d : ℕ) → ((i : ℕ) → i < d → getD es' i noEntry ≡ getD es i noEntry) → framesTo es' bs ps d ≡ framesTo es bs ps d
+unfolding framesTo
+frames-same es es' bs ps zero h = refl
+frames-same es es' bs ps (suc d) h =
+    ap (λ (e : Entry). frame e (take (e .size) (drop (d * 512) bs)) (take 9 (drop (d * 9) ps)) ∷ framesTo es' bs ps d) (h d (omega arith))
+    ∙ ap (λ x. frameAt es bs ps d ∷ x) (frames-same es es' bs ps d (λ i k. h i (omega arith)))
+
+module _ (es : List Entry) (p d : ℕ) where
+  -- the entries with another place in that of a row
+  abbrev es' : List Entry
+  es' = set es d (movedEntry p (getD es d noEntry))
+
+  -- that entry; there is none to move behind the last
+  moved-here : getD es' d noEntry ≡ movedEntry p (getD es d noEntry)
+  moved-here = go (ltb d (length es)) refl
+    where
+      go : (t : Bool) → ltb d (length es) ≡ t → getD es' d noEntry ≡ movedEntry p (getD es d noEntry)
+      go true q = getD-set-same es d (movedEntry p (getD es d noEntry)) noEntry (ltb-true d (length es) q)
+      go false q =
+          let z = ltb-false d (length es) q in
+          let e : getD es d noEntry ≡ noEntry = List·getD-eq-default es noEntry z in
+          ap (λ x. getD x d noEntry) (set-out es d (movedEntry p (getD es d noEntry)) z) ∙ e ∙ sym (ap (movedEntry p) e)
+
+  moved-size : (i : ℕ) → getD es' i noEntry .size ≡ getD es i noEntry .size
+  moved-size i = go (eqb i d) refl
+    where
+      go : (t : Bool) → eqb i d ≡ t → getD es' i noEntry .size ≡ getD es i noEntry .size
+      go true q = let z = eqb-true i d q in subst (λ (k : ℕ). getD es' k noEntry .size ≡ getD es k noEntry .size) (sym z) (ap (λ (e : Entry). e .size) moved-here)
+      go false q = ap (λ (e : Entry). e .size) (getD-set-other es d i (movedEntry p (getD es d noEntry)) noEntry (eqb-false i d q))
+
+  moved-frames : (bs ps : List ℕ) → framesTo es' bs ps (suc d) ≡ movedFirst p (framesTo es bs ps (suc d))
+  unfolding framesTo
+  moved-frames bs ps =
+      ap (λ (e : Entry). frame e (take (e .size) (drop (d * 512) bs)) (take 9 (drop (d * 9) ps)) ∷ framesTo es' bs ps d) moved-here
+      ∙ ap (λ x. movedFrame p (frameAt es bs ps d) ∷ x)
+      (frames-same es es' bs ps d (λ i k. getD-set-other es d i (movedEntry p (getD es d noEntry)) noEntry (λ q. absurd (omega arith))))
+
+good-moved : (ts : List Text) (p : ℕ) (w : What) (l es : List ℕ) → GoodBy ts w l es → GoodBy ts (moved p w) l es
+good-moved ts p (what.Reading n k c) l es g = g
+good-moved ts p what.Text l es g = g
+good-moved ts p (what.Control q n) l es g = g
+good-moved ts p what.Ignored l es g = g
+good-moved ts p (what.Others k) l es g = g
+good-moved ts p (what.Acts r) l es g = g
+good-moved ts p (what.Ejects k) l es g = g
+
+first-moved : (ts : List Text) (p : ℕ) (fs : List Frame) → Good ts fs → Good ts (movedFirst p fs)
+first-moved ts p [] g = g
+first-moved ts p (f ∷ fs) g = (good-moved ts p (f .entry .what) (f .bytes) (f .ends) (g .0), g .1)
+
+module _ (s : Stack) (p : ℕ) where
+  -- The frames are those with another place in the first one.
+  pub placed-frames : (arena ends : List ℕ) → framesOf (placedAt s p) arena ends ≡ movedFirst p (framesOf s arena ends)
+  unfolding framesTo
+  placed-frames bs ps = go (s .depth)
+    where
+      go : (d : ℕ) → framesTo (set (s .entries) (d - 1) (movedEntry p (getD (s .entries) (d - 1) noEntry))) bs ps d ≡ movedFirst p (framesTo (s .entries) bs ps d)
+      go zero = refl
+      go (suc d) =
+          let e : suc d - 1 ≡ d = omega arith in
+          ap (λ (k : ℕ). framesTo (set (s .entries) k (movedEntry p (getD (s .entries) k noEntry))) bs ps (suc d)) e ∙ moved-frames (s .entries) p d bs ps
+
+  -- A text is then read from that place on.
+  pub placed-item : (ts : List Text) (arena ends : List ℕ) (n : Name) (k c : ℕ) → 0 < s .depth → topEntry s .what ≡ what.Reading n k c
+      → stackOf ts (placedAt s p) arena ends ≡ itemBy ts (what.Reading n p c) (topBytes s arena) (topEnds s ends) ∷ stackOf ts (below s) arena ends
+  unfolding itemsOf
+  placed-item ts bs ps n k c h e =
+      ap (itemsOf ts) (placed-frames bs ps ∙ ap (movedFirst p) (top-first s bs ps h))
+      ∙ ap (λ (x : What). itemBy ts (moved p x) (topBytes s bs) (topEnds s ps) ∷ stackOf ts (below s) bs ps) e
+
+  -- It keeps to its limits.
+  pub placed-columns : (arena ends : List ℕ) → Columns s arena ends → Columns (placedAt s p) arena ends
+  placed-columns bs ps k =
+      record { few = k .few; long = k .long; ends-long = k .ends-long; sizes = λ i h. rw (moved-size (s .entries) p (s .depth - 1) i) (k .sizes i h) }
+
+  -- It is a stack.
+  pub placed-stacked : (ts : List Text) (arena ends : List ℕ) → Stacked ts s arena ends → Stacked ts (placedAt s p) arena ends
+  placed-stacked ts bs ps k = record {
+    columns = placed-columns bs ps (k .columns);
+    good = subst (Good ts) (sym (placed-frames bs ps)) (first-moved ts p (framesOf s bs ps) (k .good));
+  }
+
+  -- What is no text stays as it is.
+  pub placed-other : moved p (topEntry s .what) ≡ topEntry s .what → placedAt s p ≡ s
+  placed-other e =
+      ap (λ (w : What). record { entries = set (s .entries) (s .depth - 1) (entry w (topEntry s .size)); depth = s .depth }) e
+      ∙ ap (λ (l : List Entry). record { entries = l; depth = s .depth }) (set-getD (s .entries) (s .depth - 1) noEntry)
+
+called-item : (ts : List Text) (n : Name) (w : What) (l es : List ℕ) → isCalled n w ≡ isReading n (itemBy ts w l es)
+called-item ts n (what.Reading m k c) l es = refl
+called-item ts n what.Text l es = refl
+called-item ts n (what.Control q m) l es = refl
+called-item ts n what.Ignored l es = refl
+called-item ts n (what.Others g) l es = refl
+called-item ts n (what.Acts r) l es = refl
+called-item ts n (what.Ejects p) l es = refl
+
+called-below : (ts : List Text) (n : Name) (es : List Entry) (bs ps : List ℕ) (d : ℕ) → calledTo n es d ≡ onStack n (itemsOf ts (framesTo es bs ps d))
+unfolding calledTo onStack itemsOf framesTo
+called-below ts n es bs ps zero = refl
+called-below ts n es bs ps (suc d) =
+    ap (λ (b : Bool). b || calledTo n es d) (called-item ts n (getD es d noEntry .what) (frameAt es bs ps d .bytes) (frameAt es bs ps d .ends))
+    ∙ ap (λ (b : Bool). isReading n (itemOf ts (frameAt es bs ps d)) || b) (called-below ts n es bs ps d)
+
+-- Whether a text lies on the stack is told by the entries alone.
+pub on-stack : (ts : List Text) (n : Name) (s : Stack) (arena ends : List ℕ) → calledTo n (s .entries) (s .depth) ≡ onStack n (stackOf ts s arena ends)
+on-stack ts n s bs ps = called-below ts n (s .entries) bs ps (s .depth)
+
+neither : (a b : Bool) → (a || b) ≡ false → (a ≡ false) × (b ≡ false)
+neither true b h = absurd (false≢true (sym h))
+neither false b h = (refl, h)
+
+-- texts that are read are found as before
+module _ (ts ts' : List Text) (m : Name) (kept : (k : Name) → sameName k m ≡ false → textOf k ts' ≡ textOf k ts) where
+  item-kept : (w : What) (l es : List ℕ) → isReading m (itemBy ts w l es) ≡ false → itemBy ts' w l es ≡ itemBy ts w l es
+  item-kept (what.Reading n k c) l es h = ap (λ (o : Option Text). reading n (unread o k) (argumentsOf l es c)) (kept n (same-swap m n h))
+  item-kept what.Text l es h = refl
+  item-kept (what.Control q n) l es h = refl
+  item-kept what.Ignored l es h = refl
+  item-kept (what.Others g) l es h = refl
+  item-kept (what.Acts r) l es h = refl
+  item-kept (what.Ejects p) l es h = refl
+
+  frame-good : (w : What) (l es : List ℕ) → isReading m (itemBy ts w l es) ≡ false → GoodBy ts w l es → GoodBy ts' w l es
+  frame-good (what.Reading n k c) l es h g = (g .0, (g .1 .0, kept n (same-swap m n h) ∙ g .1 .1))
+  frame-good what.Text l es h g = g
+  frame-good (what.Control q n) l es h g = g
+  frame-good what.Ignored l es h g = g
+  frame-good (what.Others k) l es h g = g
+  frame-good (what.Acts r) l es h g = g
+  frame-good (what.Ejects p) l es h g = g
+
+  all-kept : (fs : List Frame) → onStack m (itemsOf ts fs) ≡ false → itemsOf ts' fs ≡ itemsOf ts fs
+  unfolding itemsOf onStack
+  all-kept [] h = refl
+  all-kept (f ∷ fs) h =
+      let b = neither (isReading m (itemOf ts f)) (onStack m (itemsOf ts fs)) h in
+      ap (λ x. x ∷ itemsOf ts' fs) (item-kept (f .entry .what) (f .bytes) (f .ends) (b .0)) ∙ ap (λ x. itemOf ts f ∷ x) (all-kept fs (b .1))
+
+  all-good : (fs : List Frame) → onStack m (itemsOf ts fs) ≡ false → Good ts fs → Good ts' fs
+  unfolding itemsOf onStack
+  all-good [] h g = tt
+  all-good (f ∷ fs) h g =
+      let b = neither (isReading m (itemOf ts f)) (onStack m (itemsOf ts fs)) h in
+      (frame-good (f .entry .what) (f .bytes) (f .ends) (b .0) (g .0), all-good fs (b .1) (g .1))
+
+-- A text that does not lie on the stack may change, and the items stay what they are.
+pub items-kept : (ts ts' : List Text) (m : Name) (fs : List Frame) → onStack m (itemsOf ts fs) ≡ false
+    → ((k : Name) → sameName k m ≡ false → textOf k ts' ≡ textOf k ts) → itemsOf ts' fs ≡ itemsOf ts fs
+items-kept ts ts' m fs h kept = all-kept ts ts' m kept fs h
+
+-- The frames stay good.
+pub good-kept : (ts ts' : List Text) (m : Name) (fs : List Frame) → onStack m (itemsOf ts fs) ≡ false
+    → ((k : Name) → sameName k m ≡ false → textOf k ts' ≡ textOf k ts) → Good ts fs → Good ts' fs
+good-kept ts ts' m fs h kept g = all-good ts ts' m kept fs h g
+
+-- A text that is found is found where others stand behind it.
+pub found-before : (n : Name) (a b : List Text) (t : Text) → textOf n a ≡ some t → textOf n (a ++ b) ≡ some t
+unfolding textOf firstWhere
+found-before n [] b t h = let z : _≡_ {A = ℕ} 0 1 = cc in absurd (omega arith)
+found-before n (u ∷ a) b t h = go (sameName n (u .name)) refl (found-before n a b t)
+  where
+    go : (q : Bool) → sameName n (u .name) ≡ q → (textOf n a ≡ some t → textOf n (a ++ b) ≡ some t) → textOf n (u ∷ (a ++ b)) ≡ some t
+    go true e ih = found-first n u (a ++ b) e ∙ sym (found-first n u a e) ∙ h
+    go false e ih = found-later n u (a ++ b) e ∙ ih (sym (found-later n u a e) ∙ h)
+
+-- a text is put behind the others
+module _ (ts : List Text) (t : Text) where
+  item-appended : (w : What) (l es : List ℕ) → GoodBy ts w l es → itemBy (ts ++ t ∷ []) w l es ≡ itemBy ts w l es
+  item-appended (what.Reading n k c) l es g =
+      ap (λ (o : Option Text). reading n (unread o k) (argumentsOf l es c)) (found-before n ts (t ∷ []) (g .1 .0) (g .1 .1) ∙ sym (g .1 .1))
+  item-appended what.Text l es g = refl
+  item-appended (what.Control q n) l es g = refl
+  item-appended what.Ignored l es g = refl
+  item-appended (what.Others k) l es g = refl
+  item-appended (what.Acts r) l es g = refl
+  item-appended (what.Ejects p) l es g = refl
+
+  frame-appended : (w : What) (l es : List ℕ) → GoodBy ts w l es → GoodBy (ts ++ t ∷ []) w l es
+  frame-appended (what.Reading n k c) l es g = (g .0, (g .1 .0, found-before n ts (t ∷ []) (g .1 .0) (g .1 .1)))
+  frame-appended what.Text l es g = g
+  frame-appended (what.Control q n) l es g = g
+  frame-appended what.Ignored l es g = g
+  frame-appended (what.Others k) l es g = g
+  frame-appended (what.Acts r) l es g = g
+  frame-appended (what.Ejects p) l es g = g
+
+  -- The items stay what they are.
+  pub items-appended : (fs : List Frame) → Good ts fs → itemsOf (ts ++ t ∷ []) fs ≡ itemsOf ts fs
+  unfolding itemsOf
+  items-appended [] g = refl
+  items-appended (f ∷ fs) g =
+      ap (λ x. x ∷ itemsOf (ts ++ t ∷ []) fs) (item-appended (f .entry .what) (f .bytes) (f .ends) (g .0)) ∙ ap (λ x. itemOf ts f ∷ x) (items-appended fs (g .1))
+
+  -- The frames stay good.
+  pub good-appended : (fs : List Frame) → Good ts fs → Good (ts ++ t ∷ []) fs
+  good-appended [] g = g
+  good-appended (f ∷ fs) g = (frame-appended (f .entry .what) (f .bytes) (f .ends) (g .0), good-appended fs (g .1))
+
+-- A text that is called has all its lines unread.
+pub unread-all : (k : Kind) (l : List ℕ) → unreadBy k l 0 ≡ linesOf k l
+unread-all Macro l = refl
+unread-all String l = refl
+
+-- The lines of a macro from a place on are the first one, and those from the place behind its newline on.
+pub unread-first : (l : List ℕ) (k : ℕ) → k < length l → unreadBy Macro l k ≡ firstLine (drop k l) ∷ unreadBy Macro l (k + suc (length (firstLine (drop k l))))
+unread-first l k h =
+    lines-first (drop k l) (omega (arith, length-drop k l)) ∙ ap (λ x. firstLine (drop k l) ∷ lines x) (drop-drop (suc (length (firstLine (drop k l)))) k l)
+
+-- At its end there are none.
+pub unread-none : (l : List ℕ) (k : ℕ) → length l ≤ k → unreadBy Macro l k ≡ []
+unfolding lines
+unread-none l k h = ap lines (drop-of-length-le l h)
