@@ -1,0 +1,148 @@
+// Work that writes rows: breaks, blank rows, sp, bp and the end.
+use input::Stack;
+use input::What;
+use measure::Cells;
+use measure::Rows;
+use page::Page;
+use settings::Layout;
+use springs::Held;
+use springs::Landed;
+use springs::Way;
+use traps::Planted;
+ghost use mathlib.Core.Path.{_≡_};
+ghost use mathlib.Core.Bool.{true};
+ghost use Prim.Native.Nat.{_≤_, _<_};
+ghost use Rattle.measure.specs.Counts.{acrossOf, downOf};
+ghost use Rattle.rules.specs.Rows as rule;
+ghost use Rattle.fill.specs.Filled.{lineOf};
+ghost use Rattle.springs.specs.Held.{heldOf, Plain};
+ghost use Rattle.sheet.specs.Desk.{desk, noLine, outcomeOf, Begins, Worked};
+
+// The collected line, if there is one: its first `length` cells lie in an array of their own.
+pub struct Collected {
+    pub there: bool,
+    pub indent: Cells,
+    pub room: Cells,
+    pub length: usize,
+    pub next: usize,
+}
+
+// What a piece of work leads to: so many bytes of the row are to be written, then the session goes on or is closed.
+pub struct Outcome {
+    pub way: Way,
+    pub layout: Layout,
+    pub page: Page,
+    pub collected: Collected,
+    pub stack: Stack,
+    pub written: usize,
+}
+
+// No line is collected.
+pub fn nothing_collected() -> Collected
+    ensures { λ r. ⌜ r ≡ noLine ⌝ }
+{
+    Collected {
+        there: false,
+        indent: Cells(0),
+        room: Cells(0),
+        length: 0,
+        next: 1,
+    }
+}
+
+// What is written, and where the move down after it leads.
+fn lead_to(layout: Layout, collected: Collected, landed: Landed, written: usize) -> Outcome
+    ensures { λ r. ⌜ r ≡ outcomeOf layout collected landed written ⌝ }
+{
+    let way = landed.way;
+    let page = landed.page;
+    let stack = landed.stack;
+    Outcome {
+        way,
+        layout,
+        page,
+        collected,
+        stack,
+        written,
+    }
+}
+
+// The collected line is written, and what is held goes on after the trap that this springs.
+pub fn break_line(
+    held: Held,
+    bytes: &[u8],
+    layout: Layout,
+    page: Page,
+    collected: Collected,
+    planted: Planted,
+    cells: &[u8; 512],
+    row: &mut [u8; 872],
+    stack: Stack,
+    arena: &mut [u8; 8704],
+    ends: &mut [u16; 153],
+    firsts: &[u8; 64],
+    seconds: &[u8; 64],
+    texts: usize,
+) -> Outcome
+    requires { ⌜ Begins planted (desk layout page collected (now cells) stack (now arena) (now ends)) (now bytes) (now row) (now firsts) (now seconds) texts × Plain held ⌝ }
+    ensures { λ r. ⌜ Worked (λ ts s. rule.break (lineOf (acrossOf (collected .indent)) (acrossOf (collected .room)) (now (cells .entry)) (collected .length) (collected .next)) (heldOf ts held (now (bytes .entry))) s) (now (firsts .entry)) (now (seconds .entry)) texts planted (desk layout page collected (now (cells .entry)) stack (now (arena .entry)) (now (ends .entry))) (r .way) (r .written) (desk (r .layout) (r .page) (r .collected) (now (cells .entry)) (r .stack) (now (arena .exit)) (now (ends .exit))) (now (row .exit)) ⌝ }
+{
+    let offset = layout.offset.now;
+    let length = layout.page;
+    let written = fill::broken_row(cells, collected.length, offset, collected.indent, &mut *row);
+    let landed = springs::down(
+        1,
+        page,
+        length,
+        planted,
+        held,
+        bytes,
+        stack,
+        arena,
+        ends,
+        firsts,
+        seconds,
+        texts,
+    );
+    lead_to(layout, nothing_collected(), landed, written)
+}
+
+// Blank rows, and the move down.
+pub fn blank(
+    rows: u16,
+    held: Held,
+    bytes: &[u8],
+    layout: Layout,
+    page: Page,
+    collected: Collected,
+    planted: Planted,
+    cells: &[u8; 512],
+    row: &mut [u8; 872],
+    stack: Stack,
+    arena: &mut [u8; 8704],
+    ends: &mut [u16; 153],
+    firsts: &[u8; 64],
+    seconds: &[u8; 64],
+    texts: usize,
+) -> Outcome
+    requires { ⌜ Begins planted (desk layout page collected (now cells) stack (now arena) (now ends)) (now bytes) (now row) (now firsts) (now seconds) texts × Plain held × (rows ≤ 500) ⌝ }
+    ensures { λ r. ⌜ Worked (λ ts s. rule.blank rows (heldOf ts held (now (bytes .entry))) s) (now (firsts .entry)) (now (seconds .entry)) texts planted (desk layout page collected (now (cells .entry)) stack (now (arena .entry)) (now (ends .entry))) (r .way) (r .written) (desk (r .layout) (r .page) (r .collected) (now (cells .entry)) (r .stack) (now (arena .exit)) (now (ends .exit))) (now (row .exit)) ⌝ }
+{
+    let length = layout.page;
+    let written = fill::blank_rows(measure::rows_down(rows), &mut *row);
+    let landed = springs::down(
+        rows,
+        page,
+        length,
+        planted,
+        held,
+        bytes,
+        stack,
+        arena,
+        ends,
+        firsts,
+        seconds,
+        texts,
+    );
+    lead_to(layout, collected, landed, written)
+}
