@@ -1,16 +1,23 @@
 -- Pieces of work on a page, in the rules' terms. Assumes nothing.
-use mathlib.Core.Path.{_≡_, refl, ap, _∙_}
+use mathlib.Core.Path.{_≡_, refl, sym, ap, _∙_}
+use mathlib.Core.Bool.{Bool, true, false}
+use mathlib.Core.Option.{none}
 use mathlib.Core.List.{List, []}
-use Prim.Native.Nat.{ℕ, _+_, _≤_}
+use Prim.Native.Nat.{ℕ, zero, suc, _+_, _≤_, _<_}
 use native.Mathlib.Omega.{arith}
+use lib.Dec.{ltb, eqb}
+use lib.IntN.{ℤ, pos, negsuc}
 use lib.ListN.{length, take}
-use Rattle.measure.specs.Counts.{acrossOf}
+use borrow.Author.Tests.{ltb-true}
+use Rattle.measure.specs.Counts.{acrossOf, downOf}
 use Rattle.stream.specs.Machine.{works}
 use Rattle.rules.specs.declared.Trap.{Trap}
 use Rattle.rules.specs.Filling.{level, row}
 use Rattle.rules.specs.Texts.{Text}
-use Rattle.rules.specs.State.{State, Item}
-use Rattle.rules.specs.Rows.{Next, down, break}
+use Rattle.rules.specs.State.{State, Item, ejects}
+use Rattle.rules.specs.Rows.{Next, goes, heldIf, down, break, fewer, blank, skip, ejectIf, eject, ejectLast, endFrom, beginEnd}
+use Rattle.rules.specs.Traps as rules
+use Rattle.rules.specs.TrapLaws.{nearest-most}
 use Rattle.texts.specs.Table.{textsOf}
 use Rattle.traps.specs.declared.Planted.{Planted}
 use Rattle.traps.specs.Table.{plantedOf}
@@ -18,14 +25,17 @@ use Rattle.fill.specs.Filled.{lineOf}
 use Rattle.fill.specs.Writing.{Written}
 use Rattle.fill.proofs.Writing.{written-take}
 use Rattle.page.specs.declared.Page.{Page}
+use Rattle.page.specs.Landing.{pageOf, below, blanksOf}
+use Rattle.page.specs.LandingLaws.{spaced, space-lands}
 use Rattle.springs.specs.declared.Held.{Held}
 use Rattle.springs.specs.declared.Landed.{Landed}
 use Rattle.springs.specs.declared.Way.{Way}
-use Rattle.springs.specs.Held.{heldOf}
+use Rattle.springs.specs.declared.Way.the-variants.{Done}
+use Rattle.springs.specs.Held.{heldOf, Plain}
 use Rattle.springs.specs.Calls.{closeBy, MovedTo}
 use Rattle.springs.proofs.Stacks.{fits-few}
 use Rattle.sheet.specs.declared.Collected.{Collected}
-use Rattle.sheet.specs.Desk.{Desk, desk, noLine, stateAt, Sound, Worked}
+use Rattle.sheet.specs.Desk.{Desk, desk, noLine, leftIf, collectedIf, stateAt, Sound, Worked}
 
 -- a desk with another collected line, and with another page
 abbrev pub withLine : Collected → Desk → Desk
@@ -99,3 +109,76 @@ pub break-is : (d : Desk) (ps : List Trap) (held : List Item) (ts : List Text) (
     ≡ break (lineOf (acrossOf (d .collected .indent)) (acrossOf (d .collected .room)) (d .cells) (d .collected .length) (d .collected .next)) held (stateAt ts ps d x)
 unfolding break
 break-is d ps held ts x = refl
+
+-- no more rows than the page has lie below, and an sp writes no more
+pub rows-few : (p : rules.Page) (pl : ℕ) (ps : List Trap) → below p pl ps ≤ pl
+rows-few p pl ps = omega (arith, nearest-most pl (p .used) pl ps)
+
+fewer-few : (n b : ℕ) (t : Bool) → ltb n b ≡ t → fewer t (suc n) b ≤ b
+fewer-few n b true e = ltb-true n b e
+fewer-few n b false e = omega arith
+
+pub blanks-few : (z : ℤ) (b : ℕ) → blanksOf z b ≤ b
+blanks-few (pos zero) b = omega arith
+blanks-few (pos (suc n)) b = fewer-few n b (ltb n b) refl
+blanks-few (negsuc n) b = omega arith
+
+-- some blank rows of an sp
+pub spaced-some : (r : ℕ) (s : State) → 0 < r → blank r [] s ≡ spaced r s
+spaced-some zero s h = absurd (omega arith)
+spaced-some (suc r) s h = refl
+
+-- no text is held while a bp goes on
+pub left-plain : (t : Bool) (p : ℕ) → Plain (leftIf t p)
+left-plain true p = refl
+left-plain false p = tt
+
+left-held : (ts : List Text) (t : Bool) (p : ℕ) (bytes : List ℕ) → heldOf ts (leftIf t p) bytes ≡ heldIf t (ejects p)
+left-held ts true p bytes = refl
+left-held ts false p bytes = refl
+
+end-below : (r : ℕ) (s : State) → 0 < r → ejectLast s ≡ endFrom none r s
+end-below zero s h = absurd (omega arith)
+end-below (suc r) s h = refl
+
+-- a page on which the end has begun
+abbrev pub lastOf : Page → Page
+lastOf g = record { number = g .number; used = g .used; last = true }
+
+module _ (d : Desk) (ps : List Trap) (ts : List Text) (x : State) where
+  -- sp, bp and the end in a state with these parts
+  pub skip-is : (z : ℤ) (r : ℕ) → r ≡ blanksOf z (below (pageOf (d .page)) (downOf (d .layout .page)) ps) → downOf (d .page .used) < downOf (d .layout .page)
+      → spaced r (stateAt ts ps d x) ≡ skip z (stateAt ts ps d x)
+  skip-is z r e h = ap (λ (k : ℕ). spaced k (stateAt ts ps d x)) e ∙ space-lands z (stateAt ts ps d x) h
+
+  pub eject-other : (p : ℕ) → eqb p (d .page .number) ≡ false → goes (stateAt ts ps d x) ≡ eject p (stateAt ts ps d x)
+  unfolding eject
+  eject-other p e = sym (ap (λ (t : Bool). ejectIf t p (stateAt ts ps d x)) e)
+
+  pub eject-is : (p r : ℕ) (bytes : List ℕ) → eqb p (d .page .number) ≡ true → r ≡ below (pageOf (d .page)) (downOf (d .layout .page)) ps
+      → blank r (heldOf ts (leftIf (ltb (downOf (d .page .used) + r) (downOf (d .layout .page))) p) bytes) (stateAt ts ps d x) ≡ eject p (stateAt ts ps d x)
+  unfolding eject
+  eject-is p r bytes e f =
+      let s = stateAt ts ps d x in let u = downOf (d .page .used) in let pl = downOf (d .layout .page) in
+      ap (λ (k : List Item). blank r k s) (left-held ts (ltb (u + r) pl) p bytes)
+      ∙ ap (λ (k : ℕ). blank k (heldIf (ltb (u + k) pl) (ejects p)) s) f
+      ∙ sym (ap (λ (t : Bool). ejectIf t p s) e)
+
+  pub eject-last-is : (r : ℕ) → r ≡ below (pageOf (d .page)) (downOf (d .layout .page)) ps → blank r [] (stateAt ts ps d x) ≡ ejectLast (stateAt ts ps d x)
+  unfolding ejectLast
+  eject-last-is r f = ap (λ (k : ℕ). blank k [] (stateAt ts ps d x)) f
+
+  -- the end, by the collected line
+  pub end-is : (t : Bool) → d .collected .there ≡ t → endFrom (collectedIf t (d .collected) (d .cells)) (downOf (d .page .used)) (stateAt ts ps (onPage (lastOf (d .page)) d) x) ≡ beginEnd (stateAt ts ps d x)
+  unfolding beginEnd
+  end-is t e = sym (ap (λ (v : Bool). endFrom (collectedIf v (d .collected) (d .cells)) (downOf (d .page .used)) (stateAt ts ps (onPage (lastOf (d .page)) d) x)) e)
+
+  pub end-done : d .collected .there ≡ false → downOf (d .page .used) ≡ 0 → goes (closeBy Done (stateAt ts ps (onPage (lastOf (d .page)) d) x)) ≡ beginEnd (stateAt ts ps d x)
+  end-done e f = sym (ap (λ (r : ℕ). endFrom none r (stateAt ts ps (onPage (lastOf (d .page)) d) x)) f) ∙ end-is false e
+
+  pub end-ejects : d .collected .there ≡ false → 0 < downOf (d .page .used) → ejectLast (stateAt ts ps (onPage (lastOf (d .page)) d) x) ≡ beginEnd (stateAt ts ps d x)
+  end-ejects e h = end-below (downOf (d .page .used)) (stateAt ts ps (onPage (lastOf (d .page)) d) x) h ∙ end-is false e
+
+-- the end begins on the same row
+pub last-sound : (planted : Planted) (d : Desk) → Sound planted d → Sound planted (onPage (lastOf (d .page)) d)
+last-sound planted d s = record { limits = s .limits; above = s .above; few = s .few; line = s .line; indent = s .indent; next = s .next; columns = s .columns }

@@ -19,6 +19,7 @@ use Rattle.traps.specs.Table as traps
 use Rattle.fill.specs.Filled.{lineOf, Line}
 use Rattle.settings.specs.declared.Layout.{Layout}
 use Rattle.settings.specs.Layouts.{layoutOf, Limits}
+use Rattle.input.specs.declared.What.the-variants as what
 use Rattle.input.specs.declared.Stack.{Stack}
 use Rattle.input.specs.Frames.{Columns}
 use Rattle.input.specs.Items.{stackOf}
@@ -26,6 +27,8 @@ use Rattle.page.specs.declared.Page.{Page}
 use Rattle.page.specs.Landing.{pageOf}
 use Rattle.springs.specs.declared.Way.{Way}
 use Rattle.springs.specs.declared.Landed.{Landed}
+use Rattle.springs.specs.declared.Held.{Held}
+use Rattle.springs.specs.declared.Held.the-variants as held
 use Rattle.springs.specs.Held.{Fits}
 use Rattle.springs.specs.Calls.{closeBy, KeepsGood}
 use Rattle.sheet.specs.declared.Collected.{Collected}
@@ -38,6 +41,11 @@ noLine = record { there = false; indent = cellsAcross 0; room = cellsAcross 0; l
 -- what is written, and where the move down after it leads
 abbrev pub outcomeOf : Layout → Collected → Landed → (written : ℕ) → Outcome
 outcomeOf y c l n = record { way = l .way; layout = y; page = l .page; collected = c; stack = l .stack; written = n }
+
+-- a bp goes on where blank rows end within its page
+abbrev pub leftIf : (within : Bool) → (page : ℕ) → Held
+leftIf true p = held.Item (what.Ejects p)
+leftIf false p = held.Nothing
 
 -- what work on a page changes: settings, the page, the collected line with its cells, and the stack with its arrays
 pub record Desk : Type 0 where
