@@ -10,7 +10,6 @@ use springs::Landed;
 use springs::Way;
 use traps::Planted;
 ghost use mathlib.Core.Path.{_≡_};
-ghost use mathlib.Core.Bool.{true};
 ghost use mathlib.Core.List.{[]};
 ghost use Prim.Native.Nat.{_+_, _≤_, _<_};
 ghost use lib.Dec.{ltb};
@@ -285,9 +284,9 @@ pub fn eject_last(
     ensures { λ r. ⌜ Worked (λ ts s. rule.ejectLast s) (now (firsts .entry)) (now (seconds .entry)) texts planted (desk layout page collected (now (cells .entry)) stack (now (arena .entry)) (now (ends .entry))) (r .way) (r .written) (desk (r .layout) (r .page) (r .collected) (now (cells .entry)) (r .stack) (now (arena .exit)) (now (ends .exit))) (now (row .exit)) ⌝ }
 {
     let length = layout.page;
-    let rows = page::rows_below(page, length, planted);
+    let below = page::rows_below(page, length, planted);
     blank(
-        rows,
+        below,
         Held::Nothing,
         b"",
         layout,
