@@ -88,12 +88,12 @@ unfolding framesTo
 good-down ts es bs ps zero g = g
 good-down ts es bs ps (suc d) g = let e : d ≡ suc d - 1 = omega arith in subst (λ (k : ℕ). Good ts (framesTo es bs ps k)) e (g .1)
 
--- Its frames are good.
+-- What lies below is a stack.
 pub below-stacked : (ts : List Text) (s : Stack) (arena ends : List ℕ) → Stacked ts s arena ends → Stacked ts (below s) arena ends
 below-stacked ts s bs ps k =
     record { columns = below-columns s bs ps (k .columns); good = good-down ts (s .entries) bs ps (s .depth) (k .good) }
 
--- Nothing is a stack.
+-- A stack with nothing on it is one, over any texts.
 pub empty-stacked : (ts : List Text) (arena ends : List ℕ) → length arena ≡ 8704 → length ends ≡ 153 → Stacked ts noFrames arena ends
 unfolding framesTo
 empty-stacked ts bs ps a b = record { columns = record { few = omega arith; long = a; ends-long = b; sizes = λ i h. absurd (omega arith) }; good = tt }
@@ -279,6 +279,11 @@ pub good-kept : (ts ts' : List Text) (m : Name) (fs : List Frame) → onStack m 
     → ((k : Name) → sameName k m ≡ false → textOf k ts' ≡ textOf k ts) → Good ts fs → Good ts' fs
 good-kept ts ts' m fs h kept g = all-good ts ts' m kept fs h g
 
+-- It is a stack over the other texts.
+pub stacked-kept : (ts ts' : List Text) (m : Name) (s : Stack) (arena ends : List ℕ) → onStack m (stackOf ts s arena ends) ≡ false
+    → ((k : Name) → sameName k m ≡ false → textOf k ts' ≡ textOf k ts) → Stacked ts s arena ends → Stacked ts' s arena ends
+stacked-kept ts ts' m s bs ps h kept k = record { columns = k .columns; good = good-kept ts ts' m (framesOf s bs ps) h kept (k .good) }
+
 -- A text that is found is found where others stand behind it.
 pub found-before : (n : Name) (a b : List Text) (t : Text) → textOf n a ≡ some t → textOf n (a ++ b) ≡ some t
 unfolding textOf firstWhere
@@ -322,6 +327,10 @@ module _ (ts : List Text) (t : Text) where
   good-appended [] g = g
   good-appended (f ∷ fs) g = (frame-appended (f .entry .what) (f .bytes) (f .ends) (g .0), good-appended fs (g .1))
 
+  -- It is a stack over them all.
+  pub stacked-appended : (s : Stack) (arena ends : List ℕ) → Stacked ts s arena ends → Stacked (ts ++ t ∷ []) s arena ends
+  stacked-appended s bs ps k = record { columns = k .columns; good = good-appended (framesOf s bs ps) (k .good) }
+
 -- A text that is called has all its lines unread.
 pub unread-all : (k : Kind) (l : List ℕ) → unreadBy k l 0 ≡ linesOf k l
 unread-all Macro l = refl
@@ -336,3 +345,8 @@ unread-first l k h =
 pub unread-none : (l : List ℕ) (k : ℕ) → length l ≤ k → unreadBy Macro l k ≡ []
 unfolding lines
 unread-none l k h = ap lines (drop-of-length-le l h)
+
+-- "A string called as a macro is one line": once it is read there is none.
+pub unread-string : (l : List ℕ) (k : ℕ) → 0 < k → unreadBy String l k ≡ []
+unread-string l zero h = absurd (omega arith)
+unread-string l (suc k) h = refl
