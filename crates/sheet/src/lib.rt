@@ -52,7 +52,7 @@ pub fn nothing_collected() -> Collected
 }
 
 // What is written, and where the move down after it leads.
-fn lead_to(layout: Layout, collected: Collected, landed: Landed, written: usize) -> Outcome
+pub fn lead_to(layout: Layout, collected: Collected, landed: Landed, written: usize) -> Outcome
     ensures { λ r. ⌜ r ≡ outcomeOf layout collected landed written ⌝ }
 {
     let way = landed.way;
