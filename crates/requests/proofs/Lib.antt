@@ -1,0 +1,2 @@
+pub mod TrapLaws
+pub mod RegisterLaws
