@@ -1,2 +1,3 @@
 pub mod TrapLaws
 pub mod RegisterLaws
+pub mod TextLaws

@@ -1,2 +1,3 @@
 pub mod Traps
 pub mod Registers
+pub mod Texts

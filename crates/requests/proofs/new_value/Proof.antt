@@ -11,7 +11,7 @@ use Rattle.requests.proofs.new_value.Reads as reads
 use Rattle.requests.proofs.new_value.Lts as lts
 use Rattle.number.proofs.signed.Reads as signed-reads
 use Rattle.number.proofs.units.Reads as units-reads
-use Rattle.requests.proofs.changed.Reads as changed-reads
+use Rattle.requests.proofs.summed.Reads as summed-reads
 
 -- src/lib.rt:151:11
 units-requires : tie.Need-units-requires
@@ -26,8 +26,8 @@ signed-requires : tie.Need-signed-requires
 signed-requires c κs = search needs
 
 -- src/lib.rt:152:25
-changed-requires : tie.Need-changed-requires
-changed-requires c κs = search needs
+summed-requires : tie.Need-summed-requires
+summed-requires c κs = search needs
 
 -- src/lib.rt:153:23
 enum-told : tie.Need-enum-told
@@ -35,7 +35,7 @@ enum-told c = search needs
 
 -- src/lib.rt:147:1
 returns : tie.Need-returns
-returns c = let s = c .before .before .before .before .before .before .before in value-is (printerOf (s .args .printer)) (s .args .value .now) (s .args .old) (c .before .before .before .n .given .0 .0) _ _ (c .before .signed .ensures) (ap judgedOf (sym (c .before .before .before .n .given .1)) ∙ c .before .before .before .before .before .units .ensures) (rw (toZ-ofZ (s .fits .old), toZ-ofZ (sfits-of (c .before .before .known-told .given .0 .1))) at (c .changed .ensures))
+returns c = let s = c .before .before .before .before .before .before .before in value-is (printerOf (s .args .printer)) (s .args .value .now) (s .args .old) (c .before .before .before .n .given .0 .0) _ _ (c .before .signed .ensures) (ap judgedOf (sym (c .before .before .before .n .given .1)) ∙ c .before .before .before .before .before .units .ensures) (rw (toZ-ofZ (s .fits .old), toZ-ofZ (sfits-of (c .before .before .known-told .given .0 .1))) at (c .summed .ensures))
 
 -- src/lib.rt:147:1
 returns-2 : tie.Need-returns-2
@@ -48,7 +48,7 @@ new-value-spec =
     units-requires
     enum-known-n
     signed-requires
-    changed-requires
+    summed-requires
     enum-told
     returns
     returns-2)

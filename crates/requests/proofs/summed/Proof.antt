@@ -3,10 +3,10 @@ use Rattle.measure.proofs.Signed.{widened}
 use mir.Facts.{toZ-ofZ, sfits-widen}
 use mir.Syntax.{w64}
 use borrow.Author.Needs.{needs}
-use Rattle.requests.proofs.changed.Statement.{statement}
-use Rattle.requests.proofs.changed.Tie as tie
-use Rattle.requests.proofs.changed.Reads as reads
-use Rattle.requests.proofs.changed.Lts as lts
+use Rattle.requests.proofs.summed.Statement.{statement}
+use Rattle.requests.proofs.summed.Tie as tie
+use Rattle.requests.proofs.summed.Reads as reads
+use Rattle.requests.proofs.summed.Lts as lts
 use Rattle.number.proofs.judge.Reads as judge-reads
 
 -- src/lib.rt:141:30
@@ -33,6 +33,6 @@ returns c = let s = c .before .before in rw (c .before .if1 .taken) (rw (widened
 returns-2 : tie.Need-returns-2
 returns-2 c = rw (toZ-ofZ (c .before .fits .value), c .if1 .left)
 
-pub changed-spec : {M : Type 1} → statement M
-changed-spec =
+pub summed-spec : {M : Type 1} → statement M
+summed-spec =
     tie.close (tie.spec cast-judge cast-judge-2 add-judge judge-requires returns returns-2)
