@@ -1,8 +1,8 @@
 -- The ways out of ds, de and rm. Assumes nothing.
 use mathlib.Core.Path.{_≡_, refl, sym, ap, _∙_, subst}
 use mathlib.Core.Bool.{Bool, true, false, not}
-use mathlib.Core.List.{List, []}
-use mathlib.Core.Option.{Option, none, some}
+use mathlib.Core.List.{List}
+use mathlib.Core.Option.{Option, none}
 use Prim.Native.Nat.{ℕ, _+_, _-_, _≤_}
 use native.Mathlib.Omega.{arith}
 use lib.ListN.{length, take, drop, length-take, length-drop}
@@ -14,10 +14,9 @@ use Rattle.rules.specs.Names as names
 use Rattle.rules.specs.Refusals.{Judged, value, bad, judge, _>>=_}
 use Rattle.rules.specs.Texts as texts
 use Rattle.rules.specs.Texts.{Text, textOf, defineStringIn, openMacro}
-use Rattle.rules.specs.Arguments.{Part, part, first, stringText}
-use Rattle.rules.specs.Escapes.{escaped}
-use Rattle.rules.specs.State.{State, Item, onStack, withTexts, withOpened}
-use Rattle.rules.specs.Acts.{onName, free, writtenBack, defineText, defineFrom, defines, openText, removeIf, removeText}
+use Rattle.rules.specs.Arguments.{Part, first, stringText}
+use Rattle.rules.specs.State.{State, Item, onStack, withTexts}
+use Rattle.rules.specs.Acts.{onName, free, writtenBack, defineFrom, defines, openText, removeIf, removeText}
 use Rattle.texts.specs.declared.Stored.the-variants.{Set, Full}
 use Rattle.texts.specs.Table.{textsOf, Lies}
 use Rattle.texts.specs.Changes.{roomOf, RemovedTo, DefinedTo, OpenedTo}
@@ -27,7 +26,7 @@ use Rattle.scan.specs.Parting.{Took}
 use Rattle.lines.specs.Places.{StringAt}
 use Rattle.input.specs.declared.Stack.{Stack}
 use Rattle.input.specs.Frames.{framesOf, calledTo}
-use Rattle.input.specs.Items.{itemsOf, stackOf, Good}
+use Rattle.input.specs.Items.{stackOf}
 use Rattle.input.specs.ItemLaws.{on-stack, items-kept, good-kept}
 use Rattle.requests.specs.declared.Changed.{Changed}
 use Rattle.requests.specs.declared.Changed.the-variants.{Count, Same, Refused}
@@ -70,11 +69,11 @@ module _ (st fs ss ks ls : List ℕ) (c : ℕ) (k : Stack) (n : Name) (st' fs' s
       → ChangesAs st fs ss ks ls c k alone (λ s. removeText s n) (Count r) st' fs' ss' ks' ls'
   removed r e m = record {
     is = λ bs ps x.
-      let s = over k bs ps ts x in
-      ap value (moved (textsOf st' fs' ss' ks' ls' r) kept bs ps x)
-      ∙ ap (λ (u : List Text). value (withTexts u s)) (m .is)
-      ∙ ap (λ (j : Judged Name). j >>= λ q. value (withTexts (texts.remove q ts) s)) (freed ts k n bs ps x f)
-      ∙ ap (λ (b : Bool). removeIf b s n) e;
+        let s = over k bs ps ts x in
+        ap value (moved (textsOf st' fs' ss' ks' ls' r) kept bs ps x)
+        ∙ ap (λ (u : List Text). value (withTexts u s)) (m .is)
+        ∙ ap (λ (j : Judged Name). j >>= λ q. value (withTexts (texts.remove q ts) s)) (freed ts k n bs ps x f)
+        ∙ ap (λ (b : Bool). removeIf b s n) e;
     good = λ bs ps g. good-kept ts (textsOf st' fs' ss' ks' ls' r) n (framesOf k bs ps) (off bs ps) kept g;
     lies = m .lies;
     long = m .long;
@@ -93,10 +92,10 @@ module _ (st fs ss ks ls : List ℕ) (c : ℕ) (k : Stack) (n : Name) (st' fs' s
   opened r m = record {
     changes = record {
       is = λ bs ps x.
-        let s = over k bs ps ts x in
-        ap (λ (u : State). value (begun u)) (moved (textsOf st' fs' ss' ks' ls' r) kept bs ps x)
-        ∙ ap (λ (j : Judged (List Text)). j >>= λ u. value (begun (withTexts u s))) (m .is)
-        ∙ ap (λ (j : Judged Name). j >>= λ q. openMacro q ts >>= λ u. value (openedAs (one q) (withTexts u s))) (freed ts k n bs ps x f);
+          let s = over k bs ps ts x in
+          ap (λ (u : State). value (begun u)) (moved (textsOf st' fs' ss' ks' ls' r) kept bs ps x)
+          ∙ ap (λ (j : Judged (List Text)). j >>= λ u. value (begun (withTexts u s))) (m .is)
+          ∙ ap (λ (j : Judged Name). j >>= λ q. openMacro q ts >>= λ u. value (openedAs (one q) (withTexts u s))) (freed ts k n bs ps x f);
       good = λ bs ps g. good-kept ts (textsOf st' fs' ss' ks' ls' r) n (framesOf k bs ps) (off bs ps) kept g;
       lies = m .lies;
       long = m .long;
@@ -113,9 +112,9 @@ module _ (st fs ss ks ls : List ℕ) (c : ℕ) (k : Stack) (n : Name) (st' fs' s
   open-full m = record {
     changes = record {
       is = λ bs ps x.
-        let s = over k bs ps ts x in
-        ap (λ (j : Judged (List Text)). j >>= λ u. value (begun (withTexts u s))) (m .is)
-        ∙ ap (λ (j : Judged Name). j >>= λ q. openMacro q ts >>= λ u. value (openedAs (one q) (withTexts u s))) (freed ts k n bs ps x f);
+          let s = over k bs ps ts x in
+          ap (λ (j : Judged (List Text)). j >>= λ u. value (begun (withTexts u s))) (m .is)
+          ∙ ap (λ (j : Judged Name). j >>= λ q. openMacro q ts >>= λ u. value (openedAs (one q) (withTexts u s))) (freed ts k n bs ps x f);
       good = λ bs ps g. let h = m .kept in rw (h .0, h .1, h .2, h .3, h .4) g;
       lies = m .lies;
       long = m .long;
@@ -132,10 +131,10 @@ module _ (st fs ss ks ls : List ℕ) (c : ℕ) (k : Stack) (n : Name) (st' fs' s
         → ChangesAs st fs ss ks ls c k alone (definesAs n l) (Count r) st' fs' ss' ks' ls'
     defined r m = record {
       is = λ bs ps x.
-        let s = over k bs ps ts x in
-        ap value (moved (textsOf st' fs' ss' ks' ls' r) kept bs ps x)
-        ∙ ap (λ (j : Judged (List Text)). j >>= λ u. value (withTexts u s)) (m .is ∙ room)
-        ∙ ap (λ (j : Judged Name). j >>= λ q. defineStringIn 8192 q l ts >>= λ u. value (withTexts u s)) (freed ts k n bs ps x f);
+          let s = over k bs ps ts x in
+          ap value (moved (textsOf st' fs' ss' ks' ls' r) kept bs ps x)
+          ∙ ap (λ (j : Judged (List Text)). j >>= λ u. value (withTexts u s)) (m .is ∙ room)
+          ∙ ap (λ (j : Judged Name). j >>= λ q. defineStringIn 8192 q l ts >>= λ u. value (withTexts u s)) (freed ts k n bs ps x f);
       good = λ bs ps g. good-kept ts (textsOf st' fs' ss' ks' ls' r) n (framesOf k bs ps) (off bs ps) kept g;
       lies = m .lies;
       long = m .long;
@@ -149,9 +148,9 @@ module _ (st fs ss ks ls : List ℕ) (c : ℕ) (k : Stack) (n : Name) (st' fs' s
         → ChangesAs st fs ss ks ls c k alone (definesAs n l) (Refused 11) st' fs' ss' ks' ls'
     define-full m = record {
       is = λ bs ps x.
-        let s = over k bs ps ts x in
-        ap (λ (j : Judged (List Text)). j >>= λ u. value (withTexts u s)) (m .is ∙ room)
-        ∙ ap (λ (j : Judged Name). j >>= λ q. defineStringIn 8192 q l ts >>= λ u. value (withTexts u s)) (freed ts k n bs ps x f);
+          let s = over k bs ps ts x in
+          ap (λ (j : Judged (List Text)). j >>= λ u. value (withTexts u s)) (m .is ∙ room)
+          ∙ ap (λ (j : Judged Name). j >>= λ q. defineStringIn 8192 q l ts >>= λ u. value (withTexts u s)) (freed ts k n bs ps x f);
       good = λ bs ps g. let h = m .kept in rw (h .0, h .1, h .2, h .3, h .4) g;
       lies = m .lies;
       long = m .long;

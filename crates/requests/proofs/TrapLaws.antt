@@ -19,10 +19,10 @@ use Rattle.rules.specs.State.{State, withTraps}
 use Rattle.rules.specs.Acts.{plantAt, plantTrap}
 use Rattle.traps.specs.declared.Planted.{Planted}
 use Rattle.traps.specs.declared.Planting.{Planting}
-use Rattle.traps.specs.Table.{Within, plantedOf, holding, plantingOf, keptOr}
+use Rattle.traps.specs.Table.{Within, plantedOf, holding, plantingOf}
 use Rattle.traps.specs.TableLaws.{holding-list, within-plant, within-remove}
 use Rattle.requests.specs.declared.Plants.{Plants}
-use Rattle.requests.specs.Traps.{plantsOf, PlantsAs}
+use Rattle.requests.specs.Traps.{PlantsAs}
 
 -- the answer
 abbrev pub answer : (refused : ℕ) → Planted → Plants

@@ -1,11 +1,9 @@
 -- nr, as its answer stands for it in any state. Assumes nothing.
 use mathlib.Core.Path.{_≡_, refl}
-use mathlib.Core.Bool.{Bool, true, false}
 use mathlib.Core.List.{List}
 use mathlib.Core.Option.{Option}
 use Prim.Native.Nat.{ℕ}
 use lib.IntN.{ℤ}
-use Rattle.measure.specs.declared.Pitch.{Pitch}
 use Rattle.rules.specs.declared.Name.{Name}
 use Rattle.rules.specs.declared.Register.{Register}
 use Rattle.rules.specs.declared.Unbreaking.the-variants.{Nr}
@@ -13,8 +11,7 @@ use Rattle.rules.specs.Printers as printers
 use Rattle.rules.specs.Names.{nameOf}
 use Rattle.rules.specs.Refusals.{Judged, value, bad, _>>=_}
 use Rattle.rules.specs.Numbers.{units, signed}
-use Rattle.rules.specs.Registers.{lookup, valueOr0, stepOr0}
-use Rattle.rules.specs.RegisterLaws.{BoundedTable}
+use Rattle.rules.specs.Registers.{valueOr0, stepOr0}
 use Rattle.rules.specs.State.{State, withRegisters}
 use Rattle.rules.specs.Acts.{argument, onName, newValue, newStep, writeRegister, perform}
 use Rattle.registers.specs.Columns.{tableOf, Table}

@@ -4,7 +4,7 @@ use mathlib.Core.Bool.{Bool}
 use mathlib.Core.List.{List, []}
 use mathlib.Core.Option.{some}
 use Prim.Native.Nat.{ℕ, _≤_}
-use lib.ListN.{length, take}
+use lib.ListN.{length}
 use Rattle.rules.specs.declared.Name.{Name}
 use Rattle.rules.specs.declared.Unbreaking.the-variants.{De, Rm}
 use Rattle.rules.specs.Printers.{Printer}
@@ -13,7 +13,7 @@ use Rattle.rules.specs.Names as names
 use Rattle.rules.specs.Refusals.{Judged, value, bad}
 use Rattle.rules.specs.Texts.{Text}
 use Rattle.rules.specs.State.{State, Item, withStack, withTexts, withOpened}
-use Rattle.rules.specs.Acts.{argument, onName, writtenBack, defineText, defines, openText, removeText, perform}
+use Rattle.rules.specs.Acts.{argument, onName, writtenBack, defineText, openText, removeText, perform}
 use Rattle.texts.specs.Table.{textsOf, Lies}
 use Rattle.texts.specs.Changes.{Opens}
 use Rattle.input.specs.declared.Stack.{Stack}

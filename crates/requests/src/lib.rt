@@ -11,7 +11,7 @@ use scan::Argument;
 use settings::Printer;
 use traps::Planted;
 ghost use mathlib.Core.Path.{_≡_};
-ghost use Prim.Native.Nat.{_<_, _≤_};
+ghost use Prim.Native.Nat.{_≤_};
 ghost use lib.ListN.{length, take};
 ghost use Rattle.rules.specs.Bytes.{isThere};
 ghost use Rattle.rules.specs.Names.{nameOf, one};
@@ -299,7 +299,13 @@ fn remove_name(
     ensures { λ r. ⌜ ChangesAs (now (store .entry)) (now (firsts .entry)) (now (seconds .entry)) (now (kinds .entry)) (now (lengths .entry)) count stack alone (λ s. removeText s name) r (now (store .exit)) (now (firsts .exit)) (now (seconds .exit)) (now (kinds .exit)) (now (lengths .exit)) ⌝ }
 {
     let there = is_text(
-        &*store, &*firsts, &*seconds, &*kinds, &*lengths, count, name,
+        &*store,
+        &*firsts,
+        &*seconds,
+        &*kinds,
+        &*lengths,
+        count,
+        name,
     );
     if !there {
         return Changed::Same;

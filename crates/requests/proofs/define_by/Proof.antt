@@ -1,68 +1,59 @@
-use lib.Seq.{length-take-le}
-use Rattle.requests.proofs.TextLaws.{define-by, define-unnamed, define-long}
-use Rattle.lines.specs.Lines.{namedIs}
-use lib.ListN.{take}
+-- `requests::define_by` meets its contract: by what its name is. Assumes nothing.
 use mathlib.Core.Path.{sym, ap, _∙_}
+use lib.ListN.{take}
+use lib.Seq.{length-take-le}
 use borrow.Author.Needs.{needs}
+use Rattle.lines.specs.Lines.{namedIs}
+use Rattle.requests.proofs.TextLaws.{define-by, define-unnamed, define-long}
 use Rattle.requests.proofs.define_by.Statement.{statement}
 use Rattle.requests.proofs.define_by.Tie as tie
-use Rattle.requests.proofs.define_by.Reads as reads
-use Rattle.requests.proofs.define_by.Lts as lts
-use Rattle.lines.proofs.name_of.Reads as name-of-reads
-use Rattle.requests.proofs.define_back.Reads as define-back-reads
-use Rattle.requests.proofs.define_text.Reads as define-text-reads
 
--- src/lib.rt:492:26
 slice-aggregate-name-of : tie.Need-slice-aggregate-name-of
 slice-aggregate-name-of c = sym (length-take-le _ _ (c .before .before .before .before .pre .2))
 
--- src/lib.rt:492:11
 name-of-requires : tie.Need-name-of-requires
 name-of-requires c κs = search needs
 
--- src/lib.rt:493:20
 enum-known-n : tie.Need-enum-known-n
 enum-known-n c = search needs
 
--- src/lib.rt:495:17
 define-back-requires : tie.Need-define-back-requires
 define-back-requires c κs = search needs
 
--- src/lib.rt:495:17
 same-length : tie.Need-same-length
 same-length c = search needs
 
--- src/lib.rt:495:17
 returns : tie.Need-returns
-returns c = let s = c .before .before .before .before .before .before .before .before .before .before .before .before .before .before .before .before .before in define-by (s .args .store .now) (s .args .firsts .now) (s .args .seconds .now) (s .args .kinds .now) (s .args .lengths .now) (s .args .count) (s .args .stack) (take (s .args .end) (s .args .parts .now)) _ _ _ _ _ _ (c .before .before .before .before .before .before .before .before .before .before .n .given .0 .0) (ap namedIs (sym (c .before .before .before .before .before .before .before .before .before .before .n .given .1)) ∙ c .before .before .before .before .before .before .before .before .before .before .before .before .name-of .ensures) (s .args .after-if) (s .args .text .now) (rw (c .before .before .before .before .before .before .before .before .if1 .taken) (c .before .before .define-back .ensures))
+returns c =
+    let s = c .before .before .before .before .before .before .before .before .before .before .before .before .before .before .before .before .before in
+    define-by (s .args .store .now) (s .args .firsts .now) (s .args .seconds .now) (s .args .kinds .now) (s .args .lengths .now) (s .args .count) (s .args .stack) (take (s .args .end) (s .args .parts .now)) _ _ _ _ _ _ (c .before .before .before .before .before .before .before .before .before .before .n .given .0 .0) (ap namedIs (sym (c .before .before .before .before .before .before .before .before .before .before .n .given .1)) ∙ c .before .before .before .before .before .before .before .before .before .before .before .before .name-of .ensures) (s .args .after-if) (s .args .text .now) (rw (c .before .before .before .before .before .before .before .before .if1 .taken) (c .before .before .define-back .ensures))
 
--- src/lib.rt:507:13
 define-text-requires : tie.Need-define-text-requires
 define-text-requires c κs = search needs
 
--- src/lib.rt:519:27
 enum-told : tie.Need-enum-told
 enum-told c = search needs
 
--- src/lib.rt:520:27
 enum-told-2 : tie.Need-enum-told-2
 enum-told-2 c = search needs
 
--- src/lib.rt:476:1
 same-length-2 : tie.Need-same-length-2
 same-length-2 c = search needs
 
--- src/lib.rt:476:1
 returns-2 : tie.Need-returns-2
-returns-2 c = let s = c .before .before .before .before .before .before .before .before .before .before .before .before .before .before .before .before .before in define-by (s .args .store .now) (s .args .firsts .now) (s .args .seconds .now) (s .args .kinds .now) (s .args .lengths .now) (s .args .count) (s .args .stack) (take (s .args .end) (s .args .parts .now)) _ _ _ _ _ _ (c .before .before .before .before .before .before .before .before .before .before .n .given .0 .0) (ap namedIs (sym (c .before .before .before .before .before .before .before .before .before .before .n .given .1)) ∙ c .before .before .before .before .before .before .before .before .before .before .before .before .name-of .ensures) (s .args .after-if) (s .args .text .now) (rw (c .before .before .before .before .before .before .before .before .if1 .left) (c .before .before .define-text .ensures))
+returns-2 c =
+    let s = c .before .before .before .before .before .before .before .before .before .before .before .before .before .before .before .before .before in
+    define-by (s .args .store .now) (s .args .firsts .now) (s .args .seconds .now) (s .args .kinds .now) (s .args .lengths .now) (s .args .count) (s .args .stack) (take (s .args .end) (s .args .parts .now)) _ _ _ _ _ _ (c .before .before .before .before .before .before .before .before .before .before .n .given .0 .0) (ap namedIs (sym (c .before .before .before .before .before .before .before .before .before .before .n .given .1)) ∙ c .before .before .before .before .before .before .before .before .before .before .before .before .name-of .ensures) (s .args .after-if) (s .args .text .now) (rw (c .before .before .before .before .before .before .before .before .if1 .left) (c .before .before .define-text .ensures))
 
--- src/lib.rt:476:1
 returns-3 : tie.Need-returns-3
-returns-3 c = let s = c .before .before .before .before .before .before .before in define-unnamed (s .args .store .now) (s .args .firsts .now) (s .args .seconds .now) (s .args .kinds .now) (s .args .lengths .now) (s .args .count) (s .args .stack) (take (s .args .end) (s .args .parts .now)) (s .pre .0 .ready .lies) (ap namedIs (sym (c .enum-told .given .1)) ∙ c .before .before .name-of .ensures) (s .args .after-if) (s .args .text .now)
+returns-3 c =
+    let s = c .before .before .before .before .before .before .before in
+    define-unnamed (s .args .store .now) (s .args .firsts .now) (s .args .seconds .now) (s .args .kinds .now) (s .args .lengths .now) (s .args .count) (s .args .stack) (take (s .args .end) (s .args .parts .now)) (s .pre .0 .ready .lies) (ap namedIs (sym (c .enum-told .given .1)) ∙ c .before .before .name-of .ensures) (s .args .after-if) (s .args .text .now)
 
--- src/lib.rt:476:1
 returns-4 : tie.Need-returns-4
-returns-4 c = let s = c .before .before .before .before .before .before .before in define-long (s .args .store .now) (s .args .firsts .now) (s .args .seconds .now) (s .args .kinds .now) (s .args .lengths .now) (s .args .count) (s .args .stack) (take (s .args .end) (s .args .parts .now)) (s .pre .0 .ready .lies) (ap namedIs (sym (c .enum-told2 .given .1)) ∙ c .before .before .name-of .ensures) (s .args .after-if) (s .args .text .now)
+returns-4 c =
+    let s = c .before .before .before .before .before .before .before in
+    define-long (s .args .store .now) (s .args .firsts .now) (s .args .seconds .now) (s .args .kinds .now) (s .args .lengths .now) (s .args .count) (s .args .stack) (take (s .args .end) (s .args .parts .now)) (s .pre .0 .ready .lies) (ap namedIs (sym (c .enum-told2 .given .1)) ∙ c .before .before .name-of .ensures) (s .args .after-if) (s .args .text .now)
 
 pub define-by-spec : {M : Type 1} → statement M
 define-by-spec =

@@ -1,27 +1,23 @@
-use lib.Seq.{length-take-le}
-use lib.ListN.{length-take}
+-- `requests::define_front` meets its contract: the front of the line is the line. Assumes nothing.
+use mathlib.Core.Path.{sym}
 use native.Mathlib.Omega.{arith}
-use mathlib.Core.Path.{sym, ap, _∙_}
+use lib.ListN.{length-take}
+use lib.Seq.{length-take-le}
 use borrow.Author.Needs.{needs}
 use Rattle.requests.proofs.define_front.Statement.{statement}
 use Rattle.requests.proofs.define_front.Tie as tie
-use Rattle.requests.proofs.define_front.Reads as reads
-use Rattle.requests.proofs.define_front.Lts as lts
-use Rattle.requests.proofs.define_from.Reads as define-from-reads
 
--- src/lib.rt:580:9
 slice-aggregate-define-from : tie.Need-slice-aggregate-define-from
 slice-aggregate-define-from c = let p = c .before .before .before .pre .1 in sym (length-take-le _ _ (omega (arith, p .inside, p .long)))
 
--- src/lib.rt:579:5
 define-from-requires : tie.Need-define-from-requires
-define-from-requires c κs = let s = c .before .before .before .before .before .before .before .before .before in (s .pre .0, omega (arith, length-take (s .args .to) (s .args .line .now), s .pre .1 .inside), s .pre .1 .room)
+define-from-requires c κs =
+    let s = c .before .before .before .before .before .before .before .before .before in
+    (s .pre .0, omega (arith, length-take (s .args .to) (s .args .line .now), s .pre .1 .inside), s .pre .1 .room)
 
--- src/lib.rt:563:1
 same-length : tie.Need-same-length
 same-length c = search needs
 
--- src/lib.rt:563:1
 returns : tie.Need-returns
 returns c = search needs
 

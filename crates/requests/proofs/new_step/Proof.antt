@@ -1,26 +1,25 @@
-use Rattle.requests.proofs.RegisterLaws.{step-kept, step-read}
-use Rattle.settings.specs.Layouts.{printerOf}
+-- `requests::new_step` meets its contract: by whether there is one. Assumes nothing.
 use mathlib.Core.Path.{_∙_}
 use native.Mathlib.Omega.{arith}
 use mir.Facts.{toZ-ofZ}
 use borrow.Author.Needs.{needs}
+use Rattle.settings.specs.Layouts.{printerOf}
+use Rattle.requests.proofs.RegisterLaws.{step-kept, step-read}
 use Rattle.requests.proofs.new_step.Statement.{statement}
 use Rattle.requests.proofs.new_step.Tie as tie
-use Rattle.requests.proofs.new_step.Reads as reads
-use Rattle.requests.proofs.new_step.Lts as lts
-use Rattle.number.proofs.units.Reads as units-reads
 
--- src/lib.rt:163:9
 returns : tie.Need-returns
-returns c = let s = c .before .before in rw (toZ-ofZ (s .fits .old)) (step-kept (printerOf (s .args .printer)) (s .args .step .now) (s .args .old) (c .if1 .taken))
+returns c =
+    let s = c .before .before in
+    rw (toZ-ofZ (s .fits .old)) (step-kept (printerOf (s .args .printer)) (s .args .step .now) (s .args .old) (c .if1 .taken))
 
--- src/lib.rt:165:5
 units-requires : tie.Need-units-requires
 units-requires c κs = search needs
 
--- src/lib.rt:158:1
 returns-2 : tie.Need-returns-2
-returns-2 c = let s = c .before .before .before in c .units .ensures ∙ step-read (printerOf (s .args .printer)) (s .args .step .now) (s .args .old) (omega (arith, c .before .if1 .left))
+returns-2 c =
+    let s = c .before .before .before in
+    c .units .ensures ∙ step-read (printerOf (s .args .printer)) (s .args .step .now) (s .args .old) (omega (arith, c .before .if1 .left))
 
 pub new-step-spec : {M : Type 1} → statement M
 new-step-spec = tie.close (tie.spec returns units-requires returns-2)
