@@ -1,0 +1,3 @@
+pub mod TrapLaws
+pub mod RegisterLaws
+pub mod TextLaws

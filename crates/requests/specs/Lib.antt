@@ -1,0 +1,4 @@
+pub mod Traps
+pub mod Registers
+pub mod Texts
+pub mod KeptLaws
