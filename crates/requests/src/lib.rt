@@ -52,6 +52,13 @@ pub enum Assigned {
     Refused(u8),
 }
 
+// How many texts there are after a change, nothing to do, or the number of its refusal.
+pub enum Changed {
+    Count(usize),
+    Same,
+    Refused(u8),
+}
+
 // Plants a name: "11: .. 17th trap".
 fn plant_name(place: i32, name: Name, planted: Planted) -> Plants
     requires { ⌜ Within planted ⌝ }
@@ -256,13 +263,6 @@ pub fn assign(
         Named::Nothing => Assigned::Count(count),
         Named::TooLong => Assigned::Refused(7),
     }
-}
-
-// How many texts there are after a change, nothing to do, or the number of its refusal.
-pub enum Changed {
-    Count(usize),
-    Same,
-    Refused(u8),
 }
 
 // Whether there is a text of a name.

@@ -25,17 +25,24 @@ enum-told-2 c = search needs
 returns : tie.Need-returns
 returns c =
     let s = c .before .before .before .before .before .before .before .before .before .before .before .before in
-    by-name (s .args .printer) (s .args .name .now) (s .args .value .now) (s .args .step .now) (s .args .firsts .now) (s .args .seconds .now) (s .args .values .now) (s .args .steps .now) (s .args .count) _ _ _ _ _ (c .before .before .before .before .before .before .n .given .0 .0) (ap namedIs (sym (c .before .before .before .before .before .before .n .given .1)) ∙ c .before .before .before .before .before .before .before .before .name-of .ensures) (c .write-register .ensures)
+    by-name (s .args .printer) (s .args .name .now) (s .args .value .now) (s .args .step .now) (s .args .firsts .now) (s .args .seconds .now) (s .args .values .now) (s .args .steps .now)
+    (s .args .count) _ _ _ _ _ (c .before .before .before .before .before .before .n .given .0 .0)
+    (ap namedIs (sym (c .before .before .before .before .before .before .n .given .1)) ∙ c .before .before .before .before .before .before .before .before .name-of .ensures)
+    (c .write-register .ensures)
 
 returns-2 : tie.Need-returns-2
 returns-2 c =
     let s = c .before .before .before .before .before .before in
-    same (s .args .firsts .now) (s .args .seconds .now) (s .args .values .now) (s .args .steps .now) (s .args .count) (s .pre .table) (assigns (s .args .printer) (s .args .name .now) (s .args .value .now) (s .args .step .now)) (λ x. unnamed (s .args .printer) (s .args .name .now) (s .args .value .now) (s .args .step .now) (ap namedIs (sym (c .enum-told .given .1)) ∙ c .before .before .name-of .ensures) _)
+    same (s .args .firsts .now) (s .args .seconds .now) (s .args .values .now) (s .args .steps .now) (s .args .count) (s .pre .table)
+    (assigns (s .args .printer) (s .args .name .now) (s .args .value .now) (s .args .step .now))
+    (λ x. unnamed (s .args .printer) (s .args .name .now) (s .args .value .now) (s .args .step .now) (ap namedIs (sym (c .enum-told .given .1)) ∙ c .before .before .name-of .ensures) _)
 
 returns-3 : tie.Need-returns-3
 returns-3 c =
     let s = c .before .before .before .before .before .before in
-    refuses (s .args .firsts .now) (s .args .seconds .now) (s .args .values .now) (s .args .steps .now) (s .args .count) (s .pre .table) (assigns (s .args .printer) (s .args .name .now) (s .args .value .now) (s .args .step .now)) 7 (λ x. too-long (s .args .printer) (s .args .name .now) (s .args .value .now) (s .args .step .now) (ap namedIs (sym (c .enum-told2 .given .1)) ∙ c .before .before .name-of .ensures) _)
+    refuses (s .args .firsts .now) (s .args .seconds .now) (s .args .values .now) (s .args .steps .now) (s .args .count) (s .pre .table)
+    (assigns (s .args .printer) (s .args .name .now) (s .args .value .now) (s .args .step .now)) 7
+    (λ x. too-long (s .args .printer) (s .args .name .now) (s .args .value .now) (s .args .step .now) (ap namedIs (sym (c .enum-told2 .given .1)) ∙ c .before .before .name-of .ensures) _)
 
 pub assign-spec : {M : Type 1} → statement M
 assign-spec =

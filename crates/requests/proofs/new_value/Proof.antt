@@ -26,7 +26,9 @@ enum-told c = search needs
 returns : tie.Need-returns
 returns c =
     let s = c .before .before .before .before .before .before .before in
-    value-is (printerOf (s .args .printer)) (s .args .value .now) (s .args .old) (c .before .before .before .n .given .0 .0) _ _ (c .before .signed .ensures) (ap judgedOf (sym (c .before .before .before .n .given .1)) ∙ c .before .before .before .before .before .units .ensures) (rw (toZ-ofZ (s .fits .old), toZ-ofZ (sfits-of (c .before .before .known-told .given .0 .1))) at (c .summed .ensures))
+    value-is (printerOf (s .args .printer)) (s .args .value .now) (s .args .old) (c .before .before .before .n .given .0 .0) _ _ (c .before .signed .ensures)
+    (ap judgedOf (sym (c .before .before .before .n .given .1)) ∙ c .before .before .before .before .before .units .ensures)
+    (rw (toZ-ofZ (s .fits .old), toZ-ofZ (sfits-of (c .before .before .known-told .given .0 .1))) at (c .summed .ensures))
 
 returns-2 : tie.Need-returns-2
 returns-2 c =

@@ -29,12 +29,16 @@ enum-told c = search needs
 returns-2 : tie.Need-returns-2
 returns-2 c =
     let s = c .before .before .before .before .before .before .before .before .before in
-    row-known (printerOf (s .args .printer)) (s .args .planted) (s .args .name .now) (s .pre .within) (s .args .row .now) (c .before .before .before .rows2 .given .0 .0 .0) _ (omega (arith, c .before .before .before .before .before .before .if1 .left)) (ap downOf (sym (c .before .before .before .rows2 .given .1)) ∙ c .before .before .before .before .before .rows .ensures) (rw (toZ-ofZ (sfits-of (c .before .struct-told .given .0 .1))) at (c .plant-at .ensures))
+    row-known (printerOf (s .args .printer)) (s .args .planted) (s .args .name .now) (s .pre .within) (s .args .row .now) (c .before .before .before .rows2 .given .0 .0 .0) _
+    (omega (arith, c .before .before .before .before .before .before .if1 .left))
+    (ap downOf (sym (c .before .before .before .rows2 .given .1)) ∙ c .before .before .before .before .before .rows .ensures)
+    (rw (toZ-ofZ (sfits-of (c .before .struct-told .given .0 .1))) at (c .plant-at .ensures))
 
 returns-3 : tie.Need-returns-3
 returns-3 c =
     let s = c .before .before .before .before .before .before in
-    row-bad (printerOf (s .args .printer)) (s .args .planted) (s .args .name .now) (s .pre .within) (s .args .row .now) (omega (arith, c .before .before .before .if1 .left)) (ap downOf (sym (c .enum-told .given .1)) ∙ c .before .before .rows .ensures)
+    row-bad (printerOf (s .args .printer)) (s .args .planted) (s .args .name .now) (s .pre .within) (s .args .row .now) (omega (arith, c .before .before .before .if1 .left))
+    (ap downOf (sym (c .enum-told .given .1)) ∙ c .before .before .rows .ensures)
 
 pub plant-spec : {M : Type 1} → statement M
 plant-spec =

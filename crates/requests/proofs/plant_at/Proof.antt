@@ -28,12 +28,14 @@ enum-told-2 c = search needs
 returns : tie.Need-returns
 returns c =
     let s = c .before .before .before .before .before .before in
-    by-name (s .args .planted) (s .args .place) (s .args .name .now) (s .pre) (c .before .before .n .given .0 .0) _ (ap namedIs (sym (c .before .before .n .given .1)) ∙ c .before .before .before .before .name-of .ensures) (rw (toZ-ofZ (s .fits .place)) at (c .plant-name .ensures))
+    by-name (s .args .planted) (s .args .place) (s .args .name .now) (s .pre) (c .before .before .n .given .0 .0) _
+    (ap namedIs (sym (c .before .before .n .given .1)) ∙ c .before .before .before .before .name-of .ensures) (rw (toZ-ofZ (s .fits .place)) at (c .plant-name .ensures))
 
 returns-2 : tie.Need-returns-2
 returns-2 c =
     let s = c .before .before .before .before .before in
-    removed (s .args .planted) (s .args .place) (s .args .name .now) (s .pre) _ (ap namedIs (sym (c .before .enum-told .given .1)) ∙ c .before .before .before .name-of .ensures) (rw (toZ-ofZ (s .fits .place)) at (c .remove .ensures))
+    removed (s .args .planted) (s .args .place) (s .args .name .now) (s .pre) _ (ap namedIs (sym (c .before .enum-told .given .1)) ∙ c .before .before .before .name-of .ensures)
+    (rw (toZ-ofZ (s .fits .place)) at (c .remove .ensures))
 
 returns-3 : tie.Need-returns-3
 returns-3 c =

@@ -24,7 +24,8 @@ judge-requires c κs = search needs
 returns : tie.Need-returns
 returns c =
     let s = c .before .before in
-    rw (c .before .if1 .taken) (rw (widened (s .fits .old), widened (s .fits .value), toZ-ofZ {w = w64} (sum-fits (s .args .old) (s .args .value) (s .fits .old) (s .fits .value))) at (c .judge .ensures))
+    rw (c .before .if1 .taken)
+    (rw (widened (s .fits .old), widened (s .fits .value), toZ-ofZ {w = w64} (sum-fits (s .args .old) (s .args .value) (s .fits .old) (s .fits .value))) at (c .judge .ensures))
 
 returns-2 : tie.Need-returns-2
 returns-2 c = rw (toZ-ofZ (c .before .fits .value), c .if1 .left)
