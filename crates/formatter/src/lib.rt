@@ -1,0 +1,120 @@
+// One piece of work on the whole state: requests on tables, from an expanded control line.
+use input::Stack;
+use requests::Assigned;
+use requests::Changed;
+use requests::Plants;
+use rules::Name;
+use settings::Printer;
+use traps::Planted;
+ghost use Rattle.rules.specs.Acts.{perform};
+ghost use Rattle.rules.specs.declared.Unbreaking.the-variants.{Nr, Wh, Rm};
+ghost use Rattle.requests.specs.Registers.{AssignsAs};
+ghost use Rattle.requests.specs.Registers as registers;
+ghost use Rattle.requests.specs.Traps.{PlantsAs};
+ghost use Rattle.requests.specs.Traps as traps;
+ghost use Rattle.requests.specs.Texts.{ChangesAs, alone};
+ghost use Rattle.requests.specs.Texts as texts;
+ghost use Rattle.settings.specs.Layouts.{printerOf};
+ghost use mathlib.Core.List.{[]};
+ghost use lib.ListN.{getD};
+ghost use Rattle.scan.specs.Parting.{Unread};
+ghost use Rattle.scan.specs.Around.{argumentsOf, Arguments};
+
+// An open definition: its name, and how many bytes of its body lie behind the texts.
+pub struct Opening {
+    pub there: bool,
+    pub name: Name,
+    pub length: usize,
+}
+
+// nr, by its arguments.
+fn assign_parted(
+    parts: &[u8],
+    ends: &[u16; 9],
+    given: usize,
+    printer: Printer,
+    firsts: &mut [u8; 64],
+    seconds: &mut [u8; 64],
+    values: &mut [i32; 64],
+    steps: &mut [i32; 64],
+    count: usize,
+) -> Assigned
+    requires { ⌜ registers.Ready (now firsts) (now seconds) (now values) (now steps) count printer × Arguments (now parts) (now ends) given ⌝ }
+    ensures { λ r. ⌜ AssignsAs (now (firsts .entry)) (now (seconds .entry)) (now (values .entry)) (now (steps .entry)) count (registers.assigns printer (getD (argumentsOf (now (parts .entry)) (now (ends .entry)) given) 0 []) (getD (argumentsOf (now (parts .entry)) (now (ends .entry)) given) 1 []) (getD (argumentsOf (now (parts .entry)) (now (ends .entry)) given) 2 [])) r (now (firsts .exit)) (now (seconds .exit)) (now (values .exit)) (now (steps .exit)) ⌝ }
+{
+    let name = lines::argument(parts, ends, given, 0);
+    let value = lines::argument(parts, ends, given, 1);
+    let step = lines::argument(parts, ends, given, 2);
+    requests::assign(
+        name, value, step, printer, firsts, seconds, values, steps, count,
+    )
+}
+
+// nr, by what follows its name.
+pub fn assign(
+    line: &[u8],
+    parts: &mut [u8; 512],
+    printer: Printer,
+    firsts: &mut [u8; 64],
+    seconds: &mut [u8; 64],
+    values: &mut [i32; 64],
+    steps: &mut [i32; 64],
+    count: usize,
+) -> Assigned
+    requires { ⌜ registers.Ready (now firsts) (now seconds) (now values) (now steps) count printer × Unread (now line) 0 (now parts) 0 ⌝ }
+    ensures { λ r. ⌜ AssignsAs (now (firsts .entry)) (now (seconds .entry)) (now (values .entry)) (now (steps .entry)) count (λ s. perform (printerOf printer) Nr (now (line .entry)) s) r (now (firsts .exit)) (now (seconds .exit)) (now (values .exit)) (now (steps .exit)) ⌝ }
+{
+    let mut ends = [0u16; 9];
+    let given = scan::arguments(line, 0, &mut *parts, &mut ends);
+    assign_parted(
+        &*parts, &ends, given, printer, firsts, seconds, values, steps, count,
+    )
+}
+
+// wh, by its arguments.
+fn plant_parted(
+    parts: &[u8],
+    ends: &[u16; 9],
+    given: usize,
+    printer: Printer,
+    planted: Planted,
+) -> Plants
+    requires { ⌜ traps.Ready planted printer × Arguments (now parts) (now ends) given ⌝ }
+    ensures { λ r. ⌜ traps.PlantedTo (getD (argumentsOf (now (parts .entry)) (now (ends .entry)) given) 0 []) (getD (argumentsOf (now (parts .entry)) (now (ends .entry)) given) 1 []) planted printer r ⌝ }
+{
+    let row = lines::argument(parts, ends, given, 0);
+    let name = lines::argument(parts, ends, given, 1);
+    requests::plant(row, name, planted, printer)
+}
+
+// wh, by what follows its name.
+pub fn plant(line: &[u8], parts: &mut [u8; 512], printer: Printer, planted: Planted) -> Plants
+    requires { ⌜ traps.Ready planted printer × Unread (now line) 0 (now parts) 0 ⌝ }
+    ensures { λ r. ⌜ PlantsAs planted (λ s. perform (printerOf printer) Wh (now (line .entry)) s) r ⌝ }
+{
+    let mut ends = [0u16; 9];
+    let given = scan::arguments(line, 0, &mut *parts, &mut ends);
+    plant_parted(&*parts, &ends, given, printer, planted)
+}
+
+// rm, by what follows its name.
+pub fn remove(
+    line: &[u8],
+    parts: &mut [u8; 512],
+    printer: Printer,
+    stack: Stack,
+    store: &mut [u8],
+    firsts: &mut [u8; 64],
+    seconds: &mut [u8; 64],
+    kinds: &mut [u8; 64],
+    lengths: &mut [u16; 64],
+    count: usize,
+) -> Changed
+    requires { ⌜ texts.Ready (now store) (now firsts) (now seconds) (now kinds) (now lengths) count stack × Unread (now line) 0 (now parts) 0 ⌝ }
+    ensures { λ r. ⌜ ChangesAs (now (store .entry)) (now (firsts .entry)) (now (seconds .entry)) (now (kinds .entry)) (now (lengths .entry)) count stack alone (λ s. perform (printerOf printer) Rm (now (line .entry)) s) r (now (store .exit)) (now (firsts .exit)) (now (seconds .exit)) (now (kinds .exit)) (now (lengths .exit)) ⌝ }
+{
+    let mut ends = [0u16; 9];
+    let given = scan::arguments(line, 0, &mut *parts, &mut ends);
+    let name = lines::argument(&*parts, &ends, given, 0);
+    requests::remove(name, stack, store, firsts, seconds, kinds, lengths, count)
+}
