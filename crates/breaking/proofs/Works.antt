@@ -6,7 +6,7 @@ use Prim.Native.Nat.{ℕ, _≤_}
 use native.Mathlib.Omega.{arith}
 use lib.IntN.{ℤ}
 use lib.ListN.{length}
-use Rattle.measure.specs.Counts.{acrossOf, downOf}
+use Rattle.measure.specs.Counts.{acrossOf}
 use Rattle.rules.specs.declared.Name.{Name}
 use Rattle.rules.specs.declared.Trap.{Trap}
 use Rattle.rules.specs.declared.Breaking.{Breaking}
@@ -15,7 +15,7 @@ use Rattle.rules.specs.Refusals.{Judged, value, bad}
 use Rattle.rules.specs.Settings as rule
 use Rattle.rules.specs.Texts.{Text}
 use Rattle.rules.specs.State.{State, Item}
-use Rattle.rules.specs.Rows.{Next, goes, refuses, skip, startPage, break}
+use Rattle.rules.specs.Rows.{goes, refuses, skip, startPage, break}
 use Rattle.rules.specs.Acts.{given, laidOut, spacing, act}
 use Rattle.rules.specs.ControlLines.{startOrBreak, breakOrAct}
 use Rattle.texts.specs.Table.{textsOf}
@@ -25,7 +25,7 @@ use Rattle.fill.specs.Filled.{lineOf}
 use Rattle.settings.specs.declared.Printer.{Printer}
 use Rattle.settings.specs.declared.NewLayout.{NewLayout}
 use Rattle.settings.specs.declared.NewLayout.the-variants as new-layout
-use Rattle.settings.specs.Layouts.{layoutOf, printerOf, actedOf, Acted}
+use Rattle.settings.specs.Layouts.{printerOf, actedOf, Acted}
 use Rattle.settings.specs.LayoutLaws.{of-new}
 use Rattle.springs.specs.Held.{heldOf}
 use Rattle.springs.proofs.Stacks.{fits-few}
