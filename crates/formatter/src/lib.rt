@@ -46,7 +46,15 @@ fn assign_parted(
     let value = lines::argument(parts, ends, given, 1);
     let step = lines::argument(parts, ends, given, 2);
     requests::assign(
-        name, value, step, printer, firsts, seconds, values, steps, count,
+        name,
+        value,
+        step,
+        printer,
+        firsts,
+        seconds,
+        values,
+        steps,
+        count,
     )
 }
 
@@ -67,7 +75,15 @@ pub fn assign(
     let mut ends = [0u16; 9];
     let given = scan::arguments(line, 0, &mut *parts, &mut ends);
     assign_parted(
-        &*parts, &ends, given, printer, firsts, seconds, values, steps, count,
+        &*parts,
+        &ends,
+        given,
+        printer,
+        firsts,
+        seconds,
+        values,
+        steps,
+        count,
     )
 }
 
