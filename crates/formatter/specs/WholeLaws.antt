@@ -8,6 +8,7 @@ use lib.ListN.{length, take}
 use lib.IntN.{ℤ}
 use Rattle.stream.specs.Machine.{works}
 use Rattle.rules.specs.Refusals.{Judged, value, bad}
+use Rattle.rules.specs.declared.Name.{Name}
 use Rattle.rules.specs.Texts.{Text}
 use Rattle.rules.specs.State.{State, input, tables, refuse, withRegisters, withTraps, withTexts, withStack}
 use Rattle.rules.specs.Rows.{Next, goes}
@@ -31,7 +32,9 @@ use Rattle.requests.specs.declared.Changed.the-variants as changed
 use Rattle.requests.specs.Registers.{assignedOf, AssignsAs}
 use Rattle.requests.specs.Registers as in-registers
 use Rattle.requests.specs.Traps.{plantsBy, PlantsAs}
-use Rattle.requests.specs.Texts.{over, changedOf, ChangesAs, alone}
+use Rattle.rules.specs.Names.{Named, one, tooLong}
+use Rattle.rules.specs.Names as names
+use Rattle.requests.specs.Texts.{over, changedOf, ChangesAs, OpensAs, openedAs, alone}
 use Rattle.requests.specs.Texts as in-texts
 use Rattle.formatter.specs.declared.Opening.{Opening}
 use Rattle.formatter.specs.Whole.{Texts, Registers, Whole, textColumns, registerColumns, whole, textsIn, openedIf, registersIn, stateIn, OpensIn, SoundWhole, KeptStore, Did}
@@ -188,3 +191,89 @@ module _ (act : State → Judged State) (q : Whole) (st' fs' ss' ks' ls' row : L
     long = l;
     kept = kept-store r (q .texts .store) (q .texts .firsts) (q .texts .seconds) (q .texts .kinds) (q .texts .lengths) st' fs' ss' ks' ls' (a .kept);
   }
+
+-- de: the open definition after it, of what its name is
+abbrev pub OpeningIs : Named → Changed → (o o' : Opening) → Type 0
+OpeningIs names.none (changed.Count n) o o' = ⊥
+OpeningIs names.none changed.Same o o' = o' ≡ o
+OpeningIs names.none (changed.Refused k) o o' = o' ≡ o
+OpeningIs tooLong (changed.Count n) o o' = ⊥
+OpeningIs tooLong changed.Same o o' = o' ≡ o
+OpeningIs tooLong (changed.Refused k) o o' = o' ≡ o
+OpeningIs (one m) (changed.Count n) o o' = o' ≡ record { there = true; name = m; length = 0 }
+OpeningIs (one m) changed.Same o o' = o' ≡ o
+OpeningIs (one m) (changed.Refused k) o o' = o' ≡ o
+
+same-opening : (m : Named) (o o' : Opening) → OpeningIs m changed.Same o o' → o' ≡ o
+same-opening names.none o o' e = e
+same-opening tooLong o o' e = e
+same-opening (one m) o o' e = e
+
+refused-opening : (m : Named) (k : ℕ) (o o' : Opening) → OpeningIs m (changed.Refused k) o o' → o' ≡ o
+refused-opening names.none k o o' e = e
+refused-opening tooLong k o o' e = e
+refused-opening (one m) k o o' e = e
+
+module _ (act : State → Judged State) (q : Whole) (st' fs' ss' ks' ls' row : List ℕ) (s : SoundWhole q) (d : q .desk .stack .depth ≤ 16) (l : length row ≡ 872) (c : q .opening .there ≡ false) (m : Named) where
+  abbrev Opens-as : Changed → Type 0
+  Opens-as r = OpensAs (q .texts .store) (q .texts .firsts) (q .texts .seconds) (q .texts .kinds) (q .texts .lengths) (q .texts .count) (q .desk .stack) m act r st' fs' ss' ks' ls'
+
+  abbrev opened-whole : Changed → Opening → Whole
+  opened-whole r o = whole (q .desk) (q .planted) (textColumns st' fs' ss' ks' ls' (in-texts.countIn r (q .texts .count))) o (q .registers)
+
+  -- a refusal or nothing to do leaves all as it was
+  opened-same : (r : Changed) (o' : Opening) → o' ≡ q .opening
+      → ((x : State) → works [] (closeBy (changedWay r) (stateIn (opened-whole r (q .opening)) x)) ≡ settles (act (stateIn q x)) (stateIn q x))
+      → Opens-as r → Did (λ v. settles (act v) v) q (changedWay r) 0 (opened-whole r o') row
+  opened-same r o' e is a = subst (λ (o : Opening). Did (λ v. settles (act v) v) q (changedWay r) 0 (opened-whole r o) row) (sym e) (record {
+    is = is;
+    sound = record {
+      sheet = s .sheet;
+      lies = a .changes .lies;
+      store = a .changes .long ∙ s .store;
+      good = a .changes .good (q .desk .arena) (q .desk .ends) (s .good);
+      opens = subst (λ (b : Bool). OpensIn b (q .opening) (textColumns st' fs' ss' ks' ls' (in-texts.countIn r (q .texts .count)))) (sym c) tt;
+      table = s .table;
+    };
+    fits = fits-few (q .desk .stack) d;
+    few = omega arith;
+    long = l;
+    kept = kept-store r (q .texts .store) (q .texts .firsts) (q .texts .seconds) (q .texts .kinds) (q .texts .lengths) st' fs' ss' ks' ls' (a .changes .kept);
+  })
+
+  -- de, whose name has one or two bytes and was not refused
+  opened-new : (o' : Opening) (n : ℕ) (k : Name) → m ≡ one k → o' ≡ record { there = true; name = k; length = 0 } → Opens-as (changed.Count n)
+      → Did (λ v. settles (act v) v) q On 0 (opened-whole (changed.Count n) o') row
+  opened-new o' n k e f a = subst (λ (o : Opening). Did (λ v. settles (act v) v) q On 0 (opened-whole (changed.Count n) o) row) (sym f) (record {
+    is = λ x.
+      sym (ap (λ (h : Named). goes (openedAs h (over (q .desk .stack) (q .desk .arena) (q .desk .ends) (textsOf st' fs' ss' ks' ls' n) (stateIn q x)))) e)
+      ∙ ap (λ (j : Judged State). settles j (stateIn q x)) (a .changes .is (q .desk .arena) (q .desk .ends) (stateIn q x));
+    sound = record {
+      sheet = s .sheet;
+      lies = a .changes .lies;
+      store = a .changes .long ∙ s .store;
+      good = a .changes .good (q .desk .arena) (q .desk .ends) (s .good);
+      opens = a .opens;
+      table = s .table;
+    };
+    fits = fits-few (q .desk .stack) d;
+    few = omega arith;
+    long = l;
+    kept = tt;
+  })
+
+  -- de
+  pub open-did : (r : Changed) (o' : Opening) → Opens-as r → OpeningIs m r (q .opening) o' → Did (λ v. settles (act v) v) q (changedWay r) 0 (opened-whole r o') row
+  open-did (changed.Count n) o' a f = go m refl f
+    where
+      go : (h : Named) → m ≡ h → OpeningIs h (changed.Count n) (q .opening) o' → Did (λ v. settles (act v) v) q On 0 (opened-whole (changed.Count n) o') row
+      go names.none e g = absurd g
+      go tooLong e g = absurd g
+      go (one k) e g = opened-new o' n k e g a
+  open-did changed.Same o' a f =
+      opened-same changed.Same o' (same-opening m (q .opening) o' f)
+      (λ x. ap (works []) (still-closed q x st' fs' ss' ks' ls' (q .texts .count) c) ∙ ap (λ (j : Judged State). settles j (stateIn q x)) (a .changes .is (q .desk .arena) (q .desk .ends) (stateIn q x))) a
+  open-did (changed.Refused k) o' a f =
+      opened-same (changed.Refused k) o' (refused-opening m k (q .opening) o' f)
+      (λ x. let e = a .changes .kept in
+      rw (e .0, e .1, e .2, e .3, e .4) (ap (λ (j : Judged State). settles j (stateIn q x)) (a .changes .is (q .desk .arena) (q .desk .ends) (stateIn q x)))) a
