@@ -12,9 +12,10 @@ use Rattle.rules.specs.declared.Name.{Name}
 use Rattle.rules.specs.Texts.{Text}
 use Rattle.rules.specs.State.{State, input, tables, refuse, withRegisters, withTraps, withTexts, withStack}
 use Rattle.rules.specs.Rows.{Next, goes}
-use Rattle.rules.specs.Acts.{settles}
+use Rattle.rules.specs.Acts.{settles, onName, openText}
 use Rattle.registers.specs.Columns.{tableOf}
-use Rattle.texts.specs.Table.{textsOf}
+use Rattle.texts.specs.Table.{textsOf, Lies}
+use Rattle.input.specs.declared.Stack.{Stack}
 use Rattle.traps.specs.declared.Planted.{Planted}
 use Rattle.traps.specs.Table.{plantedOf}
 use Rattle.input.specs.Items.{stackOf}
@@ -32,11 +33,12 @@ use Rattle.requests.specs.declared.Changed.the-variants as changed
 use Rattle.requests.specs.Registers.{assignedOf, AssignsAs}
 use Rattle.requests.specs.Registers as in-registers
 use Rattle.requests.specs.Traps.{plantsBy, PlantsAs}
-use Rattle.rules.specs.Names.{Named, one, tooLong}
+use Rattle.rules.specs.Names.{Named, one, tooLong, nameOf}
 use Rattle.rules.specs.Names as names
-use Rattle.requests.specs.Texts.{over, changedOf, ChangesAs, OpensAs, openedAs, alone}
+use Rattle.requests.specs.Texts.{over, changedOf, ChangesAs, OpensAs, openedAs, opensText, alone}
 use Rattle.requests.specs.Texts as in-texts
 use Rattle.formatter.specs.declared.Opening.{Opening}
+use Rattle.formatter.specs.declared.Opened.{Opened}
 use Rattle.formatter.specs.Whole.{Texts, Registers, Whole, textColumns, registerColumns, whole, textsIn, openedIf, registersIn, stateIn, OpensIn, SoundWhole, KeptStore, Did}
 
 same-store : (w : Way) (st : List ℕ) → KeptStore w st st
@@ -277,3 +279,45 @@ module _ (act : State → Judged State) (q : Whole) (st' fs' ss' ks' ls' row : L
       opened-same (changed.Refused k) o' (refused-opening m k (q .opening) o' f)
       (λ x. let e = a .changes .kept in
       rw (e .0, e .1, e .2, e .3, e .4) (ap (λ (j : Judged State). settles j (stateIn q x)) (a .changes .is (q .desk .arena) (q .desk .ends) (stateIn q x)))) a
+
+-- the definition of a name is open, unless it was refused
+abbrev pub openedWith : Changed → Name → Opening → Opened
+openedWith (changed.Count n) k o = record { changed = changed.Count n; opening = record { there = true; name = k; length = 0 } }
+openedWith changed.Same k o = record { changed = changed.Same; opening = o }
+openedWith (changed.Refused n) k o = record { changed = changed.Refused n; opening = o }
+
+pub opening-with : (r : Changed) (k : Name) (o : Opening) → OpeningIs (one k) (openedWith r k o .changed) o (openedWith r k o .opening)
+opening-with (changed.Count n) k o = refl
+opening-with changed.Same k o = refl
+opening-with (changed.Refused n) k o = refl
+
+pub changed-with : (r : Changed) (k : Name) (o : Opening) → openedWith r k o .changed ≡ r
+changed-with (changed.Count n) k o = refl
+changed-with changed.Same k o = refl
+changed-with (changed.Refused n) k o = refl
+
+-- de without a name does nothing, and one of a name too long is refused
+module _ (st fs ss ks ls : List ℕ) (n : ℕ) (k : Stack) (l : List ℕ) (h : Lies st fs ss ks ls n) where
+  pub opens-nothing : nameOf l ≡ names.none → OpensAs st fs ss ks ls n k (nameOf l) (opensText l) changed.Same st fs ss ks ls
+  opens-nothing e = record {
+    changes = record {
+      is = λ bs ps x. let v = over k bs ps (textsOf st fs ss ks ls n) x in sym (ap (λ (m : Named). onName m v (openText v)) e);
+      good = λ bs ps g. g;
+      lies = h;
+      long = refl;
+      kept = (refl, refl, refl, refl, refl);
+    };
+    opens = tt;
+  }
+
+  pub opens-long : nameOf l ≡ tooLong → OpensAs st fs ss ks ls n k (nameOf l) (opensText l) (changed.Refused 7) st fs ss ks ls
+  opens-long e = record {
+    changes = record {
+      is = λ bs ps x. let v = over k bs ps (textsOf st fs ss ks ls n) x in sym (ap (λ (m : Named). onName m v (openText v)) e);
+      good = λ bs ps g. g;
+      lies = h;
+      long = refl;
+      kept = (refl, refl, refl, refl, refl);
+    };
+    opens = tt;
+  }

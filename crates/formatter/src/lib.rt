@@ -1,5 +1,6 @@
 // One piece of work on the whole state: requests on tables, from an expanded control line.
 use input::Stack;
+use lines::Named;
 use requests::Assigned;
 use requests::Changed;
 use requests::Plants;
@@ -12,9 +13,12 @@ ghost use Rattle.requests.specs.Registers.{AssignsAs};
 ghost use Rattle.requests.specs.Registers as registers;
 ghost use Rattle.requests.specs.Traps.{PlantsAs};
 ghost use Rattle.requests.specs.Traps as traps;
-ghost use Rattle.requests.specs.Texts.{ChangesAs, alone};
+ghost use Rattle.rules.specs.Names.{nameOf};
+ghost use Rattle.requests.specs.Texts.{ChangesAs, OpensAs, alone};
+ghost use Rattle.formatter.specs.WholeLaws.{OpeningIs, openedWith};
 ghost use Rattle.requests.specs.Texts as texts;
 ghost use Rattle.settings.specs.Layouts.{printerOf};
+ghost use mathlib.Core.Path.{_≡_};
 ghost use mathlib.Core.List.{[]};
 ghost use lib.ListN.{getD};
 ghost use Rattle.scan.specs.Parting.{Unread};
@@ -133,4 +137,64 @@ pub fn remove(
     let given = scan::arguments(line, 0, &mut *parts, &mut ends);
     let name = lines::argument(&*parts, &ends, given, 0);
     requests::remove(name, stack, store, firsts, seconds, kinds, lengths, count)
+}
+
+// What de leads to: the answer of the texts, and the definition that is open then.
+pub struct Opened {
+    pub changed: Changed,
+    pub opening: Opening,
+}
+
+// The definition of a name is open, unless it was refused.
+fn opened_as(changed: Changed, name: Name, opening: Opening) -> Opened
+    ensures { λ r. ⌜ r ≡ openedWith changed name opening ⌝ }
+{
+    match changed {
+        Changed::Count(_) => {
+            let empty = Opening {
+                there: true,
+                name,
+                length: 0,
+            };
+            Opened {
+                changed,
+                opening: empty,
+            }
+        }
+        Changed::Same => Opened { changed, opening },
+        Changed::Refused(_) => Opened { changed, opening },
+    }
+}
+
+// de of what its name is.
+fn open_named(
+    name: &[u8],
+    opening: Opening,
+    stack: Stack,
+    store: &mut [u8],
+    firsts: &mut [u8; 64],
+    seconds: &mut [u8; 64],
+    kinds: &mut [u8; 64],
+    lengths: &mut [u16; 64],
+    count: usize,
+) -> Opened
+    requires { ⌜ texts.Ready (now store) (now firsts) (now seconds) (now kinds) (now lengths) count stack ⌝ }
+    ensures { λ r. ⌜ OpensAs (now (store .entry)) (now (firsts .entry)) (now (seconds .entry)) (now (kinds .entry)) (now (lengths .entry)) count stack (nameOf (now (name .entry))) (texts.opensText (now (name .entry))) (r .changed) (now (store .exit)) (now (firsts .exit)) (now (seconds .exit)) (now (kinds .exit)) (now (lengths .exit)) × OpeningIs (nameOf (now (name .entry))) (r .changed) opening (r .opening) ⌝ }
+{
+    match lines::name_of(name) {
+        Named::One(known) => {
+            let changed = requests::open(
+                name, stack, store, firsts, seconds, kinds, lengths, count,
+            );
+            opened_as(changed, known, opening)
+        }
+        Named::Nothing => Opened {
+            changed: Changed::Same,
+            opening,
+        },
+        Named::TooLong => Opened {
+            changed: Changed::Refused(7),
+            opening,
+        },
+    }
 }
