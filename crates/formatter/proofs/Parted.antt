@@ -1,13 +1,17 @@
 -- Requests on tables by their arguments, and by the line that holds these. Assumes nothing.
-use mathlib.Core.Path.{_≡_, ap, _∙_}
+use mathlib.Core.Path.{_≡_, ap, _∙_, subst}
 use mathlib.Core.List.{List, []}
 use Prim.Native.Nat.{ℕ}
 use lib.ListN.{getD}
 use lib.IntN.{ℤ}
+use Rattle.rules.specs.Names.{nameOf}
 use Rattle.rules.specs.Refusals.{Judged}
+use Rattle.formatter.specs.declared.Opening.{Opening}
+use Rattle.formatter.specs.declared.Opened.{Opened}
+use Rattle.formatter.specs.WholeLaws.{OpeningIs}
 use Rattle.rules.specs.State.{State, withRegisters, withTraps}
 use Rattle.rules.specs.Acts.{argument, perform, plantTrap}
-use Rattle.rules.specs.declared.Unbreaking.the-variants.{Nr, Wh, Rm}
+use Rattle.rules.specs.declared.Unbreaking.the-variants.{Nr, Wh, Rm, De}
 use Rattle.registers.specs.Columns.{tableOf}
 use Rattle.texts.specs.Table.{textsOf}
 use Rattle.traps.specs.declared.Planted.{Planted}
@@ -23,7 +27,7 @@ use Rattle.requests.specs.declared.Plants.{Plants}
 use Rattle.requests.specs.declared.Changed.{Changed}
 use Rattle.requests.specs.Registers.{AssignsAs, assigns, assigns-nr}
 use Rattle.requests.specs.Traps.{PlantsAs, plants-wh}
-use Rattle.requests.specs.Texts.{over, ChangesAs, removes, removes-rm}
+use Rattle.requests.specs.Texts.{over, ChangesAs, OpensAs, opensText, removes, removes-rm, opens-de}
 
 -- the same registers by another name of the request
 pub assigned-as : {fs ss : List ℕ} {vs ts : List ℤ} {c : ℕ} {r : Assigned} {fs' ss' : List ℕ} {vs' ts' : List ℤ} (act act' : State → Judged State) → AssignsAs fs ss vs ts c act r fs' ss' vs' ts' → ((s : State) → act s ≡ act' s)
@@ -64,3 +68,16 @@ module _ (q : Printer) (line : List ℕ) (count : ℕ) (out ends : List ℕ) (p 
 
   pub removes-line : (m : List ℕ) → m ≡ given 0 → removes m s ≡ perform (printerOf q) Rm line s
   removes-line m e = ap (λ (y : List ℕ). removes y s) (e ∙ argument-is 0 p) ∙ removes-rm (printerOf q) line s
+
+-- de of a line whose arguments were parted
+pub opened-line : (q : Printer) (line : List ℕ) (count : ℕ) (out ends : List ℕ) → PartedAll line 0 count out ends → {st fs ss ks ls : List ℕ} {n : ℕ} {k : Stack} (r : Opened) {st' fs' ss' ks' ls' : List ℕ} (o : Opening) (m : List ℕ)
+    → m ≡ getD (argumentsOf out ends count) 0 []
+    → OpensAs st fs ss ks ls n k (nameOf m) (opensText m) (r .changed) st' fs' ss' ks' ls' × OpeningIs (nameOf m) (r .changed) o (r .opening)
+    → OpensAs st fs ss ks ls n k (nameOf (argument 0 line)) (λ s. perform (printerOf q) De line s) (r .changed) st' fs' ss' ks' ls' × OpeningIs (nameOf (argument 0 line)) (r .changed) o (r .opening)
+opened-line q line count out ends p {st} {fs} {ss} {ks} {ls} {n} {k} r {st'} {fs'} {ss'} {ks'} {ls'} o m e a =
+    let f : m ≡ argument 0 line = e ∙ argument-is 0 p in
+    let b : OpensAs st fs ss ks ls n k (nameOf (argument 0 line)) (opensText (argument 0 line)) (r .changed) st' fs' ss' ks' ls' =
+    subst (λ (v : List ℕ). OpensAs st fs ss ks ls n k (nameOf v) (opensText v) (r .changed) st' fs' ss' ks' ls') f (a .0) in (
+      record { changes = changed-as (opensText (argument 0 line)) (λ s. perform (printerOf q) De line s) (b .changes) (λ s. opens-de (printerOf q) line s); opens = b .opens },
+      subst (λ (v : List ℕ). OpeningIs (nameOf v) (r .changed) o (r .opening)) f (a .1),
+    )

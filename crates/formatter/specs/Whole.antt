@@ -5,8 +5,7 @@ use mathlib.Core.Option.{Option, none, some}
 use mathlib.Core.List.{List}
 use Prim.Native.Nat.{ℕ, _≤_}
 use lib.ListN.{length, take}
-use lib.IntN.{ℤ, pos}
-use Rattle.measure.specs.Counts.{acrossOf, downOf}
+use lib.IntN.{ℤ}
 use Rattle.stream.specs.Machine.{works}
 use Rattle.rules.specs.declared.Register.{Register}
 use Rattle.rules.specs.Texts.{Text}
@@ -19,7 +18,6 @@ use Rattle.texts.specs.Table.{textsOf, Lies}
 use Rattle.texts.specs.Changes.{bodyOf, Opens}
 use Rattle.traps.specs.declared.Planted.{Planted}
 use Rattle.traps.specs.Table.{plantedOf}
-use Rattle.input.specs.declared.Stack.{Stack}
 use Rattle.input.specs.Frames.{framesOf}
 use Rattle.input.specs.Items.{stackOf, Good}
 use Rattle.settings.specs.declared.Printer.{Printer}

@@ -2,44 +2,41 @@
 use mathlib.Core.Path.{_≡_, refl, sym, ap, _∙_, subst}
 use mathlib.Core.Bool.{Bool, true, false}
 use mathlib.Core.List.{List, []}
-use Prim.Native.Nat.{ℕ, zero, suc, _≤_, _<_}
+use Prim.Native.Nat.{ℕ, zero, suc, _≤_}
 use native.Mathlib.Omega.{arith}
-use lib.ListN.{length, take}
+use lib.ListN.{length}
 use lib.IntN.{ℤ}
 use Rattle.stream.specs.Machine.{works}
-use Rattle.rules.specs.Refusals.{Judged, value, bad}
+use Rattle.rules.specs.Refusals.{Judged}
 use Rattle.rules.specs.declared.Name.{Name}
 use Rattle.rules.specs.Texts.{Text}
-use Rattle.rules.specs.State.{State, input, tables, refuse, withRegisters, withTraps, withTexts, withStack}
+use Rattle.rules.specs.State.{State, input, tables}
 use Rattle.rules.specs.Rows.{Next, goes}
 use Rattle.rules.specs.Acts.{settles, onName, openText}
-use Rattle.registers.specs.Columns.{tableOf}
 use Rattle.texts.specs.Table.{textsOf, Lies}
 use Rattle.input.specs.declared.Stack.{Stack}
 use Rattle.traps.specs.declared.Planted.{Planted}
 use Rattle.traps.specs.Table.{plantedOf}
-use Rattle.input.specs.Items.{stackOf}
 use Rattle.springs.specs.declared.Way.{Way}
 use Rattle.springs.specs.declared.Way.the-variants.{On, Done, Refused}
-use Rattle.springs.specs.Held.{Fits}
 use Rattle.springs.specs.Calls.{closeBy}
 use Rattle.springs.proofs.Stacks.{fits-few}
-use Rattle.sheet.specs.Desk.{Desk, desk, stateAt, Sound, Worked}
+use Rattle.sheet.specs.Desk.{Desk, Worked}
 use Rattle.requests.specs.declared.Assigned.{Assigned}
 use Rattle.requests.specs.declared.Assigned.the-variants as assigned
 use Rattle.requests.specs.declared.Plants.{Plants}
 use Rattle.requests.specs.declared.Changed.{Changed}
 use Rattle.requests.specs.declared.Changed.the-variants as changed
-use Rattle.requests.specs.Registers.{assignedOf, AssignsAs}
+use Rattle.requests.specs.Registers.{AssignsAs}
 use Rattle.requests.specs.Registers as in-registers
 use Rattle.requests.specs.Traps.{plantsBy, PlantsAs}
 use Rattle.rules.specs.Names.{Named, one, tooLong, nameOf}
 use Rattle.rules.specs.Names as names
-use Rattle.requests.specs.Texts.{over, changedOf, ChangesAs, OpensAs, openedAs, opensText, alone}
+use Rattle.requests.specs.Texts.{over, ChangesAs, OpensAs, openedAs, opensText, alone}
 use Rattle.requests.specs.Texts as in-texts
 use Rattle.formatter.specs.declared.Opening.{Opening}
 use Rattle.formatter.specs.declared.Opened.{Opened}
-use Rattle.formatter.specs.Whole.{Texts, Registers, Whole, textColumns, registerColumns, whole, textsIn, openedIf, registersIn, stateIn, OpensIn, SoundWhole, KeptStore, Did}
+use Rattle.formatter.specs.Whole.{Texts, Whole, textColumns, registerColumns, whole, textsIn, openedIf, registersIn, stateIn, OpensIn, SoundWhole, KeptStore, Did}
 
 same-store : (w : Way) (st : List ℕ) → KeptStore w st st
 same-store On st = tt
@@ -248,8 +245,8 @@ module _ (act : State → Judged State) (q : Whole) (st' fs' ss' ks' ls' row : L
       → Did (λ v. settles (act v) v) q On 0 (opened-whole (changed.Count n) o') row
   opened-new o' n k e f a = subst (λ (o : Opening). Did (λ v. settles (act v) v) q On 0 (opened-whole (changed.Count n) o) row) (sym f) (record {
     is = λ x.
-      sym (ap (λ (h : Named). goes (openedAs h (over (q .desk .stack) (q .desk .arena) (q .desk .ends) (textsOf st' fs' ss' ks' ls' n) (stateIn q x)))) e)
-      ∙ ap (λ (j : Judged State). settles j (stateIn q x)) (a .changes .is (q .desk .arena) (q .desk .ends) (stateIn q x));
+        sym (ap (λ (h : Named). goes (openedAs h (over (q .desk .stack) (q .desk .arena) (q .desk .ends) (textsOf st' fs' ss' ks' ls' n) (stateIn q x)))) e)
+        ∙ ap (λ (j : Judged State). settles j (stateIn q x)) (a .changes .is (q .desk .arena) (q .desk .ends) (stateIn q x));
     sound = record {
       sheet = s .sheet;
       lies = a .changes .lies;

@@ -7,8 +7,8 @@ use requests::Plants;
 use rules::Name;
 use settings::Printer;
 use traps::Planted;
-ghost use Rattle.rules.specs.Acts.{perform};
-ghost use Rattle.rules.specs.declared.Unbreaking.the-variants.{Nr, Wh, Rm};
+ghost use Rattle.rules.specs.Acts.{argument, perform};
+ghost use Rattle.rules.specs.declared.Unbreaking.the-variants.{Nr, Wh, Rm, De};
 ghost use Rattle.requests.specs.Registers.{AssignsAs};
 ghost use Rattle.requests.specs.Registers as registers;
 ghost use Rattle.requests.specs.Traps.{PlantsAs};
@@ -184,7 +184,14 @@ fn open_named(
     match lines::name_of(name) {
         Named::One(known) => {
             let changed = requests::open(
-                name, stack, store, firsts, seconds, kinds, lengths, count,
+                name,
+                stack,
+                store,
+                firsts,
+                seconds,
+                kinds,
+                lengths,
+                count,
             );
             opened_as(changed, known, opening)
         }
@@ -197,4 +204,37 @@ fn open_named(
             opening,
         },
     }
+}
+
+// de, by what follows its name.
+pub fn open(
+    line: &[u8],
+    parts: &mut [u8; 512],
+    printer: Printer,
+    opening: Opening,
+    stack: Stack,
+    store: &mut [u8],
+    firsts: &mut [u8; 64],
+    seconds: &mut [u8; 64],
+    kinds: &mut [u8; 64],
+    lengths: &mut [u16; 64],
+    count: usize,
+) -> Opened
+    requires { ⌜ texts.Ready (now store) (now firsts) (now seconds) (now kinds) (now lengths) count stack × Unread (now line) 0 (now parts) 0 ⌝ }
+    ensures { λ r. ⌜ OpensAs (now (store .entry)) (now (firsts .entry)) (now (seconds .entry)) (now (kinds .entry)) (now (lengths .entry)) count stack (nameOf (argument 0 (now (line .entry)))) (λ s. perform (printerOf printer) De (now (line .entry)) s) (r .changed) (now (store .exit)) (now (firsts .exit)) (now (seconds .exit)) (now (kinds .exit)) (now (lengths .exit)) × OpeningIs (nameOf (argument 0 (now (line .entry)))) (r .changed) opening (r .opening) ⌝ }
+{
+    let mut ends = [0u16; 9];
+    let given = scan::arguments(line, 0, &mut *parts, &mut ends);
+    let name = lines::argument(&*parts, &ends, given, 0);
+    open_named(
+        name,
+        opening,
+        stack,
+        store,
+        firsts,
+        seconds,
+        kinds,
+        lengths,
+        count,
+    )
 }

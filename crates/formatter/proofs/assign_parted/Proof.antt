@@ -1,6 +1,4 @@
 -- `formatter::assign_parted` meets its contract. Assumes nothing.
-use mathlib.Core.Path.{_≡_}
-use denote.Ref.{now}
 use borrow.Author.Needs.{needs}
 use Rattle.formatter.proofs.Parted.{assigned-as, assigns-known}
 use Rattle.formatter.proofs.assign_parted.Statement.{statement}

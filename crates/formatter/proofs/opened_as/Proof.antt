@@ -1,5 +1,4 @@
 -- `formatter::opened_as` meets its contract. Assumes nothing.
-use mathlib.Core.Path.{_≡_, refl}
 use borrow.Author.Needs.{needs}
 use Rattle.formatter.proofs.opened_as.Statement.{statement}
 use Rattle.formatter.proofs.opened_as.Tie as tie

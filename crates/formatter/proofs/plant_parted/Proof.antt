@@ -1,6 +1,4 @@
 -- `formatter::plant_parted` meets its contract. Assumes nothing.
-use mathlib.Core.Path.{_≡_}
-use denote.Ref.{now}
 use borrow.Author.Needs.{needs}
 use Rattle.formatter.proofs.Parted.{planted-as, plants-known}
 use Rattle.formatter.proofs.plant_parted.Statement.{statement}
