@@ -1,7 +1,7 @@
 -- Requests that neither break nor change a table, and texts that are called, as pieces of work. Assumes nothing.
 use mathlib.Core.Path.{_≡_, refl, sym, ap, _∙_}
 use mathlib.Core.Bool.{Bool, true, false, not, false≢true}
-use mathlib.Core.Option.{Option, none, some}
+use mathlib.Core.Option.{Option, some}
 use mathlib.Core.List.{List, [], _∷_}
 use Prim.Native.Nat.{ℕ, _-_, _≤_, _<_}
 use native.Mathlib.Omega.{arith}
@@ -14,11 +14,10 @@ use Rattle.rules.specs.declared.Unbreaking.{Unbreaking}
 use Rattle.rules.specs.declared.Unbreaking.the-variants.{Pl, Po, Ll, Ad, Na, Nr, De, Rm, Wh, If}
 use Rattle.rules.specs.Bytes.{byte}
 use Rattle.rules.specs.Printers as printers
-use Rattle.rules.specs.Refusals.{Judged, value, bad, _>>=_}
+use Rattle.rules.specs.Refusals.{Judged, value, _>>=_}
 use Rattle.rules.specs.Texts.{Text, textOf}
 use Rattle.rules.specs.Arguments.{Part, arguments, condition}
 use Rattle.rules.specs.State.{State, Item, again, withStack, withLayout}
-use Rattle.rules.specs.State as state
 use Rattle.rules.specs.Settings as rule
 use Rattle.rules.specs.Rows.{Next, goes, call}
 use Rattle.rules.specs.Lines.{lineOf, simplyHolds, holdsIf, holds}
@@ -39,7 +38,7 @@ use Rattle.settings.specs.declared.NewLayout.{NewLayout}
 use Rattle.settings.specs.declared.NewLayout.the-variants.{Is, Malformed, OutOfRange}
 use Rattle.settings.specs.declared.Condition as settings
 use Rattle.settings.specs.Views.{printer, conditionIs}
-use Rattle.settings.specs.Layouts.{printerOf, newLayoutIs, performedOf, Performed}
+use Rattle.settings.specs.Layouts.{printerOf, newLayoutIs, Performed}
 use Rattle.settings.specs.LayoutLaws.{of-new, layoutKeeps, performed-is}
 use Rattle.input.specs.declared.What.{What}
 use Rattle.input.specs.declared.Stack.{Stack}
@@ -50,11 +49,10 @@ use Rattle.springs.specs.declared.Called.{Called}
 use Rattle.springs.specs.declared.Held.the-variants as held
 use Rattle.springs.specs.declared.Way.the-variants.{On}
 use Rattle.springs.specs.Held.{noEnds, isText, HeldTo}
-use Rattle.springs.specs.Calls.{closeBy, wayIf, CalledTo}
+use Rattle.springs.specs.Calls.{wayIf, CalledTo}
 use Rattle.springs.proofs.Stacks.{fits-few, over-items, over-good, over-fits}
 use Rattle.sheet.specs.declared.Collected.{Collected}
-use Rattle.sheet.specs.declared.Outcome.{Outcome}
-use Rattle.sheet.specs.Desk.{Desk, desk, stateAt, Sound, Worked}
+use Rattle.sheet.specs.Desk.{desk, stateAt, Sound, Worked}
 use Rattle.keeping.specs.Keeping.{isIf, isKept, changedTo, followed, Followed, calledText, Known}
 
 -- all bytes from a place on
@@ -112,7 +110,7 @@ module _ (p : Printer) (line : List ℕ) (r : Condition) (h : ConditionAt line 0
   unfolding perform
   if-is = ap (λ (c : Part). settles (ifLine (printerOf p) (c .part) (c .rest) s) s) (h .is)
 
-  -- "`.if` alone does nothing"
+  -- `.if` alone does nothing
   pub if-none : r .from ≡ r .to → goes s ≡ settles (perform (printerOf p) If line s) s
   if-none e =
       let z : r .to - r .from ≡ 0 = omega arith in

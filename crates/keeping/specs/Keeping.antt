@@ -60,7 +60,7 @@ isKept If = true
 abbrev pub stayed : Way → Layout → Page → Collected → Stack → Outcome
 stayed w y g c s = record { way = w; layout = y; page = g; collected = c; stack = s; written = 0 }
 
--- a new layout, or "6: malformed number" and "7: value out of range"
+-- a new layout, or "6: number malformed" and "7: value out of range"
 abbrev pub changedTo : NewLayout → Layout → Page → Collected → Stack → Outcome
 changedTo (Is z) y g c s = stayed On z g c s
 changedTo Malformed y g c s = stayed (Refused 6) y g c s

@@ -62,7 +62,7 @@ fn new_layout(
     settings::perform(request, layout, used, first, printer)
 }
 
-// The layout is the new one, or "6: malformed number" and "7: value out of range".
+// The layout is the new one, or "6: number malformed" and "7: value out of range".
 fn change(new: NewLayout, layout: Layout, page: Page, collected: Collected, stack: Stack) -> Outcome
     ensures { λ r. ⌜ r ≡ changedTo new layout page collected stack ⌝ }
 {
@@ -94,7 +94,7 @@ fn follow(rest: &[u8], stack: Stack, arena: &mut [u8; 8704], ends: &mut [u16; 15
     }
 }
 
-// "`.if` alone does nothing"; a condition that is none earns 6.
+// if: without a condition it does nothing; "anything else earns 6".
 fn keep_if(
     line: &[u8],
     printer: Printer,

@@ -1,5 +1,4 @@
 -- `keeping::call` meets its contract. Assumes nothing.
-use native.Mathlib.Omega.{arith}
 use denote.Ref.{now}
 use borrow.Author.Needs.{needs}
 use Rattle.keeping.proofs.Keeps.{calls-text}

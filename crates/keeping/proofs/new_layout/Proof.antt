@@ -1,5 +1,4 @@
 -- `keeping::new_layout` meets its contract. Assumes nothing.
-use mathlib.Core.Path.{sym, _∙_}
 use borrow.Author.Needs.{needs}
 use Rattle.lines.specs.Places.{argument-is}
 use Rattle.keeping.proofs.new_layout.Statement.{statement}
