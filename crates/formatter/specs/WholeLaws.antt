@@ -99,7 +99,7 @@ pub plant-did : (act : State → Judged State) (q : Whole) (r : Plants) (row : L
 plant-did act q r row s d l a = record {
   is = λ x. go (r .refused) refl x;
   sound = record {
-    sheet = record { limits = s .sheet .limits; above = s .sheet .above; few = a .within; line = s .sheet .line; indent = s .sheet .indent; next = s .sheet .next; columns = s .sheet .columns };
+    sheet = record { limits = s .sheet .limits; above = s .sheet .above; numbered = s .sheet .numbered; few = a .within; line = s .sheet .line; indent = s .sheet .indent; next = s .sheet .next; columns = s .sheet .columns };
     lies = s .lies;
     store = s .store;
     good = s .good;

@@ -182,7 +182,7 @@ module _ (fs ss : List ℕ) (n : ℕ) (planted : Planted) (y : Layout) (g : Page
   sets p q line (Is z) t e = record {
     is = λ st ks ls i x. set-law p q line (Is z) t e (textsOf st fs ss ks ls n) x;
     good = λ st ks ls i h. h;
-    sound = record { limits = of-new (Is z) z (t .limits) refl; above = of-new (Is z) z (t .above (s .above)) refl; few = s .few; line = s .line; indent = s .indent; next = s .next; columns = s .columns };
+    sound = record { limits = of-new (Is z) z (t .limits) refl; above = of-new (Is z) z (t .above (s .above)) refl; numbered = s .numbered; few = s .few; line = s .line; indent = s .indent; next = s .next; columns = s .columns };
     fits = fits-few k few;
     few = omega arith;
     long = long;
@@ -213,7 +213,7 @@ module _ (fs ss : List ℕ) (n : ℕ) (planted : Planted) (y : Layout) (g : Page
         let ts = textsOf st fs ss ks ls n in let v = stateAt ts (plantedOf planted) (desk y g c cells k arena ends) x in
         ap (λ (q : List Item). goes (withStack q v)) (f .is ts) ∙ follows-is rest v ∙ law ts x;
     good = λ st ks ls i h. f .good (textsOf st fs ss ks ls n) h;
-    sound = record { limits = s .limits; above = s .above; few = s .few; line = s .line; indent = s .indent; next = s .next; columns = f .columns };
+    sound = record { limits = s .limits; above = s .above; numbered = s .numbered; few = s .few; line = s .line; indent = s .indent; next = s .next; columns = f .columns };
     fits = f .fits;
     few = omega arith;
     long = long;
@@ -230,7 +230,7 @@ module _ (fs ss : List ℕ) (n : ℕ) (planted : Planted) (y : Layout) (g : Page
         ∙ ap (λ (l : List (List ℕ)). goes (call (u .0) l [] v)) e
         ∙ sym (ap (λ (o : Option Text). goes (calledText o line v)) (u .1));
     good = λ st ks ls i q. let u = known-text m st fs ss ks ls n h i in t .good (textsOf st fs ss ks ls n) (u .0) (u .1) q;
-    sound = record { limits = s .limits; above = s .above; few = s .few; line = s .line; indent = s .indent; next = s .next; columns = t .columns };
+    sound = record { limits = s .limits; above = s .above; numbered = s .numbered; few = s .few; line = s .line; indent = s .indent; next = s .next; columns = t .columns };
     fits = fits-few (r .stack) (t .few);
     few = omega arith;
     long = long;

@@ -49,6 +49,7 @@ pub cleared : (planted : Planted) (d : Desk) → Sound planted d → Sound plant
 cleared planted d s = record {
   limits = s .limits;
   above = s .above;
+  numbered = s .numbered;
   few = s .few;
   line = record { long = s .line .long; few = omega arith; narrow = omega arith };
   indent = omega arith;
@@ -70,7 +71,7 @@ module _ (fs ss : List ℕ) (n : ℕ) (planted : Planted) (d : Desk) (rule : Lis
         ∙ ap (works text) (t .is st ks ls i (stateAt ts ps (withLine c d) x))
         ∙ law ts x;
     good = t .good;
-    sound = record { limits = s .limits; above = t .within; few = s .few; line = s .line; indent = s .indent; next = s .next; columns = t .columns };
+    sound = record { limits = s .limits; above = t .within; numbered = t .numbered (s .numbered); few = s .few; line = s .line; indent = s .indent; next = s .next; columns = t .columns };
     fits = t .fits;
     few = few;
     long = p .long ∙ long;
@@ -181,4 +182,4 @@ module _ (d : Desk) (ps : List Trap) (ts : List Text) (x : State) where
 
 -- the end begins on the same row
 pub last-sound : (planted : Planted) (d : Desk) → Sound planted d → Sound planted (onPage (lastOf (d .page)) d)
-last-sound planted d s = record { limits = s .limits; above = s .above; few = s .few; line = s .line; indent = s .indent; next = s .next; columns = s .columns }
+last-sound planted d s = record { limits = s .limits; above = s .above; numbered = s .numbered; few = s .few; line = s .line; indent = s .indent; next = s .next; columns = s .columns }

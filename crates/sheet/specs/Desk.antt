@@ -84,6 +84,7 @@ stateAt ts ps d x = record {
 pub record Sound (planted : Planted) (d : Desk) : Type 0 where
   pub limits : Limits (layoutOf (d .layout))
   pub above : downOf (d .page .used) < downOf (d .layout .page)
+  pub numbered : d .page .number ≤ 1000000
   pub few : traps.Within planted
   pub line : Line (d .cells) (d .collected .length) (acrossOf (d .collected .room))
   pub indent : acrossOf (d .collected .indent) ≤ 239

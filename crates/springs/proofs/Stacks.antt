@@ -39,7 +39,7 @@ use Rattle.page.specs.Landing.{Landing, on, pageOf}
 use Rattle.page.specs.Landing as landing
 use Rattle.page.specs.LandingLaws.{landed}
 use Rattle.springs.specs.Held.{noEnds, heldFrames, heldOf, heldCount, lastCount, isText, Plain, limitBy, Fits, Ready, HeldTo}
-use Rattle.springs.specs.Calls.{closeBy, wayIf, CalledTo, SprungTo, standing, landedFrom, LandsWithin, LandedTo, MovedTo}
+use Rattle.springs.specs.Calls.{closeBy, wayIf, CalledTo, SprungTo, standing, landedFrom, LandsWithin, LandsNumbered, LandedTo, MovedTo}
 
 -- A text that is found has the name that was looked for.
 pub found-name : (n : Name) (ts : List Text) (t : Text) → textOf n ts ≡ some t → t .name ≡ n
@@ -201,24 +201,25 @@ module _ (page : Page) (h : Held) (bytes : List ℕ) (s : Stack) (arena ends fs 
     columns = t .columns;
     fits = t .fits;
     within = λ pl a b. b;
+    numbered = λ a b. b;
   }
 
   module _ (k : Columns s arena ends) (d : s .depth ≤ 16) where
     -- the end is done
     pub landed-done : LandedTo landing.done page h bytes s arena ends fs ss n (record { way = Done; page = page; stack = s }) arena ends
-    landed-done = record { is = λ st ks ls i ps pl x. refl; good = λ st ks ls i g. g; columns = k; fits = fits-few s d; within = λ pl a b. a }
+    landed-done = record { is = λ st ks ls i ps pl x. refl; good = λ st ks ls i g. g; columns = k; fits = fits-few s d; within = λ pl a b. a; numbered = λ a b. a }
 
     -- a page too many
     pub landed-past : LandedTo landing.tooMany page h bytes s arena ends fs ss n (record { way = Refused 12; page = page; stack = s }) arena ends
-    landed-past = record { is = λ st ks ls i ps pl x. refl; good = λ st ks ls i g. g; columns = k; fits = fits-few s d; within = λ pl a b. a }
+    landed-past = record { is = λ st ks ls i ps pl x. refl; good = λ st ks ls i g. g; columns = k; fits = fits-few s d; within = λ pl a b. a; numbered = λ a b. a }
 
 -- a move that leads where a landing says is the rules' move
 pub moved : (l : Landing) (move : List Item → State → State) (page : Page) (length : Rows) (planted : Planted) (h : Held) (bytes : List ℕ) (s : Stack) (arena ends fs ss : List ℕ) (n : ℕ) (r : Landed) (arena' ends' : List ℕ)
     → LandedTo l page h bytes s arena ends fs ss n r arena' ends'
     → ((held : List Item) (x : State) → x .page ≡ pageOf page → x .layout .page ≡ downOf length → x .tables .traps ≡ plantedOf planted → landed l held x ≡ move held x)
-    → downOf (page .used) < downOf length → LandsWithin (downOf length) l
+    → downOf (page .used) < downOf length → LandsWithin (downOf length) l → (page .number ≤ 1000000 → LandsNumbered l)
     → MovedTo move page length planted h bytes s arena ends fs ss n r arena' ends'
-moved l move page length planted h bytes s arena ends fs ss n r arena' ends' t law u w = record {
+moved l move page length planted h bytes s arena ends fs ss n r arena' ends' t law u w v = record {
   is = λ st ks ls i x.
       let ts = textsOf st fs ss ks ls n in
       t .is st ks ls i (plantedOf planted) (downOf length) x
@@ -227,4 +228,5 @@ moved l move page length planted h bytes s arena ends fs ss n r arena' ends' t l
   columns = t .columns;
   fits = t .fits;
   within = t .within (downOf length) u w;
+  numbered = λ a. t .numbered a (v a);
 }

@@ -86,6 +86,12 @@ LandsWithin pl (landing.on p f) = p .used < pl
 LandsWithin pl landing.done = Unit
 LandsWithin pl landing.tooMany = Unit
 
+-- "past 1,000,000 .. pages": no page has a number past it
+abbrev pub LandsNumbered : Landing → Type 0
+LandsNumbered (landing.on p f) = p .number ≤ 1000000
+LandsNumbered landing.done = Unit
+LandsNumbered landing.tooMany = Unit
+
 -- a move down leads where the landing says
 pub record LandedTo (l : Landing) (page : Page) (h : Held) (bytes : List ℕ) (s : Stack) (arena ends fs ss : List ℕ) (n : ℕ) (r : Landed) (arena' ends' : List ℕ) : Type 0 where
   pub is : (st ks ls : List ℕ) → Lies st fs ss ks ls n → (ps : List Trap) (pl : ℕ) (x : State)
@@ -95,6 +101,7 @@ pub record LandedTo (l : Landing) (page : Page) (h : Held) (bytes : List ℕ) (s
   pub columns : Columns (r .stack) arena' ends'
   pub fits : Fits (r .stack)
   pub within : (pl : ℕ) → downOf (page .used) < pl → LandsWithin pl l → downOf (r .page .used) < pl
+  pub numbered : page .number ≤ 1000000 → LandsNumbered l → r .page .number ≤ 1000000
 
 -- a move is made as the rules say, from a row of a page to one
 pub record MovedTo (move : List Item → State → State) (page : Page) (length : Rows) (planted : Planted) (h : Held) (bytes : List ℕ) (s : Stack) (arena ends fs ss : List ℕ) (n : ℕ) (r : Landed) (arena' ends' : List ℕ) : Type 0 where
@@ -105,3 +112,4 @@ pub record MovedTo (move : List Item → State → State) (page : Page) (length 
   pub columns : Columns (r .stack) arena' ends'
   pub fits : Fits (r .stack)
   pub within : downOf (r .page .used) < downOf length
+  pub numbered : page .number ≤ 1000000 → r .page .number ≤ 1000000

@@ -39,16 +39,16 @@ module _ (rule : List Text → State → Next) (fs ss : List ℕ) (k : ℕ) (pla
     pub moves-on : (text row : List ℕ) (written : ℕ) → take written row ≡ text → written ≤ 872 → length row ≡ 872
         → ((ts : List Text) (x : State) → rule ts (stateAt ts (plantedOf planted) d x)
         ≡ works text (down n (heldOf ts h bytes) (stateAt ts (plantedOf planted) (desk y (d .page) c cells (d .stack) (d .arena) (d .ends)) x)))
-        → Limits (layoutOf y) → traps.Within planted → Line cells (c .length) (acrossOf (c .room)) → acrossOf (c .indent) ≤ 239 → c .next ≤ 2
+        → Limits (layoutOf y) → d .page .number ≤ 1000000 → traps.Within planted → Line cells (c .length) (acrossOf (c .room)) → acrossOf (c .indent) ≤ 239 → c .next ≤ 2
         → Worked rule fs ss k planted d (r .way) written (desk y (r .page) c cells (r .stack) arena ends) row
-    moves-on text row written e few long law limits within line indent next = record {
+    moves-on text row written e few long law limits number within line indent next = record {
       is = λ st ks ls i x.
           let ts = textsOf st fs ss ks ls k in
           ap (λ (t : List ℕ). works t (closeBy (r .way) (stateAt ts (plantedOf planted) (desk y (r .page) c cells (r .stack) arena ends) x))) e
           ∙ ap (works text) (m .is st ks ls i (stateAt ts (plantedOf planted) (desk y (d .page) c cells (d .stack) (d .arena) (d .ends)) x))
           ∙ sym (law ts x);
       good = m .good;
-      sound = record { limits = limits; above = m .within; few = within; line = line; indent = indent; next = next; columns = m .columns };
+      sound = record { limits = limits; above = m .within; numbered = m .numbered number; few = within; line = line; indent = indent; next = next; columns = m .columns };
       fits = m .fits;
       few = few;
       long = long;

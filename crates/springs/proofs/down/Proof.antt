@@ -7,8 +7,8 @@ use Rattle.measure.specs.Counts.{downOf}
 use Rattle.traps.specs.Table.{plantedOf}
 use Rattle.page.specs.Landing.{Landing, pageOf, landingIs, landingDown}
 use Rattle.page.specs.LandingLaws.{landed, down-lands}
-use Rattle.springs.specs.Calls.{LandsWithin}
-use Rattle.springs.specs.MoveLaws.{down-within}
+use Rattle.springs.specs.Calls.{LandsWithin, LandsNumbered}
+use Rattle.springs.specs.MoveLaws.{down-within, down-numbered}
 use Rattle.rules.specs.Rows as rule
 use Rattle.springs.proofs.Stacks.{moved}
 use Rattle.springs.proofs.down.Statement.{statement}
@@ -29,6 +29,7 @@ returns c =
     ap (λ (l : Landing). landed l held x) q ∙ down-lands held x (a .rows))
     (y .pre .0 .above)
     (subst (LandsWithin (downOf (a .length))) (sym (m .ensures)) (down-within (pageOf (a .page)) (downOf (a .length)) (plantedOf (a .planted)) (y .pre .0 .above) (a .rows)))
+    (λ h. subst LandsNumbered (sym (m .ensures)) (down-numbered (pageOf (a .page)) (downOf (a .length)) (plantedOf (a .planted)) h (a .rows)))
 
 pub down-spec : {M : Type 1} → statement M
 down-spec = tie.close (tie.spec move-down-requires land-requires returns)

@@ -7,8 +7,8 @@ use Rattle.measure.specs.Counts.{downOf}
 use Rattle.traps.specs.Table.{plantedOf}
 use Rattle.page.specs.Landing.{Landing, pageOf, landingIs, landingNext}
 use Rattle.page.specs.LandingLaws.{landed, next-lands}
-use Rattle.springs.specs.Calls.{LandsWithin}
-use Rattle.springs.specs.MoveLaws.{next-within}
+use Rattle.springs.specs.Calls.{LandsWithin, LandsNumbered}
+use Rattle.springs.specs.MoveLaws.{next-within, next-numbered}
 use Rattle.rules.specs.Rows as rule
 use Rattle.springs.proofs.Stacks.{moved}
 use Rattle.springs.proofs.start_page.Statement.{statement}
@@ -29,6 +29,7 @@ returns c =
     ap (λ (l : Landing). landed l held x) q ∙ next-lands held x)
     (y .pre .0 .above)
     (subst (LandsWithin (downOf (a .length))) (sym (m .ensures)) (next-within (pageOf (a .page)) (downOf (a .length)) (plantedOf (a .planted)) (y .pre .0 .above)))
+    (λ h. subst LandsNumbered (sym (m .ensures)) (next-numbered (pageOf (a .page)) (downOf (a .length)) (plantedOf (a .planted)) h))
 
 pub start-page-spec : {M : Type 1} → statement M
 start-page-spec = tie.close (tie.spec start-page-requires land-requires returns)

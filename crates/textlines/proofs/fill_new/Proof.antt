@@ -45,6 +45,7 @@ fill-placed-requires c κs =
         sound = record {
           limits = u .ensures .limits;
           above = rw (ap (λ (v : rule.Layout). v .page) (u .ensures .is)) (b .sound .above);
+          numbered = b .sound .numbered;
           few = b .sound .few;
           line = record { long = p .cells .long; few = n .ensures .1 .few; narrow = p .cells .narrow };
           indent = rw (i .ensures) (indent-most (layoutOf (a .layout)) (b .sound .limits));

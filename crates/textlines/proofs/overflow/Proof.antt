@@ -80,7 +80,7 @@ returns c =
     (u .ensures .is) (h .ensures) (l .ensures)
     (ap some (line-begun (layoutOf (a .layout)) (i .result) (r .result) _ (n .result) (g .result) (nextGap ws (a .gap)) (a .o .gap) (part (now (a .line)) (a .o .from) (a .o .to)) (i .ensures) (r .ensures .is) (written-front _ _ _ _ (n .ensures .0) (omega (arith, n .ensures .1 .few, q .collected .long))) (g .ensures)))
     refl)
-    (u .ensures .limits) (b .sound .few)
+    (u .ensures .limits) (b .sound .numbered) (b .sound .few)
     (record { long = n .ensures .1 .long; few = n .ensures .1 .few; narrow = omega (arith, r .ensures .most) })
     (rw (i .ensures) (indent-most (layoutOf (a .layout)) (b .sound .limits)))
     (rw (g .ensures) (gap-small ws (a .gap) (q .small))))

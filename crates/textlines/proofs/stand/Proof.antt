@@ -62,7 +62,7 @@ returns c =
     (rw (i .ensures, r .ensures .is) at t ∙ standing-is (layoutOf (a .layout)) ws)
     (w .ensures .1) (w .ensures .0 .long ∙ b .long)
     (λ ts x. line-stands ts (plantedOf (a .planted)) (a .layout) (a .page) (a .collected) (now (a .cells)) (a .stack) (now (a .arena)) (now (a .ends)) 0 x (u .result) ws (part (now (a .line)) 0 (a .to)) (standingRow (layoutOf (a .layout)) ws) (now (l .result)) (u .ensures .is) refl)
-    (u .ensures .limits) (b .sound .few) (b .sound .line) (b .sound .indent) (b .sound .next))
+    (u .ensures .limits) (b .sound .numbered) (b .sound .few) (b .sound .line) (b .sound .indent) (b .sound .next))
 
 pub stand-spec : {M : Type 1} → statement M
 stand-spec =
