@@ -1,14 +1,19 @@
 -- The whole state as the code holds it, and what it means that a piece of work on it is done as the rules say. Assumes nothing.
-use mathlib.Core.Path.{_≡_}
+use mathlib.Core.Path.{_≡_, refl}
 use mathlib.Core.Bool.{Bool, true, false}
 use mathlib.Core.Option.{Option, none, some}
 use mathlib.Core.List.{List}
-use Prim.Native.Nat.{ℕ, _≤_}
+use Prim.Native.Nat.{ℕ, _*_, _≤_}
 use lib.ListN.{length, take}
-use lib.IntN.{ℤ}
+use lib.IntN.{ℤ, pos}
 use Rattle.stream.specs.Machine.{works}
 use Rattle.rules.specs.declared.Register.{Register}
 use Rattle.rules.specs.Texts.{Text}
+use Rattle.rules.specs.Printers as printers
+use Rattle.rules.specs.Settings as settings
+use Rattle.rules.specs.Traps as traps
+use Rattle.rules.specs.Registers.{Seen}
+use Rattle.rules.specs.Escapes.{Surroundings}
 use Rattle.rules.specs.State.{State, Definition, input, tables, seen}
 use Rattle.rules.specs.Rows.{Next}
 use Rattle.registers.specs.declared.Shown.{Shown}
@@ -21,7 +26,7 @@ use Rattle.traps.specs.Table.{plantedOf}
 use Rattle.input.specs.Frames.{framesOf}
 use Rattle.input.specs.Items.{stackOf, Good}
 use Rattle.settings.specs.declared.Printer.{Printer}
-use Rattle.settings.specs.Layouts.{layoutOf, printerOf}
+use Rattle.settings.specs.Layouts.{layoutOf, Limits}
 use Rattle.page.specs.Landing.{pageOf}
 use Rattle.springs.specs.declared.Way.{Way}
 use Rattle.springs.specs.declared.Way.the-variants.{On, Done, Refused}
@@ -116,13 +121,26 @@ pub record Did (rule : State → Next) (q : Whole) (w : Way) (written : ℕ) (q'
   pub long : length row' ≡ 872
   pub kept : KeptStore w (q .texts .store) (q' .texts .store)
 
--- what the read-only registers show in a state with this layout and page
-abbrev pub ShownTo : Shown → Printer → Desk → Type 0
-ShownTo r p d = (x : State) → seenOf r ≡ seen (printerOf p) (record {
-  input = x .input;
-  tables = x .tables;
-  layout = layoutOf (d .layout);
-  page = pageOf (d .page);
-  collected = x .collected;
-  closing = x .closing;
-})
+-- what the read-only registers show with these settings on this page
+abbrev pub seenAt : printers.Printer → settings.Layout → traps.Page → Seen
+seenAt p y g = record {
+  page = pos (g .number);
+  rows = pos (g .used * p .pitch .row);
+  length = pos (y .line .now * p .pitch .cell);
+  indent = pos (y .indent .now * p .pitch .cell);
+  pageLength = pos (y .page * p .pitch .row);
+}
+
+-- That is what they show in a state.
+pub seen-in : (p : printers.Printer) (s : State) → seenAt p (s .layout) (s .page) ≡ seen p s
+seen-in p s = refl
+
+-- what a line is expanded with, in a state with these parts
+abbrev pub surroundings : printers.Printer → settings.Layout → traps.Page → List Text → (arguments : List (List ℕ)) → Surroundings
+surroundings p y g ts args = record { seen = seenAt p y g; texts = ts; arguments = args }
+
+-- the settings and the page are within their ranges
+pub record Shows (y : settings.Layout) (g : traps.Page) : Type 0 where
+  pub limits : Limits y
+  pub used : g .used ≤ 500
+  pub number : g .number ≤ 1000000

@@ -1,10 +1,13 @@
 // One piece of work on the whole state: requests on tables, from an expanded control line.
 use input::Stack;
 use lines::Named;
+use page::Page;
+use registers::Shown;
 use requests::Assigned;
 use requests::Changed;
 use requests::Plants;
 use rules::Name;
+use settings::Layout;
 use settings::Printer;
 use traps::Planted;
 ghost use Rattle.rules.specs.Acts.{argument, perform};
@@ -17,9 +20,14 @@ ghost use Rattle.rules.specs.Names.{nameOf};
 ghost use Rattle.requests.specs.Texts.{ChangesAs, OpensAs, alone};
 ghost use Rattle.formatter.specs.WholeLaws.{OpeningIs, openedWith};
 ghost use Rattle.requests.specs.Texts as texts;
-ghost use Rattle.settings.specs.Layouts.{printerOf};
+ghost use Rattle.settings.specs.Layouts.{printerOf, layoutOf};
+ghost use Rattle.page.specs.Landing.{pageOf};
+ghost use Rattle.registers.specs.ReadOnly.{seenOf};
+ghost use Rattle.formatter.specs.Whole.{seenAt, Shows};
 ghost use mathlib.Core.Path.{_≡_};
 ghost use mathlib.Core.List.{[]};
+ghost use Prim.Native.Nat.{_*_, _≤_};
+ghost use lib.IntN.{pos};
 ghost use lib.ListN.{getD};
 ghost use Rattle.scan.specs.Parting.{Unread};
 ghost use Rattle.scan.specs.Around.{argumentsOf, Arguments};
@@ -29,6 +37,31 @@ pub struct Opening {
     pub there: bool,
     pub name: Name,
     pub length: usize,
+}
+
+// So many counts of a size, in units.
+fn in_units(count: u32, size: u8) -> i32
+    requires { ⌜ count ≤ 500 ⌝ }
+    ensures { λ r. ⌜ (r ≡ pos (count * size)) × (count * size ≤ 127500) ⌝ }
+{
+    (count * size as u32) as i32
+}
+
+// What the read-only registers show: "all but % in units".
+fn shown(layout: Layout, page: Page, printer: Printer) -> Shown
+    requires { ⌜ Shows (layoutOf layout) (pageOf page) ⌝ }
+    ensures { λ r. ⌜ seenOf r ≡ seenAt (printerOf printer) (layoutOf layout) (pageOf page) ⌝ }
+{
+    let pitch = printer.pitch;
+    let line = layout.line;
+    let indent = layout.indent;
+    Shown {
+        page: page.number as i32,
+        rows: in_units(measure::down(page.used), pitch.row),
+        length: in_units(measure::across(line.now), pitch.cell),
+        indent: in_units(measure::across(indent.now), pitch.cell),
+        page_length: in_units(measure::down(layout.page), pitch.row),
+    }
 }
 
 // nr, by its arguments.

@@ -1,0 +1,21 @@
+-- Numbers in units, as the code keeps them. Assumes nothing.
+use mathlib.Core.Path.{_≡_, ap, _∙_}
+use Prim.Native.Nat.{ℕ, _*_, _≤_}
+use native.Mathlib.Omega.{arith}
+use lib.IntN.{ℤ, pos}
+use mir.Syntax.{w32}
+use mir.Val.{toZ, ofZ}
+use mir.Facts.{toZ-ofZ}
+use Rattle.rules.specs.Registers.{Seen}
+
+-- a small number is read back from its bits, with its count known
+pub read-back : (n m s : ℕ) (z : ℤ) → (z ≡ pos (n * s)) × (n * s ≤ 127500) → n ≡ m → toZ w32 (ofZ w32 z) ≡ pos (m * s)
+read-back n m s z a e =
+    ap (λ (y : ℤ). toZ w32 (ofZ w32 y)) (a .0) ∙ toZ-ofZ {w = w32} {z = pos (n * s)} (record { sfits = omega (arith, a .1) }) ∙ ap (λ (k : ℕ). pos (k * s)) e
+
+-- what is shown, field by field
+abbrev pub seenBy : ℤ → ℤ → ℤ → ℤ → ℤ → Seen
+seenBy p r l i g = record { page = p; rows = r; length = l; indent = i; pageLength = g }
+
+pub seen-same : (p r l i g p' r' l' i' g' : ℤ) → p ≡ p' → r ≡ r' → l ≡ l' → i ≡ i' → g ≡ g' → seenBy p r l i g ≡ seenBy p' r' l' i' g'
+seen-same p r l i g p' r' l' i' g' a b c d e = cc
