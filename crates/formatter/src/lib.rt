@@ -6,7 +6,9 @@ use registers::Shown;
 use requests::Assigned;
 use requests::Changed;
 use requests::Plants;
+use rules::Mode;
 use rules::Name;
+use scan::Scanned;
 use settings::Layout;
 use settings::Printer;
 use traps::Planted;
@@ -23,7 +25,11 @@ ghost use Rattle.requests.specs.Texts as texts;
 ghost use Rattle.settings.specs.Layouts.{printerOf, layoutOf};
 ghost use Rattle.page.specs.Landing.{pageOf};
 ghost use Rattle.registers.specs.ReadOnly.{seenOf};
-ghost use Rattle.formatter.specs.Whole.{seenAt, Shows};
+ghost use Rattle.scan.specs.Acts as scanning;
+ghost use Rattle.scan.specs.Writes.{Room};
+ghost use Rattle.scan.specs.Expansion.{ScannedTo};
+ghost use Rattle.texts.specs.Table.{textsOf};
+ghost use Rattle.formatter.specs.Whole.{seenAt, surroundings, Shows};
 ghost use mathlib.Core.Path.{_≡_};
 ghost use mathlib.Core.List.{[]};
 ghost use Prim.Native.Nat.{_*_, _≤_};
@@ -62,6 +68,56 @@ fn shown(layout: Layout, page: Page, printer: Printer) -> Shown
         indent: in_units(measure::across(indent.now), pitch.cell),
         page_length: in_units(measure::down(layout.page), pitch.row),
     }
+}
+
+// A line is expanded with the settings and the tables in force.
+fn expand(
+    line: &[u8],
+    mode: Mode,
+    prefix: usize,
+    printer: Printer,
+    layout: Layout,
+    page: Page,
+    store: &[u8],
+    text_firsts: &[u8; 64],
+    text_seconds: &[u8; 64],
+    kinds: &[u8; 64],
+    lengths: &[u16; 64],
+    texts: usize,
+    firsts: &[u8; 64],
+    seconds: &[u8; 64],
+    values: &mut [i32; 64],
+    steps: &[i32; 64],
+    count: usize,
+    arguments: &[u8],
+    ends: &[u16; 9],
+    given: usize,
+    out: &mut [u8; 512],
+) -> Scanned
+    requires { ⌜ Shows (layoutOf layout) (pageOf page) × scanning.Ready (now store) (now «text_firsts») (now «text_seconds») (now kinds) (now lengths) texts (now firsts) (now seconds) (now values) (now steps) count (now arguments) (now ends) given × Room (now out) 0 512 ⌝ }
+    ensures { λ r. ⌜ ScannedTo r (surroundings (printerOf printer) (layoutOf layout) (pageOf page) (textsOf (now (store .entry)) (now («text_firsts» .entry)) (now («text_seconds» .entry)) (now (kinds .entry)) (now (lengths .entry)) texts) (argumentsOf (now (arguments .entry)) (now (ends .entry)) given)) mode prefix (now (line .entry)) (now (firsts .entry)) (now (seconds .entry)) (now (values .entry)) (now (steps .entry)) count (now (out .entry)) (now (out .exit)) (now (values .exit)) ⌝ }
+{
+    scan::expand(
+        line,
+        mode,
+        prefix,
+        store,
+        text_firsts,
+        text_seconds,
+        kinds,
+        lengths,
+        texts,
+        firsts,
+        seconds,
+        values,
+        steps,
+        count,
+        shown(layout, page, printer),
+        arguments,
+        ends,
+        given,
+        out,
+    )
 }
 
 // nr, by its arguments.
