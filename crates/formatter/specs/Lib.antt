@@ -1,2 +1,4 @@
 pub mod Whole
 pub mod WholeLaws
+pub mod Dealing
+pub mod DealingLaws

@@ -16,8 +16,6 @@ use Rattle.rules.specs.Registers.{Seen}
 use Rattle.rules.specs.Escapes.{Surroundings}
 use Rattle.rules.specs.State.{State, Definition, input, tables, seen}
 use Rattle.rules.specs.Rows.{Next}
-use Rattle.registers.specs.declared.Shown.{Shown}
-use Rattle.registers.specs.ReadOnly.{seenOf}
 use Rattle.registers.specs.Columns.{tableOf, Table}
 use Rattle.texts.specs.Table.{textsOf, Lies}
 use Rattle.texts.specs.Changes.{bodyOf, Opens}
@@ -25,7 +23,6 @@ use Rattle.traps.specs.declared.Planted.{Planted}
 use Rattle.traps.specs.Table.{plantedOf}
 use Rattle.input.specs.Frames.{framesOf}
 use Rattle.input.specs.Items.{stackOf, Good}
-use Rattle.settings.specs.declared.Printer.{Printer}
 use Rattle.settings.specs.Layouts.{layoutOf, Limits}
 use Rattle.page.specs.Landing.{pageOf}
 use Rattle.springs.specs.declared.Way.{Way}

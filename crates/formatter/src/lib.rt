@@ -1,5 +1,7 @@
 // One piece of work on the whole state: requests on tables, from an expanded control line.
 use input::Stack;
+use lines::Line;
+use lines::Meaning;
 use lines::Named;
 use page::Page;
 use registers::Shown;
@@ -30,11 +32,15 @@ ghost use Rattle.scan.specs.Writes.{Room};
 ghost use Rattle.scan.specs.Expansion.{ScannedTo};
 ghost use Rattle.texts.specs.Table.{textsOf};
 ghost use Rattle.formatter.specs.Whole.{seenAt, surroundings, Shows};
+ghost use Rattle.formatter.specs.Dealing.{keptAs, wordsAs, controlAs, DealtTo};
+ghost use Rattle.rules.specs.Lines.{lineOf};
+ghost use Rattle.rules.specs.State.{control};
+ghost use mathlib.Core.Bool.{true, false};
 ghost use mathlib.Core.Path.{_≡_};
 ghost use mathlib.Core.List.{[]};
 ghost use Prim.Native.Nat.{_*_, _≤_};
 ghost use lib.IntN.{pos};
-ghost use lib.ListN.{getD};
+ghost use lib.ListN.{getD, length, drop};
 ghost use Rattle.scan.specs.Parting.{Unread};
 ghost use Rattle.scan.specs.Around.{argumentsOf, Arguments};
 
@@ -43,6 +49,47 @@ pub struct Opening {
     pub there: bool,
     pub name: Name,
     pub length: usize,
+}
+
+// What is left to do with a line, once it is expanded.
+pub enum Dealt {
+    // it closes the open definition
+    Closes,
+    // so many bytes are kept in the open definition
+    Keeps(usize),
+    // a text line of so many bytes
+    Words(usize),
+    // a control line, called with a period or not: its name, what that means, and so many bytes behind it
+    Control(bool, Name, Meaning, usize),
+    Nothing,
+    Refused(u8),
+}
+
+fn kept_as(scanned: Scanned) -> Dealt
+    ensures { λ r. ⌜ r ≡ keptAs scanned ⌝ }
+{
+    match scanned {
+        Scanned::Line(n) => Dealt::Keeps(n),
+        Scanned::Refused(k) => Dealt::Refused(k),
+    }
+}
+
+fn words_as(scanned: Scanned) -> Dealt
+    ensures { λ r. ⌜ r ≡ wordsAs scanned ⌝ }
+{
+    match scanned {
+        Scanned::Line(n) => Dealt::Words(n),
+        Scanned::Refused(k) => Dealt::Refused(k),
+    }
+}
+
+fn control_as(scanned: Scanned, period: bool, name: Name, meaning: Meaning) -> Dealt
+    ensures { λ r. ⌜ r ≡ controlAs scanned period name meaning ⌝ }
+{
+    match scanned {
+        Scanned::Line(n) => Dealt::Control(period, name, meaning, n),
+        Scanned::Refused(k) => Dealt::Refused(k),
+    }
 }
 
 // So many counts of a size, in units.
@@ -118,6 +165,233 @@ fn expand(
         given,
         out,
     )
+}
+
+// A body line of an open definition: it closes the definition, or is expanded in copy mode.
+fn scan_body(
+    line: &[u8],
+    printer: Printer,
+    layout: Layout,
+    page: Page,
+    store: &[u8],
+    text_firsts: &[u8; 64],
+    text_seconds: &[u8; 64],
+    kinds: &[u8; 64],
+    lengths: &[u16; 64],
+    texts: usize,
+    firsts: &[u8; 64],
+    seconds: &[u8; 64],
+    values: &mut [i32; 64],
+    steps: &[i32; 64],
+    count: usize,
+    arguments: &[u8],
+    ends: &[u16; 9],
+    given: usize,
+    out: &mut [u8; 512],
+) -> Dealt
+    requires { ⌜ Shows (layoutOf layout) (pageOf page) × scanning.Ready (now store) (now «text_firsts») (now «text_seconds») (now kinds) (now lengths) texts (now firsts) (now seconds) (now values) (now steps) count (now arguments) (now ends) given × Room (now out) 0 512 ⌝ }
+    ensures { λ r. ⌜ DealtTo r (printerOf printer) (layoutOf layout) (pageOf page) (textsOf (now (store .entry)) (now («text_firsts» .entry)) (now («text_seconds» .entry)) (now (kinds .entry)) (now (lengths .entry)) texts) true (argumentsOf (now (arguments .entry)) (now (ends .entry)) given) (now (line .entry)) (now (firsts .entry)) (now (seconds .entry)) (now (values .entry)) (now (steps .entry)) count (now (out .exit)) (now (values .exit)) ⌝ }
+{
+    if texts::closes_body(line) {
+        return Dealt::Closes;
+    }
+    kept_as(expand(
+        line,
+        Mode::Copy,
+        0,
+        printer,
+        layout,
+        page,
+        store,
+        text_firsts,
+        text_seconds,
+        kinds,
+        lengths,
+        texts,
+        firsts,
+        seconds,
+        values,
+        steps,
+        count,
+        arguments,
+        ends,
+        given,
+        out,
+    ))
+}
+
+// A control line: "lines with names .. unknown .. are ignored unexpanded".
+fn scan_control(
+    line: &[u8],
+    period: bool,
+    name: Name,
+    at: usize,
+    printer: Printer,
+    layout: Layout,
+    page: Page,
+    store: &[u8],
+    text_firsts: &[u8; 64],
+    text_seconds: &[u8; 64],
+    kinds: &[u8; 64],
+    lengths: &[u16; 64],
+    texts: usize,
+    firsts: &[u8; 64],
+    seconds: &[u8; 64],
+    values: &mut [i32; 64],
+    steps: &[i32; 64],
+    count: usize,
+    arguments: &[u8],
+    ends: &[u16; 9],
+    given: usize,
+    out: &mut [u8; 512],
+) -> Dealt
+    requires { ⌜ Shows (layoutOf layout) (pageOf page) × scanning.Ready (now store) (now «text_firsts») (now «text_seconds») (now kinds) (now lengths) texts (now firsts) (now seconds) (now values) (now steps) count (now arguments) (now ends) given × Room (now out) 0 512 × (at ≤ length (now line)) × (lineOf (now line) ≡ control period name (drop at (now line))) ⌝ }
+    ensures { λ r. ⌜ DealtTo r (printerOf printer) (layoutOf layout) (pageOf page) (textsOf (now (store .entry)) (now («text_firsts» .entry)) (now («text_seconds» .entry)) (now (kinds .entry)) (now (lengths .entry)) texts) false (argumentsOf (now (arguments .entry)) (now (ends .entry)) given) (now (line .entry)) (now (firsts .entry)) (now (seconds .entry)) (now (values .entry)) (now (steps .entry)) count (now (out .exit)) (now (values .exit)) ⌝ }
+{
+    let rest = &line[at..];
+    let prefix = lines::prefix_of(name);
+    let meaning = lines::meaning_of(
+        store,
+        text_firsts,
+        text_seconds,
+        kinds,
+        lengths,
+        texts,
+        name,
+    );
+    match meaning {
+        Meaning::Calls(_) => {
+            let scanned = expand(
+                rest,
+                Mode::Plain,
+                prefix,
+                printer,
+                layout,
+                page,
+                store,
+                text_firsts,
+                text_seconds,
+                kinds,
+                lengths,
+                texts,
+                firsts,
+                seconds,
+                values,
+                steps,
+                count,
+                arguments,
+                ends,
+                given,
+                out,
+            );
+            control_as(scanned, period, name, meaning)
+        }
+        Meaning::Requests(request) => {
+            let mode = lines::mode_of(request);
+            let scanned = expand(
+                rest,
+                mode,
+                prefix,
+                printer,
+                layout,
+                page,
+                store,
+                text_firsts,
+                text_seconds,
+                kinds,
+                lengths,
+                texts,
+                firsts,
+                seconds,
+                values,
+                steps,
+                count,
+                arguments,
+                ends,
+                given,
+                out,
+            );
+            control_as(scanned, period, name, meaning)
+        }
+        Meaning::Nothing => Dealt::Nothing,
+    }
+}
+
+// A line as it was taken, where no definition is open.
+fn scan_fresh(
+    line: &[u8],
+    printer: Printer,
+    layout: Layout,
+    page: Page,
+    store: &[u8],
+    text_firsts: &[u8; 64],
+    text_seconds: &[u8; 64],
+    kinds: &[u8; 64],
+    lengths: &[u16; 64],
+    texts: usize,
+    firsts: &[u8; 64],
+    seconds: &[u8; 64],
+    values: &mut [i32; 64],
+    steps: &[i32; 64],
+    count: usize,
+    arguments: &[u8],
+    ends: &[u16; 9],
+    given: usize,
+    out: &mut [u8; 512],
+) -> Dealt
+    requires { ⌜ Shows (layoutOf layout) (pageOf page) × scanning.Ready (now store) (now «text_firsts») (now «text_seconds») (now kinds) (now lengths) texts (now firsts) (now seconds) (now values) (now steps) count (now arguments) (now ends) given × Room (now out) 0 512 ⌝ }
+    ensures { λ r. ⌜ DealtTo r (printerOf printer) (layoutOf layout) (pageOf page) (textsOf (now (store .entry)) (now («text_firsts» .entry)) (now («text_seconds» .entry)) (now (kinds .entry)) (now (lengths .entry)) texts) false (argumentsOf (now (arguments .entry)) (now (ends .entry)) given) (now (line .entry)) (now (firsts .entry)) (now (seconds .entry)) (now (values .entry)) (now (steps .entry)) count (now (out .exit)) (now (values .exit)) ⌝ }
+{
+    match lines::line_of(line) {
+        Line::Text => words_as(expand(
+            line,
+            Mode::Plain,
+            0,
+            printer,
+            layout,
+            page,
+            store,
+            text_firsts,
+            text_seconds,
+            kinds,
+            lengths,
+            texts,
+            firsts,
+            seconds,
+            values,
+            steps,
+            count,
+            arguments,
+            ends,
+            given,
+            out,
+        )),
+        Line::Control(period, name, at) => scan_control(
+            line,
+            period,
+            name,
+            at,
+            printer,
+            layout,
+            page,
+            store,
+            text_firsts,
+            text_seconds,
+            kinds,
+            lengths,
+            texts,
+            firsts,
+            seconds,
+            values,
+            steps,
+            count,
+            arguments,
+            ends,
+            given,
+            out,
+        ),
+        Line::Ignored => Dealt::Nothing,
+    }
 }
 
 // nr, by its arguments.
