@@ -2,3 +2,4 @@ pub mod Whole
 pub mod WholeLaws
 pub mod Dealing
 pub mod DealingLaws
+pub mod BodyLaws
