@@ -61,14 +61,14 @@ request-held ts r l = request-by ts (traits r .acts) r l
 
 -- No text is held.
 line-plain-by : (t q : Bool) (n : Name) → Plain (itemIf t (what.Control q n))
-line-plain-by true q n = refl
+line-plain-by true q n = tt
 line-plain-by false q n = tt
 
 pub line-plain : (q : Bool) (r : Breaking) (n : Name) → Plain (heldLine q r n)
 line-plain q r n = line-plain-by (traits r .again) q n
 
 request-plain-by : (t : Bool) (r : Breaking) → Plain (itemIf t (what.Acts r))
-request-plain-by true r = refl
+request-plain-by true r = tt
 request-plain-by false r = tt
 
 pub request-plain : (r : Breaking) → Plain (heldRequest r)

@@ -2,7 +2,7 @@
 use mathlib.Core.Path.{_≡_}
 use mathlib.Core.List.{List, [], _∷_}
 use mathlib.Core.Option.{Option, none, some}
-use Prim.Native.Nat.{ℕ, zero, suc}
+use Prim.Native.Nat.{ℕ, zero, suc, _≤_}
 use lib.ListN.{drop}
 use Rattle.rules.specs.declared.Name.{Name}
 use Rattle.rules.specs.declared.Kind.{Kind}
@@ -56,13 +56,13 @@ stackOf ts s bs ps = itemsOf ts (framesOf s bs ps)
 abbrev pub There : Name → List Text → Type 0
 There n ts = (t : Text) × (textOf n ts ≡ some t)
 
--- a text that is read is there, and its arguments lie within the bytes
+-- a text that is read is there, and its arguments lie within the bytes; a gap is at most 2
 abbrev pub GoodBy : List Text → What → (bytes ends : List ℕ) → Type 0
 GoodBy ts (what.Reading n k c) l es = Arguments l es c × There n ts
 GoodBy ts what.Text l es = Unit
 GoodBy ts (what.Control q n) l es = Unit
 GoodBy ts what.Ignored l es = Unit
-GoodBy ts (what.Others g) l es = Unit
+GoodBy ts (what.Others g) l es = g ≤ 2
 GoodBy ts (what.Acts r) l es = Unit
 GoodBy ts (what.Ejects p) l es = Unit
 

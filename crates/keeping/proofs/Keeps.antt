@@ -48,7 +48,7 @@ use Rattle.page.specs.declared.Page.{Page}
 use Rattle.springs.specs.declared.Called.{Called}
 use Rattle.springs.specs.declared.Held.the-variants as held
 use Rattle.springs.specs.declared.Way.the-variants.{On}
-use Rattle.springs.specs.Held.{noEnds, isText, HeldTo}
+use Rattle.springs.specs.Held.{noEnds, PlainItem, HeldTo}
 use Rattle.springs.specs.Calls.{wayIf, CalledTo}
 use Rattle.springs.proofs.Stacks.{fits-few, over-items, over-good, over-fits}
 use Rattle.sheet.specs.declared.Collected.{Collected}
@@ -140,7 +140,7 @@ module _ (rest : List ℕ) (s : Stack) (arena ends : List ℕ) (d : s .depth ≤
   followed-none e k = record { is = λ ts. followed-none-items rest (stackOf ts s arena ends) e; good = λ ts g. g; columns = k; fits = fits-few s d }
 
   -- a line follows
-  pub followed-line : (w : What) (bytes : List ℕ) (r : Stack) (arena' ends' : List ℕ) → HeldTo (held.Item w) bytes s arena ends r arena' ends' → isText w ≡ false → 0 < length rest
+  pub followed-line : (w : What) (bytes : List ℕ) (r : Stack) (arena' ends' : List ℕ) → HeldTo (held.Item w) bytes s arena ends r arena' ends' → PlainItem w → 0 < length rest
       → ((ts : List Text) → itemBy ts w bytes noEnds ≡ again (lineOf rest)) → Followed rest s arena ends r arena' ends'
   followed-line w bytes r arena' ends' t e h law = record {
     is = λ ts.

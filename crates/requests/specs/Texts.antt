@@ -110,12 +110,6 @@ pub record DefinesAs (st fs ss ks ls : List ℕ) (count : ℕ) (k : Stack) (act 
   pub changes : ChangesAs st fs ss ks ls count k alone act r st' fs' ss' ks' ls'
   pub parts-long : length parts' ≡ 512
 
--- what ds reads: an expanded line, and room for its name
-pub record ReadyLine (line parts : List ℕ) (to : ℕ) : Type 0 where
-  pub long : length line ≡ 512
-  pub inside : to ≤ 512
-  pub room : length parts ≡ 512
-
 -- These are the rules' rm and de.
 module _ (p : Printer) (l : List ℕ) (s : State) where
   pub removes-rm : removes (argument 0 l) s ≡ perform p Rm l s

@@ -26,7 +26,7 @@ ghost use Rattle.texts.specs.Table.{textsOf, Lies};
 ghost use Rattle.traps.specs.Table.{Within};
 ghost use Rattle.requests.specs.Traps.{Ready as ReadyTraps, PlantsAs, PlantedTo};
 ghost use Rattle.requests.specs.Registers.{Ready as ReadyRegisters, NumbersOf, newNumbersOf, valueBy, numbersBy, AssignsAs, writes, assigns};
-ghost use Rattle.requests.specs.Texts.{Ready as ReadyTexts, ReadyToDefine, ReadyLine, ChangesAs, OpensAs, DefinesAs, alone, removes, opensText, definesAs, definesBy};
+ghost use Rattle.requests.specs.Texts.{Ready as ReadyTexts, ReadyToDefine, ChangesAs, OpensAs, DefinesAs, alone, removes, opensText, definesAs, definesBy};
 
 // The table after wh, and the number of its refusal, 0 for none.
 pub struct Plants {
@@ -527,8 +527,8 @@ fn define_by(
     }
 }
 
-// ds of what follows its name on an expanded line.
-fn define_from(
+// ds of what follows its name on an expanded line; `parts` takes the bytes of its name.
+pub fn define(
     line: &[u8],
     after_if: bool,
     stack: Stack,
@@ -563,67 +563,4 @@ fn define_from(
         }
         Argument::Nothing => Changed::Same,
     }
-}
-
-// ds of the front of a line.
-fn define_front(
-    line: &[u8],
-    to: usize,
-    after_if: bool,
-    stack: Stack,
-    store: &mut [u8],
-    firsts: &mut [u8; 64],
-    seconds: &mut [u8; 64],
-    kinds: &mut [u8; 64],
-    lengths: &mut [u16; 64],
-    count: usize,
-    parts: &mut [u8; 512],
-) -> Changed
-    requires { ⌜ ReadyToDefine (now store) (now firsts) (now seconds) (now kinds) (now lengths) count stack × ReadyLine (now line) (now parts) to ⌝ }
-    ensures { λ r. ⌜ DefinesAs (now (store .entry)) (now (firsts .entry)) (now (seconds .entry)) (now (kinds .entry)) (now (lengths .entry)) count stack (defines «after_if» (take to (now (line .entry)))) r (now (store .exit)) (now (firsts .exit)) (now (seconds .exit)) (now (kinds .exit)) (now (lengths .exit)) (now (parts .exit)) ⌝ }
-{
-    define_from(
-        &line[..to],
-        after_if,
-        stack,
-        store,
-        &mut *firsts,
-        &mut *seconds,
-        &mut *kinds,
-        &mut *lengths,
-        count,
-        &mut *parts,
-    )
-}
-
-// ds: `parts` takes the bytes of its name.
-pub fn define(
-    line: &[u8; 512],
-    to: usize,
-    after_if: bool,
-    stack: Stack,
-    store: &mut [u8],
-    firsts: &mut [u8; 64],
-    seconds: &mut [u8; 64],
-    kinds: &mut [u8; 64],
-    lengths: &mut [u16; 64],
-    count: usize,
-    parts: &mut [u8; 512],
-) -> Changed
-    requires { ⌜ ReadyToDefine (now store) (now firsts) (now seconds) (now kinds) (now lengths) count stack × ReadyLine (now line) (now parts) to ⌝ }
-    ensures { λ r. ⌜ DefinesAs (now (store .entry)) (now (firsts .entry)) (now (seconds .entry)) (now (kinds .entry)) (now (lengths .entry)) count stack (defines «after_if» (take to (now (line .entry)))) r (now (store .exit)) (now (firsts .exit)) (now (seconds .exit)) (now (kinds .exit)) (now (lengths .exit)) (now (parts .exit)) ⌝ }
-{
-    define_front(
-        line,
-        to,
-        after_if,
-        stack,
-        store,
-        &mut *firsts,
-        &mut *seconds,
-        &mut *kinds,
-        &mut *lengths,
-        count,
-        &mut *parts,
-    )
 }

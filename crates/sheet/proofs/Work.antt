@@ -131,7 +131,7 @@ spaced-some (suc r) s h = refl
 
 -- no text is held while a bp goes on
 pub left-plain : (t : Bool) (p : ℕ) → Plain (leftIf t p)
-left-plain true p = refl
+left-plain true p = tt
 left-plain false p = tt
 
 left-held : (ts : List Text) (t : Bool) (p : ℕ) (bytes : List ℕ) → heldOf ts (leftIf t p) bytes ≡ heldIf t (ejects p)

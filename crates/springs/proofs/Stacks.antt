@@ -38,7 +38,7 @@ use Rattle.page.specs.declared.Page.{Page}
 use Rattle.page.specs.Landing.{Landing, on, pageOf}
 use Rattle.page.specs.Landing as landing
 use Rattle.page.specs.LandingLaws.{landed}
-use Rattle.springs.specs.Held.{noEnds, heldFrames, heldOf, heldCount, lastCount, isText, Plain, limitBy, Fits, Ready, HeldTo}
+use Rattle.springs.specs.Held.{noEnds, heldFrames, heldOf, heldCount, lastCount, isText, PlainItem, Plain, limitBy, Fits, Ready, HeldTo}
 use Rattle.springs.specs.Calls.{closeBy, wayIf, CalledTo, SprungTo, standing, landedFrom, LandsWithin, LandsNumbered, LandedTo, MovedTo}
 
 -- A text that is found has the name that was looked for.
@@ -63,14 +63,23 @@ unfolding itemsOf
 held-items ts held.Nothing bytes fs = refl
 held-items ts (held.Item w) bytes fs = refl
 
-plain-good : (ts : List Text) (w : What) (l es : List ℕ) → isText w ≡ false → GoodBy ts w l es
-plain-good ts (what.Reading n k c) l es e = let z : _≡_ {A = ℕ} 0 1 = cc in absurd (omega arith)
+plain-good : (ts : List Text) (w : What) (l es : List ℕ) → PlainItem w → GoodBy ts w l es
+plain-good ts (what.Reading n k c) l es e = absurd e
 plain-good ts what.Text l es e = tt
 plain-good ts (what.Control q n) l es e = tt
 plain-good ts what.Ignored l es e = tt
-plain-good ts (what.Others g) l es e = tt
+plain-good ts (what.Others g) l es e = e
 plain-good ts (what.Acts r) l es e = tt
 plain-good ts (what.Ejects p) l es e = tt
+
+no-text : (w : What) → PlainItem w → isText w ≡ false
+no-text (what.Reading n k c) e = absurd e
+no-text what.Text e = refl
+no-text (what.Control q n) e = refl
+no-text what.Ignored e = refl
+no-text (what.Others g) e = refl
+no-text (what.Acts r) e = refl
+no-text (what.Ejects p) e = refl
 
 held-good : (ts : List Text) (h : Held) (bytes : List ℕ) (fs : List Frame) → Plain h → Good ts fs → Good ts (heldFrames h bytes ++ fs)
 held-good ts held.Nothing bytes fs e g = g
@@ -112,7 +121,7 @@ over-fits held.Nothing bytes s arena ends r arena' ends' t e d = fits-few r (ome
 over-fits (held.Item w) bytes s arena ends r arena' ends' t e d =
     let k = top-known r arena' ends' (frame (entry w (length bytes)) bytes noEnds) (framesOf s arena ends) (t .frames) .0 in
     let l : topEntry r .what ≡ w = ap (λ (f : Frame). f .entry .what) k in
-    rw (l, e) (omega (arith, t .depth))
+    rw (l, no-text w e) (omega (arith, t .depth))
 
 -- what is put on top is the text with all its lines
 called-item : (n : Name) (ts : List Text) (t : Text) (args : List (List ℕ)) → textOf n ts ≡ some t → reading n (unread (textOf n ts) 0) args ≡ reading (t .name) (linesOf (t .kind) (t .bytes)) args

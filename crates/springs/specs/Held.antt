@@ -47,10 +47,20 @@ isText (what.Others g) = false
 isText (what.Acts r) = false
 isText (what.Ejects p) = false
 
+-- no text, and no gap past 2
+abbrev pub PlainItem : What → Type 0
+PlainItem (what.Reading n k c) = ⊥
+PlainItem what.Text = Unit
+PlainItem (what.Control q n) = Unit
+PlainItem what.Ignored = Unit
+PlainItem (what.Others g) = g ≤ 2
+PlainItem (what.Acts r) = Unit
+PlainItem (what.Ejects p) = Unit
+
 -- no text is held
 abbrev pub Plain : declared.Held → Type 0
 Plain held.Nothing = Unit
-Plain (held.Item w) = isText w ≡ false
+Plain (held.Item w) = PlainItem w
 
 -- how deep a stack may be with this item on top: 16 items, and one that is no text for a moment over them
 abbrev pub limitBy : (text : Bool) → ℕ

@@ -62,9 +62,9 @@ pub held-others : (ts : List Text) (ws : List Word) (g : ℕ) (bytes : List ℕ)
 held-others ts [] g bytes e = refl
 held-others ts (w ∷ ws) g bytes e = ap (λ (v : List Word). others v g ∷ []) e
 
-pub others-plain : (ws : List Word) (g : ℕ) → Plain (othersHeld ws g)
-others-plain [] g = tt
-others-plain (w ∷ ws) g = refl
+pub others-plain : (ws : List Word) (g : ℕ) → g ≤ 2 → Plain (othersHeld ws g)
+others-plain [] g h = tt
+others-plain (w ∷ ws) g h = h
 
 pub gap-small : (ws : List Word) (g : ℕ) → g ≤ 2 → nextGap ws g ≤ 2
 gap-small [] g h = h

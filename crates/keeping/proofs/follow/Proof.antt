@@ -48,21 +48,21 @@ returns-2 : tie.Need-returns-2
 returns-2 c =
     let y = c .before .before .before .before .before .before .before .before in let a = y .args in
     let l = rw (c .before .before .before .enum-told .given .1) at (c .before .before .before .before .before .line-of .ensures .is) in
-    followed-line (now (a .rest)) (a .stack) (now (a .arena)) (now (a .ends)) (y .pre .few) what.Text _ _ _ _ (c .hold .ensures) refl (omega (arith, c .before .before .before .before .before .before .if1 .left)) (λ ts. ap again l)
+    followed-line (now (a .rest)) (a .stack) (now (a .arena)) (now (a .ends)) (y .pre .few) what.Text _ _ _ _ (c .hold .ensures) tt (omega (arith, c .before .before .before .before .before .before .if1 .left)) (λ ts. ap again l)
 
 returns-3 : tie.Need-returns-3
 returns-3 c =
     let y = c .before .before .before .before .before .before .before .before .before .before in let a = y .args in
     let g = c .before .before .before .before .before .period .given in
     let l = rw (g .1) at (c .before .before .before .before .before .before .before .line-of .ensures .is) in
-    followed-line (now (a .rest)) (a .stack) (now (a .arena)) (now (a .ends)) (y .pre .few) (what.Control (g .0 .0) (g .0 .1 .0)) _ _ _ _ (c .hold2 .ensures) refl (omega (arith, c .before .before .before .before .before .before .before .before .if1 .left))
+    followed-line (now (a .rest)) (a .stack) (now (a .arena)) (now (a .ends)) (y .pre .few) (what.Control (g .0 .0) (g .0 .1 .0)) _ _ _ _ (c .hold2 .ensures) tt (omega (arith, c .before .before .before .before .before .before .before .before .if1 .left))
     (λ ts. ap (λ (b : List ℕ). again (control (g .0 .0) (g .0 .1 .0) b)) (all-from (now (a .rest)) (g .0 .1 .1 .0)) ∙ ap again l)
 
 returns-4 : tie.Need-returns-4
 returns-4 c =
     let y = c .before .before .before .before .before .before .before .before in let a = y .args in
     let l = rw (c .before .before .before .enum-told2 .given .1) at (c .before .before .before .before .before .line-of .ensures .is) in
-    followed-line (now (a .rest)) (a .stack) (now (a .arena)) (now (a .ends)) (y .pre .few) what.Ignored _ _ _ _ (c .hold3 .ensures) refl (omega (arith, c .before .before .before .before .before .before .if1 .left)) (λ ts. ap again l)
+    followed-line (now (a .rest)) (a .stack) (now (a .arena)) (now (a .ends)) (y .pre .few) what.Ignored _ _ _ _ (c .hold3 .ensures) tt (omega (arith, c .before .before .before .before .before .before .if1 .left)) (λ ts. ap again l)
 
 pub follow-spec : {M : Type 1} → statement M
 follow-spec =

@@ -16,7 +16,7 @@ slice-requires c κs = search needs
 break-line-requires : tie.Need-break-line-requires
 break-line-requires c κs =
     let y = c .before .before .before .before .before .before in let b = y .pre in
-    (record { sound = b .sound; items = b .items; short = rw (c .before .before .before .slice .ensures, part-none (now (y .args .cells))) (omega arith); long = b .long; names = b .names }, refl)
+    (record { sound = b .sound; items = b .items; short = rw (c .before .before .before .slice .ensures, part-none (now (y .args .cells))) (omega arith); long = b .long; names = b .names }, tt)
 
 returns : tie.Need-returns
 returns c =

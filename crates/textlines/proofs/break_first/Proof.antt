@@ -21,7 +21,7 @@ slice-requires c κs = search needs
 break-line-requires : tie.Need-break-line-requires
 break-line-requires c κs =
     let y = c .before .before .before .before .before in let b = y .pre .0 in
-    (record { sound = b .sound; items = b .items; short = rw (c .before .before .before .slice .ensures) (part-short (now (y .args .line)) 0 (y .args .to) (y .pre .1)); long = b .long; names = b .names }, refl)
+    (record { sound = b .sound; items = b .items; short = rw (c .before .before .before .slice .ensures) (part-short (now (y .args .line)) 0 (y .args .to) (y .pre .1)); long = b .long; names = b .names }, tt)
 
 returns : tie.Need-returns
 returns c =

@@ -52,7 +52,7 @@ slice-requires c κs = let p = c .before .before .before .before .before .before
 down-requires : tie.Need-down-requires
 down-requires c κs =
     let y = c .before .before .before .before .before .before .before .before .before .before .before .before .before .before .before .before .before .before .before in let b = y .pre .0 in let p = y .pre .1 .places in
-    let h : Plain (othersHeld (words (part (now (y .args .line)) (y .args .o .to) (y .args .to))) (y .args .gap)) = others-plain (words (part (now (y .args .line)) (y .args .o .to) (y .args .to))) (y .args .gap) in (
+    let h : Plain (othersHeld (words (part (now (y .args .line)) (y .args .o .to) (y .args .to))) (y .args .gap)) = others-plain (words (part (now (y .args .line)) (y .args .o .to) (y .args .to))) (y .args .gap) (y .pre .1 .small) in (
       record { above = rw (ap (λ (v : rule.Layout). v .page) (c .before .before .before .before .before .before .begun .ensures .is)) (b .sound .above); short = c .before .before .before .before .before .before .begun .ensures .limits .page-most; few = b .sound .few },
       record { columns = b .sound .columns; few = b .items; short = rw (c .before .before .slice .ensures) (part-short (now (y .args .line)) (y .args .o .to) (y .args .to) p) },
       rw (c .before .before .before .before .others-held .ensures) h,

@@ -1,0 +1,700 @@
+// A line as it was taken, up to its expansion, and the requests on tables from an expanded line; the specs have the whole state.
+use input::Stack;
+use lines::Line;
+use lines::Meaning;
+use lines::Named;
+use page::Page;
+use registers::Shown;
+use requests::Assigned;
+use requests::Changed;
+use requests::Plants;
+use rules::Mode;
+use rules::Name;
+use scan::Scanned;
+use settings::Layout;
+use settings::Printer;
+use sheet::Collected;
+use springs::Way;
+use texts::Top;
+use traps::Planted;
+ghost use Rattle.rules.specs.Acts.{argument, perform};
+ghost use Rattle.rules.specs.declared.Unbreaking.the-variants.{Nr, Wh, Rm, De};
+ghost use Rattle.requests.specs.Registers.{AssignsAs};
+ghost use Rattle.requests.specs.Registers as registers;
+ghost use Rattle.requests.specs.Traps.{PlantsAs};
+ghost use Rattle.requests.specs.Traps as traps;
+ghost use Rattle.rules.specs.Names.{nameOf};
+ghost use Rattle.requests.specs.Texts.{ChangesAs, OpensAs, alone};
+ghost use Rattle.dealing.specs.WholeLaws.{OpeningIs, openedWith};
+ghost use Rattle.requests.specs.Texts as texts;
+ghost use Rattle.settings.specs.Layouts.{printerOf, layoutOf};
+ghost use Rattle.page.specs.Landing.{pageOf};
+ghost use Rattle.registers.specs.ReadOnly.{seenOf};
+ghost use Rattle.scan.specs.Acts as scanning;
+ghost use Rattle.scan.specs.Writes.{Room};
+ghost use Rattle.scan.specs.Expansion.{ScannedTo};
+ghost use Rattle.texts.specs.Table.{textsOf};
+ghost use Rattle.texts.specs.Lines.{nextLine, TopInside};
+ghost use Rattle.dealing.specs.Whole.{seenAt, surroundings, Shows};
+ghost use Rattle.dealing.specs.Dealing.{keptAs, wordsAs, controlAs, DealtTo};
+ghost use Rattle.rules.specs.Lines.{lineOf};
+ghost use Rattle.rules.specs.State.{control};
+ghost use mathlib.Core.Bool.{true, false};
+ghost use mathlib.Core.Path.{_≡_};
+ghost use mathlib.Core.List.{[]};
+ghost use Prim.Native.Nat.{_*_, _≤_};
+ghost use lib.IntN.{pos};
+ghost use lib.ListN.{getD, length, drop};
+ghost use Rattle.scan.specs.Parting.{Unread};
+ghost use Rattle.scan.specs.Around.{argumentsOf, Arguments};
+
+// An open definition: its name, and how many bytes of its body lie behind the texts.
+pub struct Opening {
+    pub there: bool,
+    pub name: Name,
+    pub length: usize,
+}
+
+// All of the state that is no array, but for the source.
+pub struct Status {
+    pub layout: Layout,
+    pub page: Page,
+    pub collected: Collected,
+    pub planted: Planted,
+    pub stack: Stack,
+    pub texts: usize,
+    pub opening: Opening,
+    pub registers: usize,
+}
+
+// How a piece of work leads on, how many bytes of the row it wrote, and the state after it.
+pub struct Step {
+    pub way: Way,
+    pub written: usize,
+    pub status: Status,
+}
+
+// What is left to do with a line, once it is expanded.
+pub enum Dealt {
+    // it closes the open definition
+    Closes,
+    // so many bytes are kept in the open definition
+    Keeps(usize),
+    // a text line of so many bytes
+    Words(usize),
+    // a control line, called with a period or not: its name, what that means, and so many bytes behind it
+    Control(bool, Name, Meaning, usize),
+    Nothing,
+    Refused(u8),
+}
+
+fn kept_as(scanned: Scanned) -> Dealt
+    ensures { λ r. ⌜ r ≡ keptAs scanned ⌝ }
+{
+    match scanned {
+        Scanned::Line(n) => Dealt::Keeps(n),
+        Scanned::Refused(k) => Dealt::Refused(k),
+    }
+}
+
+fn words_as(scanned: Scanned) -> Dealt
+    ensures { λ r. ⌜ r ≡ wordsAs scanned ⌝ }
+{
+    match scanned {
+        Scanned::Line(n) => Dealt::Words(n),
+        Scanned::Refused(k) => Dealt::Refused(k),
+    }
+}
+
+fn control_as(scanned: Scanned, period: bool, name: Name, meaning: Meaning) -> Dealt
+    ensures { λ r. ⌜ r ≡ controlAs scanned period name meaning ⌝ }
+{
+    match scanned {
+        Scanned::Line(n) => Dealt::Control(period, name, meaning, n),
+        Scanned::Refused(k) => Dealt::Refused(k),
+    }
+}
+
+// So many counts of a size, in units.
+fn in_units(count: u32, size: u8) -> i32
+    requires { ⌜ count ≤ 500 ⌝ }
+    ensures { λ r. ⌜ (r ≡ pos (count * size)) × (count * size ≤ 127500) ⌝ }
+{
+    (count * size as u32) as i32
+}
+
+// What the read-only registers show: "all but % in units".
+fn shown(layout: Layout, page: Page, printer: Printer) -> Shown
+    requires { ⌜ Shows (layoutOf layout) (pageOf page) ⌝ }
+    ensures { λ r. ⌜ seenOf r ≡ seenAt (printerOf printer) (layoutOf layout) (pageOf page) ⌝ }
+{
+    let pitch = printer.pitch;
+    let line = layout.line;
+    let indent = layout.indent;
+    Shown {
+        page: page.number as i32,
+        rows: in_units(measure::down(page.used), pitch.row),
+        length: in_units(measure::across(line.now), pitch.cell),
+        indent: in_units(measure::across(indent.now), pitch.cell),
+        page_length: in_units(measure::down(layout.page), pitch.row),
+    }
+}
+
+// A line is expanded with the settings and the tables in force.
+fn expand(
+    line: &[u8],
+    mode: Mode,
+    prefix: usize,
+    printer: Printer,
+    layout: Layout,
+    page: Page,
+    store: &[u8],
+    text_firsts: &[u8; 64],
+    text_seconds: &[u8; 64],
+    kinds: &[u8; 64],
+    lengths: &[u16; 64],
+    texts: usize,
+    firsts: &[u8; 64],
+    seconds: &[u8; 64],
+    values: &mut [i32; 64],
+    steps: &[i32; 64],
+    count: usize,
+    arguments: &[u8],
+    ends: &[u16; 9],
+    given: usize,
+    out: &mut [u8; 512],
+) -> Scanned
+    requires { ⌜ Shows (layoutOf layout) (pageOf page) × scanning.Ready (now store) (now «text_firsts») (now «text_seconds») (now kinds) (now lengths) texts (now firsts) (now seconds) (now values) (now steps) count (now arguments) (now ends) given × Room (now out) 0 512 ⌝ }
+    ensures { λ r. ⌜ ScannedTo r (surroundings (printerOf printer) (layoutOf layout) (pageOf page) (textsOf (now (store .entry)) (now («text_firsts» .entry)) (now («text_seconds» .entry)) (now (kinds .entry)) (now (lengths .entry)) texts) (argumentsOf (now (arguments .entry)) (now (ends .entry)) given)) mode prefix (now (line .entry)) (now (firsts .entry)) (now (seconds .entry)) (now (values .entry)) (now (steps .entry)) count (now (out .entry)) (now (out .exit)) (now (values .exit)) ⌝ }
+{
+    scan::expand(
+        line,
+        mode,
+        prefix,
+        store,
+        text_firsts,
+        text_seconds,
+        kinds,
+        lengths,
+        texts,
+        firsts,
+        seconds,
+        values,
+        steps,
+        count,
+        shown(layout, page, printer),
+        arguments,
+        ends,
+        given,
+        out,
+    )
+}
+
+// A body line of an open definition: it closes the definition, or is expanded in copy mode.
+fn scan_body(
+    line: &[u8],
+    printer: Printer,
+    layout: Layout,
+    page: Page,
+    store: &[u8],
+    text_firsts: &[u8; 64],
+    text_seconds: &[u8; 64],
+    kinds: &[u8; 64],
+    lengths: &[u16; 64],
+    texts: usize,
+    firsts: &[u8; 64],
+    seconds: &[u8; 64],
+    values: &mut [i32; 64],
+    steps: &[i32; 64],
+    count: usize,
+    arguments: &[u8],
+    ends: &[u16; 9],
+    given: usize,
+    out: &mut [u8; 512],
+) -> Dealt
+    requires { ⌜ Shows (layoutOf layout) (pageOf page) × scanning.Ready (now store) (now «text_firsts») (now «text_seconds») (now kinds) (now lengths) texts (now firsts) (now seconds) (now values) (now steps) count (now arguments) (now ends) given × Room (now out) 0 512 ⌝ }
+    ensures { λ r. ⌜ DealtTo r (printerOf printer) (layoutOf layout) (pageOf page) (textsOf (now (store .entry)) (now («text_firsts» .entry)) (now («text_seconds» .entry)) (now (kinds .entry)) (now (lengths .entry)) texts) true (argumentsOf (now (arguments .entry)) (now (ends .entry)) given) (now (line .entry)) (now (firsts .entry)) (now (seconds .entry)) (now (values .entry)) (now (steps .entry)) count (now (out .exit)) (now (values .exit)) ⌝ }
+{
+    if texts::closes_body(line) {
+        return Dealt::Closes;
+    }
+    kept_as(expand(
+        line,
+        Mode::Copy,
+        0,
+        printer,
+        layout,
+        page,
+        store,
+        text_firsts,
+        text_seconds,
+        kinds,
+        lengths,
+        texts,
+        firsts,
+        seconds,
+        values,
+        steps,
+        count,
+        arguments,
+        ends,
+        given,
+        out,
+    ))
+}
+
+// A control line: "lines with names .. unknown .. are ignored unexpanded".
+fn scan_control(
+    line: &[u8],
+    period: bool,
+    name: Name,
+    at: usize,
+    printer: Printer,
+    layout: Layout,
+    page: Page,
+    store: &[u8],
+    text_firsts: &[u8; 64],
+    text_seconds: &[u8; 64],
+    kinds: &[u8; 64],
+    lengths: &[u16; 64],
+    texts: usize,
+    firsts: &[u8; 64],
+    seconds: &[u8; 64],
+    values: &mut [i32; 64],
+    steps: &[i32; 64],
+    count: usize,
+    arguments: &[u8],
+    ends: &[u16; 9],
+    given: usize,
+    out: &mut [u8; 512],
+) -> Dealt
+    requires { ⌜ Shows (layoutOf layout) (pageOf page) × scanning.Ready (now store) (now «text_firsts») (now «text_seconds») (now kinds) (now lengths) texts (now firsts) (now seconds) (now values) (now steps) count (now arguments) (now ends) given × Room (now out) 0 512 × (at ≤ length (now line)) × (lineOf (now line) ≡ control period name (drop at (now line))) ⌝ }
+    ensures { λ r. ⌜ DealtTo r (printerOf printer) (layoutOf layout) (pageOf page) (textsOf (now (store .entry)) (now («text_firsts» .entry)) (now («text_seconds» .entry)) (now (kinds .entry)) (now (lengths .entry)) texts) false (argumentsOf (now (arguments .entry)) (now (ends .entry)) given) (now (line .entry)) (now (firsts .entry)) (now (seconds .entry)) (now (values .entry)) (now (steps .entry)) count (now (out .exit)) (now (values .exit)) ⌝ }
+{
+    let rest = &line[at..];
+    let prefix = lines::prefix_of(name);
+    let meaning = lines::meaning_of(
+        store,
+        text_firsts,
+        text_seconds,
+        kinds,
+        lengths,
+        texts,
+        name,
+    );
+    match meaning {
+        Meaning::Calls(_) => {
+            let scanned = expand(
+                rest,
+                Mode::Plain,
+                prefix,
+                printer,
+                layout,
+                page,
+                store,
+                text_firsts,
+                text_seconds,
+                kinds,
+                lengths,
+                texts,
+                firsts,
+                seconds,
+                values,
+                steps,
+                count,
+                arguments,
+                ends,
+                given,
+                out,
+            );
+            control_as(scanned, period, name, meaning)
+        }
+        Meaning::Requests(request) => {
+            let mode = lines::mode_of(request);
+            let scanned = expand(
+                rest,
+                mode,
+                prefix,
+                printer,
+                layout,
+                page,
+                store,
+                text_firsts,
+                text_seconds,
+                kinds,
+                lengths,
+                texts,
+                firsts,
+                seconds,
+                values,
+                steps,
+                count,
+                arguments,
+                ends,
+                given,
+                out,
+            );
+            control_as(scanned, period, name, meaning)
+        }
+        Meaning::Nothing => Dealt::Nothing,
+    }
+}
+
+// A line as it was taken, where no definition is open.
+fn scan_fresh(
+    line: &[u8],
+    printer: Printer,
+    layout: Layout,
+    page: Page,
+    store: &[u8],
+    text_firsts: &[u8; 64],
+    text_seconds: &[u8; 64],
+    kinds: &[u8; 64],
+    lengths: &[u16; 64],
+    texts: usize,
+    firsts: &[u8; 64],
+    seconds: &[u8; 64],
+    values: &mut [i32; 64],
+    steps: &[i32; 64],
+    count: usize,
+    arguments: &[u8],
+    ends: &[u16; 9],
+    given: usize,
+    out: &mut [u8; 512],
+) -> Dealt
+    requires { ⌜ Shows (layoutOf layout) (pageOf page) × scanning.Ready (now store) (now «text_firsts») (now «text_seconds») (now kinds) (now lengths) texts (now firsts) (now seconds) (now values) (now steps) count (now arguments) (now ends) given × Room (now out) 0 512 ⌝ }
+    ensures { λ r. ⌜ DealtTo r (printerOf printer) (layoutOf layout) (pageOf page) (textsOf (now (store .entry)) (now («text_firsts» .entry)) (now («text_seconds» .entry)) (now (kinds .entry)) (now (lengths .entry)) texts) false (argumentsOf (now (arguments .entry)) (now (ends .entry)) given) (now (line .entry)) (now (firsts .entry)) (now (seconds .entry)) (now (values .entry)) (now (steps .entry)) count (now (out .exit)) (now (values .exit)) ⌝ }
+{
+    match lines::line_of(line) {
+        Line::Text => words_as(expand(
+            line,
+            Mode::Plain,
+            0,
+            printer,
+            layout,
+            page,
+            store,
+            text_firsts,
+            text_seconds,
+            kinds,
+            lengths,
+            texts,
+            firsts,
+            seconds,
+            values,
+            steps,
+            count,
+            arguments,
+            ends,
+            given,
+            out,
+        )),
+        Line::Control(period, name, at) => scan_control(
+            line,
+            period,
+            name,
+            at,
+            printer,
+            layout,
+            page,
+            store,
+            text_firsts,
+            text_seconds,
+            kinds,
+            lengths,
+            texts,
+            firsts,
+            seconds,
+            values,
+            steps,
+            count,
+            arguments,
+            ends,
+            given,
+            out,
+        ),
+        Line::Ignored => Dealt::Nothing,
+    }
+}
+
+// The next line, from whichever is on top, up to its expansion.
+pub fn read<'a>(
+    source: &'a [u8],
+    top: Top,
+    opened: bool,
+    printer: Printer,
+    layout: Layout,
+    page: Page,
+    store: &'a [u8],
+    text_firsts: &[u8; 64],
+    text_seconds: &[u8; 64],
+    kinds: &[u8; 64],
+    lengths: &[u16; 64],
+    texts: usize,
+    firsts: &[u8; 64],
+    seconds: &[u8; 64],
+    values: &mut [i32; 64],
+    steps: &[i32; 64],
+    count: usize,
+    arguments: &[u8],
+    ends: &[u16; 9],
+    given: usize,
+    out: &mut [u8; 512],
+) -> Dealt
+    requires { ⌜ TopInside (now source) (now store) top × Shows (layoutOf layout) (pageOf page) × scanning.Ready (now store) (now «text_firsts») (now «text_seconds») (now kinds) (now lengths) texts (now firsts) (now seconds) (now values) (now steps) count (now arguments) (now ends) given × Room (now out) 0 512 ⌝ }
+    ensures { λ r. ⌜ DealtTo r (printerOf printer) (layoutOf layout) (pageOf page) (textsOf (now (store .entry)) (now («text_firsts» .entry)) (now («text_seconds» .entry)) (now (kinds .entry)) (now (lengths .entry)) texts) opened (argumentsOf (now (arguments .entry)) (now (ends .entry)) given) (nextLine (now (source .entry)) (now (store .entry)) top) (now (firsts .entry)) (now (seconds .entry)) (now (values .entry)) (now (steps .entry)) count (now (out .exit)) (now (values .exit)) ⌝ }
+{
+    let line = texts::next_line(source, store, top);
+    if opened {
+        return scan_body(
+            line,
+            printer,
+            layout,
+            page,
+            store,
+            text_firsts,
+            text_seconds,
+            kinds,
+            lengths,
+            texts,
+            firsts,
+            seconds,
+            values,
+            steps,
+            count,
+            arguments,
+            ends,
+            given,
+            out,
+        );
+    }
+    scan_fresh(
+        line,
+        printer,
+        layout,
+        page,
+        store,
+        text_firsts,
+        text_seconds,
+        kinds,
+        lengths,
+        texts,
+        firsts,
+        seconds,
+        values,
+        steps,
+        count,
+        arguments,
+        ends,
+        given,
+        out,
+    )
+}
+
+// nr, by its arguments.
+fn assign_parted(
+    parts: &[u8],
+    ends: &[u16; 9],
+    given: usize,
+    printer: Printer,
+    firsts: &mut [u8; 64],
+    seconds: &mut [u8; 64],
+    values: &mut [i32; 64],
+    steps: &mut [i32; 64],
+    count: usize,
+) -> Assigned
+    requires { ⌜ registers.Ready (now firsts) (now seconds) (now values) (now steps) count printer × Arguments (now parts) (now ends) given ⌝ }
+    ensures { λ r. ⌜ AssignsAs (now (firsts .entry)) (now (seconds .entry)) (now (values .entry)) (now (steps .entry)) count (registers.assigns printer (getD (argumentsOf (now (parts .entry)) (now (ends .entry)) given) 0 []) (getD (argumentsOf (now (parts .entry)) (now (ends .entry)) given) 1 []) (getD (argumentsOf (now (parts .entry)) (now (ends .entry)) given) 2 [])) r (now (firsts .exit)) (now (seconds .exit)) (now (values .exit)) (now (steps .exit)) ⌝ }
+{
+    let name = lines::argument(parts, ends, given, 0);
+    let value = lines::argument(parts, ends, given, 1);
+    let step = lines::argument(parts, ends, given, 2);
+    requests::assign(
+        name,
+        value,
+        step,
+        printer,
+        firsts,
+        seconds,
+        values,
+        steps,
+        count,
+    )
+}
+
+// nr, by what follows its name.
+pub fn assign(
+    line: &[u8],
+    parts: &mut [u8; 512],
+    printer: Printer,
+    firsts: &mut [u8; 64],
+    seconds: &mut [u8; 64],
+    values: &mut [i32; 64],
+    steps: &mut [i32; 64],
+    count: usize,
+) -> Assigned
+    requires { ⌜ registers.Ready (now firsts) (now seconds) (now values) (now steps) count printer × Unread (now line) 0 (now parts) 0 ⌝ }
+    ensures { λ r. ⌜ AssignsAs (now (firsts .entry)) (now (seconds .entry)) (now (values .entry)) (now (steps .entry)) count (λ s. perform (printerOf printer) Nr (now (line .entry)) s) r (now (firsts .exit)) (now (seconds .exit)) (now (values .exit)) (now (steps .exit)) ⌝ }
+{
+    let mut ends = [0u16; 9];
+    let given = scan::arguments(line, 0, &mut *parts, &mut ends);
+    assign_parted(
+        &*parts,
+        &ends,
+        given,
+        printer,
+        firsts,
+        seconds,
+        values,
+        steps,
+        count,
+    )
+}
+
+// wh, by its arguments.
+fn plant_parted(
+    parts: &[u8],
+    ends: &[u16; 9],
+    given: usize,
+    printer: Printer,
+    planted: Planted,
+) -> Plants
+    requires { ⌜ traps.Ready planted printer × Arguments (now parts) (now ends) given ⌝ }
+    ensures { λ r. ⌜ traps.PlantedTo (getD (argumentsOf (now (parts .entry)) (now (ends .entry)) given) 0 []) (getD (argumentsOf (now (parts .entry)) (now (ends .entry)) given) 1 []) planted printer r ⌝ }
+{
+    let row = lines::argument(parts, ends, given, 0);
+    let name = lines::argument(parts, ends, given, 1);
+    requests::plant(row, name, planted, printer)
+}
+
+// wh, by what follows its name.
+pub fn plant(line: &[u8], parts: &mut [u8; 512], printer: Printer, planted: Planted) -> Plants
+    requires { ⌜ traps.Ready planted printer × Unread (now line) 0 (now parts) 0 ⌝ }
+    ensures { λ r. ⌜ PlantsAs planted (λ s. perform (printerOf printer) Wh (now (line .entry)) s) r ⌝ }
+{
+    let mut ends = [0u16; 9];
+    let given = scan::arguments(line, 0, &mut *parts, &mut ends);
+    plant_parted(&*parts, &ends, given, printer, planted)
+}
+
+// rm, by what follows its name.
+pub fn remove(
+    line: &[u8],
+    parts: &mut [u8; 512],
+    printer: Printer,
+    stack: Stack,
+    store: &mut [u8],
+    firsts: &mut [u8; 64],
+    seconds: &mut [u8; 64],
+    kinds: &mut [u8; 64],
+    lengths: &mut [u16; 64],
+    count: usize,
+) -> Changed
+    requires { ⌜ texts.Ready (now store) (now firsts) (now seconds) (now kinds) (now lengths) count stack × Unread (now line) 0 (now parts) 0 ⌝ }
+    ensures { λ r. ⌜ ChangesAs (now (store .entry)) (now (firsts .entry)) (now (seconds .entry)) (now (kinds .entry)) (now (lengths .entry)) count stack alone (λ s. perform (printerOf printer) Rm (now (line .entry)) s) r (now (store .exit)) (now (firsts .exit)) (now (seconds .exit)) (now (kinds .exit)) (now (lengths .exit)) ⌝ }
+{
+    let mut ends = [0u16; 9];
+    let given = scan::arguments(line, 0, &mut *parts, &mut ends);
+    let name = lines::argument(&*parts, &ends, given, 0);
+    requests::remove(name, stack, store, firsts, seconds, kinds, lengths, count)
+}
+
+// What de leads to: the answer of the texts, and the definition that is open then.
+pub struct Opened {
+    pub changed: Changed,
+    pub opening: Opening,
+}
+
+// The definition of a name is open, unless it was refused.
+fn opened_as(changed: Changed, name: Name, opening: Opening) -> Opened
+    ensures { λ r. ⌜ r ≡ openedWith changed name opening ⌝ }
+{
+    match changed {
+        Changed::Count(_) => {
+            let empty = Opening {
+                there: true,
+                name,
+                length: 0,
+            };
+            Opened {
+                changed,
+                opening: empty,
+            }
+        }
+        Changed::Same => Opened { changed, opening },
+        Changed::Refused(_) => Opened { changed, opening },
+    }
+}
+
+// de of what its name is.
+fn open_named(
+    name: &[u8],
+    opening: Opening,
+    stack: Stack,
+    store: &mut [u8],
+    firsts: &mut [u8; 64],
+    seconds: &mut [u8; 64],
+    kinds: &mut [u8; 64],
+    lengths: &mut [u16; 64],
+    count: usize,
+) -> Opened
+    requires { ⌜ texts.Ready (now store) (now firsts) (now seconds) (now kinds) (now lengths) count stack ⌝ }
+    ensures { λ r. ⌜ OpensAs (now (store .entry)) (now (firsts .entry)) (now (seconds .entry)) (now (kinds .entry)) (now (lengths .entry)) count stack (nameOf (now (name .entry))) (texts.opensText (now (name .entry))) (r .changed) (now (store .exit)) (now (firsts .exit)) (now (seconds .exit)) (now (kinds .exit)) (now (lengths .exit)) × OpeningIs (nameOf (now (name .entry))) (r .changed) opening (r .opening) ⌝ }
+{
+    match lines::name_of(name) {
+        Named::One(known) => {
+            let changed = requests::open(
+                name,
+                stack,
+                store,
+                firsts,
+                seconds,
+                kinds,
+                lengths,
+                count,
+            );
+            opened_as(changed, known, opening)
+        }
+        Named::Nothing => Opened {
+            changed: Changed::Same,
+            opening,
+        },
+        Named::TooLong => Opened {
+            changed: Changed::Refused(7),
+            opening,
+        },
+    }
+}
+
+// de, by what follows its name.
+pub fn open(
+    line: &[u8],
+    parts: &mut [u8; 512],
+    printer: Printer,
+    opening: Opening,
+    stack: Stack,
+    store: &mut [u8],
+    firsts: &mut [u8; 64],
+    seconds: &mut [u8; 64],
+    kinds: &mut [u8; 64],
+    lengths: &mut [u16; 64],
+    count: usize,
+) -> Opened
+    requires { ⌜ texts.Ready (now store) (now firsts) (now seconds) (now kinds) (now lengths) count stack × Unread (now line) 0 (now parts) 0 ⌝ }
+    ensures { λ r. ⌜ OpensAs (now (store .entry)) (now (firsts .entry)) (now (seconds .entry)) (now (kinds .entry)) (now (lengths .entry)) count stack (nameOf (argument 0 (now (line .entry)))) (λ s. perform (printerOf printer) De (now (line .entry)) s) (r .changed) (now (store .exit)) (now (firsts .exit)) (now (seconds .exit)) (now (kinds .exit)) (now (lengths .exit)) × OpeningIs (nameOf (argument 0 (now (line .entry)))) (r .changed) opening (r .opening) ⌝ }
+{
+    let mut ends = [0u16; 9];
+    let given = scan::arguments(line, 0, &mut *parts, &mut ends);
+    let name = lines::argument(&*parts, &ends, given, 0);
+    open_named(
+        name,
+        opening,
+        stack,
+        store,
+        firsts,
+        seconds,
+        kinds,
+        lengths,
+        count,
+    )
+}

@@ -1,5 +1,0 @@
-pub mod Whole
-pub mod WholeLaws
-pub mod Dealing
-pub mod DealingLaws
-pub mod BodyLaws
