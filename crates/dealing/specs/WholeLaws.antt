@@ -38,10 +38,22 @@ use Rattle.dealing.specs.declared.Opening.{Opening}
 use Rattle.dealing.specs.declared.Opened.{Opened}
 use Rattle.dealing.specs.Whole.{Texts, Whole, textColumns, registerColumns, whole, textsIn, openedIf, registersIn, stateIn, OpensIn, SoundWhole, KeptStore, Did}
 
-same-store : (w : Way) (st : List ℕ) → KeptStore w st st
+-- a store that is as it was is kept
+pub same-store : (w : Way) (st : List ℕ) → KeptStore w st st
 same-store On st = tt
 same-store Done st = refl
 same-store (Refused n) st = refl
+
+-- The same by another rule, where the two agree.
+pub did-as : (rule rule' : State → Next) (q : Whole) (w : Way) (written : ℕ) (q' : Whole) (row' : List ℕ) → ((x : State) → rule (stateIn q x) ≡ rule' (stateIn q x))
+    → Did rule q w written q' row' → Did rule' q w written q' row'
+did-as rule rule' q w written q' row' h d =
+    record { is = λ x. d .is x ∙ h x; sound = d .sound; fits = d .fits; few = d .few; long = d .long; kept = d .kept }
+
+-- Nothing is written, and all is as it is.
+pub stay-did : (rule : State → Next) (q : Whole) (w : Way) (row : List ℕ) → SoundWhole q → q .desk .stack .depth ≤ 16 → length row ≡ 872
+    → ((x : State) → works [] (closeBy w (stateIn q x)) ≡ rule (stateIn q x)) → Did rule q w 0 q row
+stay-did rule q w row s d l h = record { is = h; sound = s; fits = fits-few (q .desk .stack) d; few = omega arith; long = l; kept = same-store w (q .texts .store) }
 
 -- Work on a desk.
 pub desk-did : (rule : List Text → State → Next) (q : Whole) (w : Way) (written : ℕ) (d' : Desk) (row' : List ℕ) → SoundWhole q
