@@ -5,6 +5,7 @@ use mathlib.Core.Option.{Option·getD}
 use mathlib.Core.List.{List, [], _∷_}
 use Prim.Native.Nat.{ℕ, zero, suc, _+_, _*_}
 use lib.Dec.{leb, ltb, eqb}
+use lib.IntN.{ℤ}
 use lib.ListN.{length, take, drop, getD}
 use Rattle.measure.specs.declared.Rows.{Rows}
 use Rattle.measure.specs.Counts.{acrossOf, downOf}
@@ -37,6 +38,14 @@ pub record Lent (ends textFirsts textSeconds lengths firsts seconds : List ℕ) 
   pub texts-long : texts.NameColumns textFirsts textSeconds
   pub lengths-long : length lengths ≡ 64
   pub registers-long : registers.NameColumns firsts seconds
+
+-- the same of the arrays that no test reads, beside a store of so many bytes
+pub record Beside (size : ℕ) (cells arena store kinds : List ℕ) (values steps : List ℤ) : Type 0 where
+  pub cells-long : length cells ≡ 512
+  pub arena-long : length arena ≡ 8704
+  pub store-long : length store ≡ size
+  pub kinds-long : length kinds ≡ 64
+  pub numbers-long : registers.NumberColumns values steps
 
 -- a setting and the value before it are at most so many cells
 abbrev pub isSetting : (most : ℕ) → Setting → Bool

@@ -14,7 +14,6 @@ use sheet::Collected;
 use texts::Place;
 ghost use mathlib.Core.Path.{_≡_};
 ghost use Prim.Native.Nat.{_+_, _*_, _≤_, _<_};
-ghost use lib.Dec.{leb};
 ghost use lib.ListN.{length, take, drop};
 ghost use Rattle.texts.specs.Table.{Names, namesOf, sum};
 ghost use Rattle.texts.specs.Places.{placeOf};

@@ -5,7 +5,6 @@ use mathlib.Core.Path.{_≡_, sym, _∙_}
 use native.Mathlib.Omega.{arith}
 use lib.ListN.{length, take, drop, getD}
 use denote.Ref.{now}
-use borrow.Author.Needs.{needs}
 use Rattle.checks.specs.Checks.{inOrder, areArguments}
 use Rattle.checks.proofs.Walks.{given, given-long, given-at, order-before, order-past, order-on, order-end, arguments-many, arguments-few}
 use Rattle.checks.proofs.are_arguments.Statement.{statement}

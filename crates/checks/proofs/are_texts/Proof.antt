@@ -1,6 +1,5 @@
 -- `checks::are_texts` meets its contract, test by test. Assumes nothing.
 use denote.Ref.{now}
-use native.Mathlib.Omega.{arith}
 use borrow.Author.Needs.{needs}
 use borrow.Author.Tests.{eq-eqb, ne-eqb}
 use Rattle.checks.specs.Checks.{areTexts}

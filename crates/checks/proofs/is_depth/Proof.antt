@@ -1,16 +1,14 @@
 -- `checks::is_depth` meets its contract. Assumes nothing.
-use mathlib.Core.Path.{_≡_, refl, sym, ap, _∙_}
+use mathlib.Core.Path.{_≡_, ap, _∙_}
 use mathlib.Core.Bool.{Bool, true, false, not, _&&_}
 use Prim.Native.Nat.{ℕ, _≤_, _<_}
 use native.Mathlib.Omega.{arith}
 use lib.Dec.{leb}
 use borrow.Author.Needs.{needs}
 use borrow.Author.Tests.{le-leb, lt-leb}
-use Rattle.input.specs.declared.Stack.{Stack}
 use Rattle.input.specs.declared.Entry.{Entry}
 use Rattle.input.specs.Frames.{topEntry}
 use Rattle.springs.specs.Held.{isText, limitBy}
-use Rattle.checks.specs.Checks.{isDepth}
 use Rattle.checks.proofs.is_depth.Statement.{statement}
 use Rattle.checks.proofs.is_depth.Tie as tie
 

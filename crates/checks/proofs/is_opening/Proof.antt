@@ -1,5 +1,4 @@
 -- `checks::is_opening` meets its contract. Assumes nothing.
-use native.Mathlib.Omega.{arith}
 use borrow.Author.Needs.{needs}
 use borrow.Author.Tests.{not-true, not-false, lt-ltb, le-ltb, le-leb, lt-leb}
 use Rattle.checks.proofs.is_opening.Statement.{statement}

@@ -1,6 +1,4 @@
 -- `checks::is_setting` meets its contract. Assumes nothing.
-use mathlib.Core.Path.{sym}
-use native.Mathlib.Omega.{arith}
 use borrow.Author.Needs.{needs}
 use borrow.Author.Tests.{le-leb, lt-leb}
 use Rattle.checks.proofs.is_setting.Statement.{statement}

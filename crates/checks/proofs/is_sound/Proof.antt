@@ -1,5 +1,4 @@
 -- `checks::is_sound` meets its contract, test by test. Assumes nothing.
-use native.Mathlib.Omega.{arith}
 use denote.Ref.{now}
 use borrow.Author.Needs.{needs}
 use Rattle.checks.specs.Checks.{isSound}

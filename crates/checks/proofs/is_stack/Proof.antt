@@ -1,15 +1,12 @@
 -- `checks::is_stack` meets its contract. The invariant: all frames keep to their limits if those below i do. Assumes nothing.
-use Prim.Native.Nat.{ℕ, _≤_, _<_, _-_, _*_}
+use Prim.Native.Nat.{_≤_, _-_, _*_}
 use mathlib.Core.Path.{_≡_, refl, sym, ap, _∙_}
-use mathlib.Core.Bool.{Bool, true, false, not, _&&_}
-use mathlib.Core.List.{List}
+use mathlib.Core.Bool.{Bool, true, false, _&&_}
 use native.Mathlib.Omega.{arith}
-use lib.ListN.{take, drop, getD}
+use lib.ListN.{take, drop}
 use denote.Ref.{now}
 use borrow.Author.Needs.{needs}
-use borrow.Author.Tests.{not-true, not-false, leb-true}
-use Rattle.rules.specs.declared.Name.{Name}
-use Rattle.rules.specs.RefusalLaws.{both}
+use borrow.Author.Tests.{not-true, not-false}
 use Rattle.texts.specs.Table.{namesOf}
 use Rattle.input.specs.declared.Entry.{Entry}
 use Rattle.input.specs.Frames.{noEntry}
