@@ -486,7 +486,7 @@ pub fn obey(
 }
 
 // The front of a line.
-fn front(line: &[u8], to: usize) -> &[u8]
+pub fn front(line: &[u8], to: usize) -> &[u8]
     requires { ⌜ to ≤ length (now line) ⌝ }
     ensures { λ r. ⌜ now r ≡ take to (now (line .entry)) ⌝ }
 {
