@@ -1,0 +1,4 @@
+pub mod Gathering
+pub mod GatheringLaws
+pub mod Writing
+pub mod CallLaws
