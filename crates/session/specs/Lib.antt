@@ -8,3 +8,5 @@ pub mod Calls
 pub mod Start
 -- the turns of a call
 pub mod Turns
+-- the limits of a record, judged
+pub mod Limits

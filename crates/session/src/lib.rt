@@ -18,10 +18,11 @@ ghost use lib.ListN.{length, take};
 ghost use Rattle.rules.specs.Printers.{tenToTheInch};
 ghost use Rattle.rules.specs.Session.{step, readEnd};
 ghost use Rattle.dealing.specs.Statuses.{wholeOf};
-ghost use Rattle.session.specs.View.{stateOf, Legal};
+ghost use Rattle.session.specs.View.{stateOf, lastLine, Legal};
 ghost use Rattle.session.specs.Start.{firstLayout, firstStatus, startRecord};
 ghost use Rattle.session.specs.Turns.{recordOf, closingOf, placeAfter, Whichever, Deals, Works, LineDealt, Busy, Asking, Arrives, TakenTo, emptied as emptiedOf, HasWork, Turns, Turned, WroteTo, replyFrom};
-ghost use Rattle.session.specs.Contract.{callOn, Does};
+ghost use Rattle.session.specs.Contract.{callOn, Does, Called};
+ghost use Rattle.session.specs.Limits.{EndsWith, isOpen, AnsweredJudged, PlacedJudged, soundIn, withinIn, Judged};
 ghost use Rattle.source.specs.Writing.{Writes};
 ghost use Rattle.session.specs.declared.Closing.the-variants.{Open};
 
@@ -713,5 +714,288 @@ fn run(
                 written,
             };
         }
+    }
+}
+
+// The answer of a session that is closed, if nothing waits any more.
+fn ended(closing: Closing, waiting: Waiting) -> Stop
+    ensures { λ r. ⌜ EndsWith r closing waiting ⌝ }
+{
+    if waiting.at != waiting.end {
+        return Stop::Goes;
+    }
+    match closing {
+        Closing::Open => Stop::Goes,
+        Closing::Done => Stop::With(Answer::Done),
+        Closing::Refused(n, line) => Stop::With(Answer::Refused(n, line)),
+    }
+}
+
+// "12: past 1,000,000 source lines"
+fn last_line(closing: Closing) -> u32
+    ensures { λ r. ⌜ r ≡ lastLine closing ⌝ }
+{
+    match closing {
+        Closing::Open => 1000000,
+        Closing::Done => 1000001,
+        Closing::Refused(n, line) => 1000001,
+    }
+}
+
+// Whether a session is not closed.
+fn is_open(closing: Closing) -> bool
+    ensures { λ r. ⌜ r ≡ isOpen closing ⌝ }
+{
+    match closing {
+        Closing::Open => true,
+        Closing::Done => false,
+        Closing::Refused(n, line) => false,
+    }
+}
+
+// "first refusal (2 to 12)": a closing refusal is one of these, at the source line.
+fn is_answered(closing: Closing, line: u32) -> bool
+    ensures { λ r. ⌜ AnsweredJudged r closing line ⌝ }
+{
+    match closing {
+        Closing::Open => true,
+        Closing::Done => true,
+        Closing::Refused(n, at) => {
+            if n < 2 {
+                return false;
+            }
+            if n > 12 {
+                return false;
+            }
+            at == line
+        }
+    }
+}
+
+// Whether the source and the waiting bytes keep their limits.
+fn is_placed(source: Source, waiting: Waiting, closing: Closing) -> bool
+    ensures { λ r. ⌜ PlacedJudged r source waiting closing ⌝ }
+{
+    if source.length > 512 {
+        return false;
+    }
+    if source.line > last_line(closing) {
+        return false;
+    }
+    if source.stored > 10000 {
+        return false;
+    }
+    if waiting.at > waiting.end {
+        return false;
+    }
+    if waiting.end > 872 {
+        return false;
+    }
+    is_answered(closing, source.line)
+}
+
+// Whether the parts of a record and a store of so many bytes keep their limits.
+fn is_sound(session: Record, store: usize) -> bool
+    ensures { λ r. ⌜ r ≡ soundIn session store ⌝ }
+{
+    let status = session.status;
+    let ends = session.ends;
+    let text_firsts = session.text_firsts;
+    let text_seconds = session.text_seconds;
+    let lengths = session.lengths;
+    let firsts = session.firsts;
+    let seconds = session.seconds;
+    checks::is_sound(
+        status,
+        store,
+        &ends,
+        &text_firsts,
+        &text_seconds,
+        &lengths,
+        &firsts,
+        &seconds,
+    )
+}
+
+// Whether its state is within the limits that every state of the rules keeps to.
+fn is_within(session: Record) -> bool
+    ensures { λ r. ⌜ r ≡ withinIn session ⌝ }
+{
+    let status = session.status;
+    let source = session.source;
+    let closing = session.closing;
+    let gathered = session.gathered;
+    let text_firsts = session.text_firsts;
+    let text_seconds = session.text_seconds;
+    let values = session.values;
+    let steps = session.steps;
+    checks::is_within(
+        status,
+        is_open(closing),
+        &gathered,
+        source.length,
+        &text_firsts,
+        &text_seconds,
+        &values,
+        &steps,
+    )
+}
+
+// Whether a record and its store keep their limits.
+fn is_legal(session: Record, store: &[u8]) -> bool
+    ensures { λ r. ⌜ Judged r session (now (store .entry)) ⌝ }
+{
+    let source = session.source;
+    let waiting = session.waiting;
+    let closing = session.closing;
+    if !is_placed(source, waiting, closing) {
+        return false;
+    }
+    if !is_sound(session, store.len()) {
+        return false;
+    }
+    is_within(session)
+}
+
+// The record of a place and the arrays.
+fn recorded(
+    place: Place,
+    gathered: [u8; 512],
+    cells: [u8; 512],
+    row: [u8; 872],
+    arena: [u8; 8704],
+    ends: [u16; 153],
+    text_firsts: [u8; 64],
+    text_seconds: [u8; 64],
+    kinds: [u8; 64],
+    lengths: [u16; 64],
+    firsts: [u8; 64],
+    seconds: [u8; 64],
+    values: [i32; 64],
+    steps: [i32; 64],
+) -> Record
+    ensures { λ r. ⌜ r ≡ recordOf place gathered cells row arena ends «text_firsts» «text_seconds» kinds lengths firsts seconds values steps ⌝ }
+{
+    let status = place.status;
+    let source = place.source;
+    let waiting = place.waiting;
+    let closing = place.closing;
+    Record {
+        status,
+        source,
+        waiting,
+        closing,
+        gathered,
+        cells,
+        row,
+        arena,
+        ends,
+        text_firsts,
+        text_seconds,
+        kinds,
+        lengths,
+        firsts,
+        seconds,
+        values,
+        steps,
+    }
+}
+
+// A call on a record within its limits.
+fn serve(session: Record, store: &mut [u8], block: &[u8], last: bool, out: &mut [u8]) -> Reply
+    requires { ⌜ Legal session (now store) ⌝ }
+    ensures { λ r. ⌜ Does (callOn session (now (store .entry)) (now (block .entry)) last (length (now (out .entry)))) (now (out .entry)) r (now (store .exit)) (now (out .exit)) ⌝ }
+{
+    let status = session.status;
+    let source = session.source;
+    let waiting = session.waiting;
+    let closing = session.closing;
+    let mut gathered = session.gathered;
+    let mut cells = session.cells;
+    let mut row = session.row;
+    let mut arena = session.arena;
+    let mut ends = session.ends;
+    let mut text_firsts = session.text_firsts;
+    let mut text_seconds = session.text_seconds;
+    let mut kinds = session.kinds;
+    let mut lengths = session.lengths;
+    let mut firsts = session.firsts;
+    let mut seconds = session.seconds;
+    let mut values = session.values;
+    let mut steps = session.steps;
+    let start = Place {
+        status,
+        source,
+        waiting,
+        closing,
+    };
+    let ran = run(
+        block,
+        last,
+        start,
+        out,
+        &mut gathered,
+        &mut cells,
+        &mut row,
+        &mut arena,
+        &mut ends,
+        store,
+        &mut text_firsts,
+        &mut text_seconds,
+        &mut kinds,
+        &mut lengths,
+        &mut firsts,
+        &mut seconds,
+        &mut values,
+        &mut steps,
+    );
+    let place = ran.place;
+    let answer = ran.answer;
+    Reply {
+        answer,
+        taken: ran.taken,
+        written: ran.written,
+        next: recorded(
+            place,
+            gathered,
+            cells,
+            row,
+            arena,
+            ends,
+            text_firsts,
+            text_seconds,
+            kinds,
+            lengths,
+            firsts,
+            seconds,
+            values,
+            steps,
+        ),
+    }
+}
+
+// One session call: the record and the store as the call before handed them out, a block of the source, whether the source ends with it, and room for output.
+pub fn call(session: Record, store: &mut [u8], block: &[u8], last: bool, out: &mut [u8]) -> Reply
+    ensures { λ r. ⌜ Called session (now (store .entry)) (now (block .entry)) last (now (out .entry)) r (now (store .exit)) (now (out .exit)) ⌝ }
+{
+    if !is_legal(session, store) {
+        return Reply {
+            answer: Answer::Refused(1, 0),
+            taken: 0,
+            written: 0,
+            next: session,
+        };
+    }
+    let closing = session.closing;
+    let waiting = session.waiting;
+    let stop = ended(closing, waiting);
+    match stop {
+        Stop::With(answer) => Reply {
+            answer,
+            taken: 0,
+            written: 0,
+            next: session,
+        },
+        Stop::Goes => serve(session, store, block, last, out),
     }
 }

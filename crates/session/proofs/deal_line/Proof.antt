@@ -11,31 +11,21 @@ use Rattle.session.specs.View.{sourced}
 use Rattle.session.proofs.Turns.{line-dealt}
 use Rattle.session.proofs.deal_line.Statement.{statement}
 use Rattle.session.proofs.deal_line.Tie as tie
-use Rattle.session.proofs.deal_line.Reads as reads
-use Rattle.session.proofs.deal_line.Lts as lts
-use Rattle.formatter.proofs.deal.Reads as deal-reads
-use Rattle.session.proofs.place_after.Reads as place-after-reads
-use Rattle.settings.proofs.ten_to_the_inch.Reads as ten-to-the-inch-reads
 
--- src/lib.rt:208:9
 ten-to-the-inch-requires : tie.Need-ten-to-the-inch-requires
 ten-to-the-inch-requires c κs = search needs
 
--- src/lib.rt:206:9
 deal-requires : tie.Need-deal-requires
 deal-requires c κs =
-    let a = c .before .before .before .before .before .before .before .before .before .before .before .before .before .before .before .before .pre .0 in
-    (record { sound = a .sound; items = omega (arith, a .empty); short = a .short; long = a .row-long; printer = c .before .before .before .before .before .before .before .before .before .before .before .before .before .ten-to-the-inch .ensures .sound }, c .before .before .before .before .before .before .before .before .before .before .before .before .before .before .before .before .pre .1)
+    let a = c .before .before .before .before .before .before .before .before .before .before .before .before .before .before .before .before .pre in
+    record { sound = a .sound; items = omega (arith, a .empty); short = a .short; long = a .row-long; printer = c .before .before .before .before .before .before .before .before .before .before .before .before .before .ten-to-the-inch .ensures .sound }
 
--- src/lib.rt:226:5
 place-after-requires : tie.Need-place-after-requires
 place-after-requires c κs = search needs
 
--- src/lib.rt:185:1
 same-length : tie.Need-same-length
 same-length c = search needs
 
--- src/lib.rt:185:1
 returns : tie.Need-returns
 returns c =
     let a = c .before .before .before .before .before .before .before .before .before .before .before .before .before .before .before .before .before .before .before .before .before .args in
@@ -44,7 +34,7 @@ returns c =
     let r = c .before .before .before .before .deal .result in
     λ g k. line-dealt _ (r .status) (a .source) (r .way) (r .written) (c .place-after .result) (c .place-after .ensures) g _ _ _ _ _ _ _ _ _ _ _ _ _ k
     (λ s. deal (printerOf (p .result)) [] (now (a .line)) s) q (now (a .line)) (now (a .row))
-    (ap (λ v. deal v [] (now (a .line)) (stateIn q (sourced (a .source) g))) (sym (p .ensures .is))) (c .before .before .before .before .before .before .before .before .before .before .before .before .before .before .before .before .before .before .before .before .before .pre .0) (c .before .before .before .before .deal .ensures)
+    (ap (λ v. deal v [] (now (a .line)) (stateIn q (sourced (a .source) g))) (sym (p .ensures .is))) (c .before .before .before .before .before .before .before .before .before .before .before .before .before .before .before .before .before .before .before .before .before .pre) (c .before .before .before .before .deal .ensures)
 
 pub deal-line-spec : {M : Type 1} → statement M
 deal-line-spec =

@@ -1,30 +1,19 @@
 use borrow.Author.Needs.{needs}
 use Rattle.session.proofs.first_status.Statement.{statement}
 use Rattle.session.proofs.first_status.Tie as tie
-use Rattle.session.proofs.first_status.Reads as reads
-use Rattle.session.proofs.first_status.Lts as lts
-use Rattle.input.proofs.empty.Reads as empty-reads
-use Rattle.session.proofs.first_layout.Reads as first-layout-reads
-use Rattle.sheet.proofs.nothing_collected.Reads as nothing-collected-reads
-use Rattle.traps.proofs.empty.Reads as empty-reads′
 
--- src/lib.rt:103:17
 first-layout-requires : tie.Need-first-layout-requires
 first-layout-requires c κs = search needs
 
--- src/lib.rt:109:20
 nothing-collected-requires : tie.Need-nothing-collected-requires
 nothing-collected-requires c κs = search needs
 
--- src/lib.rt:110:18
 empty-requires : tie.Need-empty-requires
 empty-requires c κs = search needs
 
--- src/lib.rt:111:16
 empty-requires-2 : tie.Need-empty-requires-2
 empty-requires-2 c κs = search needs
 
--- src/lib.rt:99:1
 returns : tie.Need-returns
 returns c = rw (c .empty2 .ensures, c .before .empty .ensures, c .before .before .nothing-collected .ensures, c .before .before .before .first-layout .ensures)
 

@@ -4,15 +4,11 @@ use Prim.Native.Nat.{ℕ}
 use mathlib.Core.Path.{_≡_}
 use Rattle.session.proofs.has_work.Statement.{statement}
 use Rattle.session.proofs.has_work.Tie as tie
-use Rattle.session.proofs.has_work.Reads as reads
-use Rattle.session.proofs.has_work.Lts as lts
 
--- src/lib.rt:308:9
 returns : tie.Need-returns
 returns c =
     record { yes = λ e d. absurd (c .if1 .taken d); no = λ e. let z : _≡_ {A = ℕ} 0 1 = cc (e) in absurd (omega arith) }
 
--- src/lib.rt:304:1
 returns-2 : tie.Need-returns-2
 returns-2 c = search needs
 

@@ -5,65 +5,49 @@ use Rattle.session.specs.Turns.{recordOf}
 use Rattle.session.proofs.Leading.{leads-work, leads-take, leads-end, stops-input, is-busy, is-asking}
 use Rattle.session.proofs.open_turn.Statement.{statement}
 use Rattle.session.proofs.open_turn.Tie as tie
-use Rattle.session.proofs.open_turn.Reads as reads
-use Rattle.session.proofs.open_turn.Lts as lts
-use Rattle.session.proofs.has_work.Reads as has-work-reads
-use Rattle.session.proofs.read_end.Reads as read-end-reads
-use Rattle.session.proofs.take_line.Reads as take-line-reads
-use Rattle.session.proofs.work.Reads as work-reads
 
--- src/lib.rt:469:8
 has-work-requires : tie.Need-has-work-requires
 has-work-requires c κs = search needs
 
--- src/lib.rt:470:13
 work-requires : tie.Need-work-requires
 work-requires c κs =
     let a = c .before .before .before .before .before .before .before .before .before .before .before .before .before .before .before .before .before .args in
     let p = c .before .before .before .before .before .before .before .before .before .before .before .before .before .before .before .before .before .pre in
-    (is-busy (now (a .block)) (a .taken) (a .place) (now (a .gathered)) (now (a .cells)) (now (a .row)) (now (a .arena)) (now (a .ends)) (now (a .text-firsts)) (now (a .text-seconds)) (now (a .kinds)) (now (a .lengths)) (now (a .firsts)) (now (a .seconds)) (now (a .values)) (now (a .steps)) (now (a .store)) (p .0) (p .1) (c .before .before .before .before .before .before .before .before .before .before .before .before .before .before .has-work .result) (c .before .before .before .before .before .before .before .before .before .before .before .before .before .before .has-work .ensures) (c .before .before .before .before .before .before .before .before .before .before .before .before .before .if1 .taken), p .2)
+    (is-busy (now (a .block)) (a .taken) (a .place) (now (a .gathered)) (now (a .cells)) (now (a .row)) (now (a .arena)) (now (a .ends)) (now (a .text-firsts)) (now (a .text-seconds)) (now (a .kinds)) (now (a .lengths)) (now (a .firsts)) (now (a .seconds)) (now (a .values)) (now (a .steps)) (now (a .store)) (p .0) (p .1) (c .before .before .before .before .before .before .before .before .before .before .before .before .before .before .has-work .result) (c .before .before .before .before .before .before .before .before .before .before .before .before .before .before .has-work .ensures) (c .before .before .before .before .before .before .before .before .before .before .before .before .before .if1 .taken))
 
--- src/lib.rt:486:9
 same-length : tie.Need-same-length
 same-length c = search needs
 
--- src/lib.rt:486:9
 returns : tie.Need-returns
 returns c =
     let a = c .before .before .before .before .before .before .before .before .before .before .before .before .before .before .before .before .before .before .before .before .args in
     let p = c .before .before .before .before .before .before .before .before .before .before .before .before .before .before .before .before .before .before .before .before .pre in
-    leads-work (now (a .block)) (a .last) (recordOf (a .place) (now (a .gathered)) (now (a .cells)) (now (a .row)) (now (a .arena)) (now (a .ends)) (now (a .text-firsts)) (now (a .text-seconds)) (now (a .kinds)) (now (a .lengths)) (now (a .firsts)) (now (a .seconds)) (now (a .values)) (now (a .steps))) (now (a .store)) (a .taken) (p .0) _ _ (c .before .before .work .ensures (now (a .gathered)) (p .0 .legal .gathered-long))
+    leads-work (now (a .block)) (a .last) (recordOf (a .place) (now (a .gathered)) (now (a .cells)) (now (a .row)) (now (a .arena)) (now (a .ends)) (now (a .text-firsts)) (now (a .text-seconds)) (now (a .kinds)) (now (a .lengths)) (now (a .firsts)) (now (a .seconds)) (now (a .values)) (now (a .steps))) (now (a .store)) (a .taken) (p .0) _ _ (c .before .before .work .ensures (now (a .gathered)) (p .0 .legal .formed .gathered-long))
 
--- src/lib.rt:493:13
 take-line-requires : tie.Need-take-line-requires
 take-line-requires c κs =
     let a = c .before .before .before .before .before .before .before .before .before .before .before .before .before .before .before .before .before .before .before .args in
     let p = c .before .before .before .before .before .before .before .before .before .before .before .before .before .before .before .before .before .before .before .pre in
-    ((is-asking (now (a .block)) (a .taken) (a .place) (now (a .gathered)) (now (a .cells)) (now (a .row)) (now (a .arena)) (now (a .ends)) (now (a .text-firsts)) (now (a .text-seconds)) (now (a .kinds)) (now (a .lengths)) (now (a .firsts)) (now (a .seconds)) (now (a .values)) (now (a .steps)) (now (a .store)) (p .0) (p .1) (c .before .before .before .before .before .before .before .before .before .before .before .before .before .before .before .before .has-work .result) (c .before .before .before .before .before .before .before .before .before .before .before .before .before .before .before .before .has-work .ensures) (c .before .before .before .before .before .before .before .before .before .before .before .before .before .before .before .if1 .left)), c .before .before .before .before .before .before .before .before .before .before .before .before .before .before .if2 .taken, p .2)
+    ((is-asking (now (a .block)) (a .taken) (a .place) (now (a .gathered)) (now (a .cells)) (now (a .row)) (now (a .arena)) (now (a .ends)) (now (a .text-firsts)) (now (a .text-seconds)) (now (a .kinds)) (now (a .lengths)) (now (a .firsts)) (now (a .seconds)) (now (a .values)) (now (a .steps)) (now (a .store)) (p .0) (p .1) (c .before .before .before .before .before .before .before .before .before .before .before .before .before .before .before .before .has-work .result) (c .before .before .before .before .before .before .before .before .before .before .before .before .before .before .before .before .has-work .ensures) (c .before .before .before .before .before .before .before .before .before .before .before .before .before .before .before .if1 .left)), c .before .before .before .before .before .before .before .before .before .before .before .before .before .before .if2 .taken)
 
--- src/lib.rt:513:9
 same-length-2 : tie.Need-same-length-2
 same-length-2 c = search needs
 
--- src/lib.rt:513:9
 returns-2 : tie.Need-returns-2
 returns-2 c =
     let a = c .before .before .before .before .before .before .before .before .before .before .before .before .before .before .before .before .before .before .before .before .before .before .before .args in
     let p = c .before .before .before .before .before .before .before .before .before .before .before .before .before .before .before .before .before .before .before .before .before .before .before .pre in
     leads-take (now (a .block)) (a .last) (recordOf (a .place) (now (a .gathered)) (now (a .cells)) (now (a .row)) (now (a .arena)) (now (a .ends)) (now (a .text-firsts)) (now (a .text-seconds)) (now (a .kinds)) (now (a .lengths)) (now (a .firsts)) (now (a .seconds)) (now (a .values)) (now (a .steps))) (now (a .store)) (a .taken) (p .0) _ _ _ (c .before .before .before .take-line .ensures)
 
--- src/lib.rt:520:13
 read-end-requires : tie.Need-read-end-requires
 read-end-requires c κs =
     let a = c .before .before .before .before .before .before .before .before .before .before .before .before .before .before .before .before .before .before .before .before .args in
     let p = c .before .before .before .before .before .before .before .before .before .before .before .before .before .before .before .before .before .before .before .before .pre in
-    ((is-asking (now (a .block)) (a .taken) (a .place) (now (a .gathered)) (now (a .cells)) (now (a .row)) (now (a .arena)) (now (a .ends)) (now (a .text-firsts)) (now (a .text-seconds)) (now (a .kinds)) (now (a .lengths)) (now (a .firsts)) (now (a .seconds)) (now (a .values)) (now (a .steps)) (now (a .store)) (p .0) (p .1) (c .before .before .before .before .before .before .before .before .before .before .before .before .before .before .before .before .before .has-work .result) (c .before .before .before .before .before .before .before .before .before .before .before .before .before .before .before .before .before .has-work .ensures) (c .before .before .before .before .before .before .before .before .before .before .before .before .before .before .before .before .if1 .left)), p .2)
+    ((is-asking (now (a .block)) (a .taken) (a .place) (now (a .gathered)) (now (a .cells)) (now (a .row)) (now (a .arena)) (now (a .ends)) (now (a .text-firsts)) (now (a .text-seconds)) (now (a .kinds)) (now (a .lengths)) (now (a .firsts)) (now (a .seconds)) (now (a .values)) (now (a .steps)) (now (a .store)) (p .0) (p .1) (c .before .before .before .before .before .before .before .before .before .before .before .before .before .before .before .before .before .has-work .result) (c .before .before .before .before .before .before .before .before .before .before .before .before .before .before .before .before .before .has-work .ensures) (c .before .before .before .before .before .before .before .before .before .before .before .before .before .before .before .before .if1 .left)))
 
--- src/lib.rt:537:9
 same-length-3 : tie.Need-same-length-3
 same-length-3 c = search needs
 
--- src/lib.rt:537:9
 returns-3 : tie.Need-returns-3
 returns-3 c =
     let a = c .before .before .before .before .before .before .before .before .before .before .before .before .before .before .before .before .before .before .before .before .before .before .before .args in
@@ -72,7 +56,6 @@ returns-3 c =
     (is-asking (now (a .block)) (a .taken) (a .place) (now (a .gathered)) (now (a .cells)) (now (a .row)) (now (a .arena)) (now (a .ends)) (now (a .text-firsts)) (now (a .text-seconds)) (now (a .kinds)) (now (a .lengths)) (now (a .firsts)) (now (a .seconds)) (now (a .values)) (now (a .steps)) (now (a .store)) (p .0) (p .1) (c .before .before .before .before .before .before .before .before .before .before .before .before .before .before .before .before .before .before .before .before .has-work .result) (c .before .before .before .before .before .before .before .before .before .before .before .before .before .before .before .before .before .before .before .before .has-work .ensures) (c .before .before .before .before .before .before .before .before .before .before .before .before .before .before .before .before .before .before .before .if1 .left))
     (c .before .before .before .before .before .before .before .before .before .before .before .before .before .before .before .before .before .if3 .taken) (omega (arith, p .0 .within, c .before .before .before .before .before .before .before .before .before .before .before .before .before .before .before .before .before .before .if2 .left)) _ _ (c .before .before .read-end .ensures)
 
--- src/lib.rt:446:1
 returns-4 : tie.Need-returns-4
 returns-4 c =
     let a = c .before .before .before .before .before .before .args in

@@ -12,55 +12,40 @@ use Rattle.session.specs.Turns.{placeAfter}
 use Rattle.session.proofs.Taking.{may-deal, end-stands, end-dealt}
 use Rattle.session.proofs.read_end.Statement.{statement}
 use Rattle.session.proofs.read_end.Tie as tie
-use Rattle.session.proofs.read_end.Reads as reads
-use Rattle.session.proofs.read_end.Lts as lts
-use Rattle.session.proofs.deal_line.Reads as deal-line-reads
-use Rattle.session.proofs.emptied.Reads as emptied-reads
-use Rattle.session.proofs.first.Reads as first-reads
-use Rattle.session.proofs.place_after.Reads as place-after-reads
 
--- src/lib.rt:332:9
 emptied-requires : tie.Need-emptied-requires
 emptied-requires c κs = search needs
 
--- src/lib.rt:334:9
 place-after-requires : tie.Need-place-after-requires
 place-after-requires c κs = search needs
 
--- src/lib.rt:334:9
 returns : tie.Need-returns
 returns c =
     let a = c .before .before .before .before .before .before .before .args in
-    end-stands (a .place) (now (a .gathered)) (now (a .cells)) (now (a .row)) (now (a .arena)) (now (a .ends)) (now (a .text-firsts)) (now (a .text-seconds)) (now (a .kinds)) (now (a .lengths)) (now (a .firsts)) (now (a .seconds)) (now (a .values)) (now (a .steps)) (now (a .store)) (c .before .before .before .before .before .before .before .pre .0) (c .place-after .result)
+    end-stands (a .place) (now (a .gathered)) (now (a .cells)) (now (a .row)) (now (a .arena)) (now (a .ends)) (now (a .text-firsts)) (now (a .text-seconds)) (now (a .kinds)) (now (a .lengths)) (now (a .firsts)) (now (a .seconds)) (now (a .values)) (now (a .steps)) (now (a .store)) (c .before .before .before .before .before .before .before .pre) (c .place-after .result)
     (c .place-after .ensures ∙ ap (λ v. placeAfter (a .place .status) v way.On 0) (c .before .before .before .emptied .ensures)) (c .before .if1 .taken)
 
--- src/lib.rt:337:9
 first-requires : tie.Need-first-requires
-first-requires c κs = let l = c .before .before .before .before .before .before .before .pre .0 .legal in omega (arith, l .short, l .gathered-long)
+first-requires c κs = let l = c .before .before .before .before .before .before .before .pre .formed in omega (arith, l .short, l .gathered-long)
 
--- src/lib.rt:336:5
 deal-line-requires : tie.Need-deal-line-requires
 deal-line-requires c κs =
     let a = c .before .before .before .before .before .before .before .before .before .before .before .before .before .before .before .before .before .before .before .before .before .args in
-    let h = c .before .before .before .before .before .before .before .before .before .before .before .before .before .before .before .before .before .before .before .before .before .pre .0 in
-    let l = h .legal in (
-      rw (c .before .before .before .before .before .before .before .before .before .before .before .before .before .before .before .before .before .emptied .ensures, c .before .before .before .before .before .before .before .before .before .before .before .before .before .first .ensures)
+    let h = c .before .before .before .before .before .before .before .before .before .before .before .before .before .before .before .before .before .before .before .before .before .pre in
+    let l = h .formed in
+    rw (c .before .before .before .before .before .before .before .before .before .before .before .before .before .before .before .before .before .emptied .ensures, c .before .before .before .before .before .before .before .before .before .before .before .before .before .first .ensures)
           (may-deal (a .place) (now (a .gathered)) (now (a .cells)) (now (a .row)) (now (a .arena)) (now (a .ends)) (now (a .text-firsts)) (now (a .text-seconds)) (now (a .kinds)) (now (a .lengths)) (now (a .firsts)) (now (a .seconds)) (now (a .values)) (now (a .steps)) (now (a .store)) h (a .place .source) true (take (a .place .source .length) (now (a .gathered)))
-          (subst (λ v. a .place .source .line ≤ lastLine v) (h .unclosed) (l .numbered)) (l .counted) (rw (length-take-le (a .place .source .length) (now (a .gathered)) (omega (arith, l .short, l .gathered-long))) (l .short))),
-      c .before .before .before .before .before .before .before .before .before .before .before .before .before .before .before .before .before .before .before .before .before .pre .1,
-    )
+          (subst (λ v. a .place .source .line ≤ lastLine v) (h .unclosed) (l .numbered)) (l .counted) (rw (length-take-le (a .place .source .length) (now (a .gathered)) (omega (arith, l .short, l .gathered-long))) (l .short)))
 
--- src/lib.rt:310:1
 same-length : tie.Need-same-length
 same-length c = search needs
 
--- src/lib.rt:310:1
 returns-2 : tie.Need-returns-2
 returns-2 c =
     let a = c .before .before .before .before .before .before .before .before .before .before .before .before .before .before .before .before .before .before .before .before .before .before .before .before .args in
-    let h = c .before .before .before .before .before .before .before .before .before .before .before .before .before .before .before .before .before .before .before .before .before .before .before .before .pre .0 in
+    let h = c .before .before .before .before .before .before .before .before .before .before .before .before .before .before .before .before .before .before .before .before .before .before .before .before .pre in
     let g = now (a .gathered) in
-    let w = c .before .before .deal-line .ensures g (h .legal .gathered-long) in
+    let w = c .before .before .deal-line .ensures g (h .formed .gathered-long) in
     end-dealt (a .place) (now (a .gathered)) (now (a .cells)) (now (a .row)) (now (a .arena)) (now (a .ends)) (now (a .text-firsts)) (now (a .text-seconds)) (now (a .kinds)) (now (a .lengths)) (now (a .firsts)) (now (a .seconds)) (now (a .values)) (now (a .steps)) (now (a .store)) h (omega (arith, c .before .before .before .before .before .before .before .before .before .before .before .before .before .before .before .before .before .before .if1 .left)) _ _
     (rw (c .before .before .before .before .before .before .before .before .before .before .before .before .before .before .before .before .before .before .before .before .emptied .ensures, c .before .before .before .before .before .before .before .before .before .before .before .before .before .before .before .before .first .ensures) at w)
 

@@ -10,10 +10,6 @@ use Rattle.session.specs.Turns.{recordOf, weight}
 use Rattle.session.proofs.Going.{Going, go-start, may-write, same-out, ends-full, turns, ends-with, goes-on, goes-less}
 use Rattle.session.proofs.run.Statement.{statement}
 use Rattle.session.proofs.run.Tie as tie
-use Rattle.session.proofs.run.Reads as reads
-use Rattle.session.proofs.run.Lts as lts
-use Rattle.session.proofs.turn_on.Reads as turn-on-reads
-use Rattle.session.proofs.write_out.Reads as write-out-reads
 
 abbrev Inv-loop : tie.InvT-loop
 Inv-loop block last out₀ gathered₀ cells₀ row₀ arena₀ ends₀ store₀ text-firsts₀ text-seconds₀ kinds₀ lengths₀ firsts₀ seconds₀ values₀ steps₀ place₀ taken₀ written₀ out gathered cells row arena ends store text-firsts text-seconds kinds lengths firsts seconds values steps place taken written =
@@ -23,66 +19,56 @@ abbrev μ-loop : tie.MeasureT-loop
 μ-loop block last out₀ gathered₀ cells₀ row₀ arena₀ ends₀ store₀ text-firsts₀ text-seconds₀ kinds₀ lengths₀ firsts₀ seconds₀ values₀ steps₀ place₀ taken₀ written₀ out gathered cells row arena ends store text-firsts text-seconds kinds lengths firsts seconds values steps place taken written =
     weight block (recordOf place gathered cells row arena ends text-firsts text-seconds kinds lengths firsts seconds values steps) store taken
 
--- src/lib.rt:677:5
 loop-holds : tie.Need-loop-holds Inv-loop μ-loop
 loop-holds c =
     let a = c .before .before .before .args in
-    go-start (recordOf (a .start) (now (a .gathered)) (now (a .cells)) (now (a .row)) (now (a .arena)) (now (a .ends)) (now (a .text-firsts)) (now (a .text-seconds)) (now (a .kinds)) (now (a .lengths)) (now (a .firsts)) (now (a .seconds)) (now (a .values)) (now (a .steps))) (now (a .store)) (now (a .block)) (a .last) (now (a .out)) (c .before .before .before .pre .0)
+    go-start (recordOf (a .start) (now (a .gathered)) (now (a .cells)) (now (a .row)) (now (a .arena)) (now (a .ends)) (now (a .text-firsts)) (now (a .text-seconds)) (now (a .kinds)) (now (a .lengths)) (now (a .firsts)) (now (a .seconds)) (now (a .values)) (now (a .steps))) (now (a .store)) (now (a .block)) (a .last) (now (a .out)) (c .before .before .before .pre)
 
--- src/lib.rt:678:13
 write-out-requires : tie.Need-write-out-requires Inv-loop μ-loop
 write-out-requires c κs =
     let a = c .before .before .before .before .before .before .args in
     let l = c .before .before .loop in
     may-write (callOn (recordOf (a .start) (now (a .gathered)) (now (a .cells)) (now (a .row)) (now (a .arena)) (now (a .ends)) (now (a .text-firsts)) (now (a .text-seconds)) (now (a .kinds)) (now (a .lengths)) (now (a .firsts)) (now (a .seconds)) (now (a .values)) (now (a .steps))) (now (a .store)) (now (a .block)) (a .last) (length (now (a .out)))) (now (a .block)) (a .last) (now (a .out)) (l .place) (l .gathered) (l .cells) (l .row) (l .arena) (l .ends) (l .text-firsts) (l .text-seconds) (l .kinds) (l .lengths) (l .firsts) (l .seconds) (l .values) (l .steps) (l .store) (l .taken) (l .written) (l .out) (l .inv)
 
--- src/lib.rt:682:13
 same-length : tie.Need-same-length Inv-loop μ-loop
 same-length c =
     let a = c .before .before .before .before .before .before .before .before .before .before .before .before .args in
     let l = c .before .before .before .before .before .before .before .before .loop in
     same-out (callOn (recordOf (a .start) (now (a .gathered)) (now (a .cells)) (now (a .row)) (now (a .arena)) (now (a .ends)) (now (a .text-firsts)) (now (a .text-seconds)) (now (a .kinds)) (now (a .lengths)) (now (a .firsts)) (now (a .seconds)) (now (a .values)) (now (a .steps))) (now (a .store)) (now (a .block)) (a .last) (length (now (a .out)))) (now (a .block)) (a .last) (now (a .out)) (l .place) (l .gathered) (l .cells) (l .row) (l .arena) (l .ends) (l .text-firsts) (l .text-seconds) (l .kinds) (l .lengths) (l .firsts) (l .seconds) (l .values) (l .steps) (l .store) (l .taken) (l .written) (l .out) (l .inv) (c .before .before .before .before .before .write-out .result) _ (c .before .before .before .before .before .write-out .ensures)
 
--- src/lib.rt:682:13
 same-length-2 : tie.Need-same-length-2 Inv-loop μ-loop
 same-length-2 c =
     let a = c .before .before .before .before .before .before .before .before .before .before .before .before .args in
     let l = c .before .before .before .before .before .before .before .before .loop in
-    l .inv .legal .sound .store ∙ sym (c .before .before .before .before .before .before .before .before .before .before .before .before .pre .0 .sound .store)
+    l .inv .legal .formed .sound .store ∙ sym (c .before .before .before .before .before .before .before .before .before .before .before .before .pre .formed .sound .store)
 
--- src/lib.rt:682:13
 returns : tie.Need-returns Inv-loop μ-loop
 returns c =
     let a = c .before .before .before .before .before .before .before .before .before .before .before .before .args in
     let l = c .before .before .before .before .before .before .before .before .loop in
     ends-full (callOn (recordOf (a .start) (now (a .gathered)) (now (a .cells)) (now (a .row)) (now (a .arena)) (now (a .ends)) (now (a .text-firsts)) (now (a .text-seconds)) (now (a .kinds)) (now (a .lengths)) (now (a .firsts)) (now (a .seconds)) (now (a .values)) (now (a .steps))) (now (a .store)) (now (a .block)) (a .last) (length (now (a .out)))) (now (a .block)) (a .last) (now (a .out)) (l .place) (l .gathered) (l .cells) (l .row) (l .arena) (l .ends) (l .text-firsts) (l .text-seconds) (l .kinds) (l .lengths) (l .firsts) (l .seconds) (l .values) (l .steps) (l .store) (l .taken) (l .written) (l .out) (l .inv) (c .before .before .before .before .before .write-out .result) _ (c .before .before .before .before .before .write-out .ensures) (c .if1 .taken)
 
--- src/lib.rt:689:13
 turn-on-requires : tie.Need-turn-on-requires Inv-loop μ-loop
 turn-on-requires c κs =
     let a = c .before .before .before .before .before .before .before .before .before .before .before .before .before .before .before .before .before .before .before .before .before .before .before .before .before .before .args in
     let l = c .before .before .before .before .before .before .before .before .before .before .before .before .before .before .before .before .before .before .before .before .before .before .loop in
-    (turns (callOn (recordOf (a .start) (now (a .gathered)) (now (a .cells)) (now (a .row)) (now (a .arena)) (now (a .ends)) (now (a .text-firsts)) (now (a .text-seconds)) (now (a .kinds)) (now (a .lengths)) (now (a .firsts)) (now (a .seconds)) (now (a .values)) (now (a .steps))) (now (a .store)) (now (a .block)) (a .last) (length (now (a .out)))) (now (a .block)) (a .last) (now (a .out)) (l .place) (l .gathered) (l .cells) (l .row) (l .arena) (l .ends) (l .text-firsts) (l .text-seconds) (l .kinds) (l .lengths) (l .firsts) (l .seconds) (l .values) (l .steps) (l .store) (l .taken) (l .written) (l .out) (l .inv) (c .before .before .before .before .before .before .before .before .before .before .before .before .before .before .before .before .before .before .before .write-out .result) _ (c .before .before .before .before .before .before .before .before .before .before .before .before .before .before .before .before .before .before .before .write-out .ensures) (c .before .before .before .before .before .before .before .before .before .before .before .before .before .before .if1 .left), c .before .before .before .before .before .before .before .before .before .before .before .before .before .before .before .before .before .before .before .before .before .before .before .before .before .before .pre .1)
+    (turns (callOn (recordOf (a .start) (now (a .gathered)) (now (a .cells)) (now (a .row)) (now (a .arena)) (now (a .ends)) (now (a .text-firsts)) (now (a .text-seconds)) (now (a .kinds)) (now (a .lengths)) (now (a .firsts)) (now (a .seconds)) (now (a .values)) (now (a .steps))) (now (a .store)) (now (a .block)) (a .last) (length (now (a .out)))) (now (a .block)) (a .last) (now (a .out)) (l .place) (l .gathered) (l .cells) (l .row) (l .arena) (l .ends) (l .text-firsts) (l .text-seconds) (l .kinds) (l .lengths) (l .firsts) (l .seconds) (l .values) (l .steps) (l .store) (l .taken) (l .written) (l .out) (l .inv) (c .before .before .before .before .before .before .before .before .before .before .before .before .before .before .before .before .before .before .before .write-out .result) _ (c .before .before .before .before .before .before .before .before .before .before .before .before .before .before .before .before .before .before .before .write-out .ensures) (c .before .before .before .before .before .before .before .before .before .before .before .before .before .before .if1 .left))
 
--- src/lib.rt:712:27
 enum-known-stop : tie.Need-enum-known-stop Inv-loop μ-loop
 enum-known-stop c = search needs
 
--- src/lib.rt:713:13
 same-length-3 : tie.Need-same-length-3 Inv-loop μ-loop
 same-length-3 c =
     let a = c .before .before .before .before .before .before .before .before .before .before .before .before .before .before .before .before .before .before .before .before .before .before .before .before .before .before .before .before .before .before .before .before .before .args in
     let l = c .before .before .before .before .before .before .before .before .before .before .before .before .before .before .before .before .before .before .before .before .before .before .before .before .before .before .before .before .before .loop in
     same-out (callOn (recordOf (a .start) (now (a .gathered)) (now (a .cells)) (now (a .row)) (now (a .arena)) (now (a .ends)) (now (a .text-firsts)) (now (a .text-seconds)) (now (a .kinds)) (now (a .lengths)) (now (a .firsts)) (now (a .seconds)) (now (a .values)) (now (a .steps))) (now (a .store)) (now (a .block)) (a .last) (length (now (a .out)))) (now (a .block)) (a .last) (now (a .out)) (l .place) (l .gathered) (l .cells) (l .row) (l .arena) (l .ends) (l .text-firsts) (l .text-seconds) (l .kinds) (l .lengths) (l .firsts) (l .seconds) (l .values) (l .steps) (l .store) (l .taken) (l .written) (l .out) (l .inv) (c .before .before .before .before .before .before .before .before .before .before .before .before .before .before .before .before .before .before .before .before .before .before .before .before .before .before .write-out .result) _ (c .before .before .before .before .before .before .before .before .before .before .before .before .before .before .before .before .before .before .before .before .before .before .before .before .before .before .write-out .ensures)
 
--- src/lib.rt:713:13
 same-length-4 : tie.Need-same-length-4 Inv-loop μ-loop
 same-length-4 c =
     let a = c .before .before .before .before .before .before .before .before .before .before .before .before .before .before .before .before .before .before .before .before .before .before .before .before .before .before .before .before .before .before .before .before .before .args in
     let l = c .before .before .before .before .before .before .before .before .before .before .before .before .before .before .before .before .before .before .before .before .before .before .before .before .before .before .before .before .before .loop in
-    ends-with (callOn (recordOf (a .start) (now (a .gathered)) (now (a .cells)) (now (a .row)) (now (a .arena)) (now (a .ends)) (now (a .text-firsts)) (now (a .text-seconds)) (now (a .kinds)) (now (a .lengths)) (now (a .firsts)) (now (a .seconds)) (now (a .values)) (now (a .steps))) (now (a .store)) (now (a .block)) (a .last) (length (now (a .out)))) (now (a .block)) (a .last) (now (a .out)) (l .place) (l .gathered) (l .cells) (l .row) (l .arena) (l .ends) (l .text-firsts) (l .text-seconds) (l .kinds) (l .lengths) (l .firsts) (l .seconds) (l .values) (l .steps) (l .store) (l .taken) (l .written) (l .out) (l .inv) (c .before .before .before .before .before .before .before .before .before .before .before .before .before .before .before .before .before .before .before .before .before .before .before .before .before .before .write-out .result) _ (c .before .before .before .before .before .before .before .before .before .before .before .before .before .before .before .before .before .before .before .before .before .before .before .before .before .before .write-out .ensures) (c .before .before .before .before .before .before .before .before .before .before .before .before .before .before .before .before .before .before .before .before .before .if1 .left) (c .before .before .before .before .before .before .turn-on .result .stop) _ _ (c .before .before .before .before .before .before .turn-on .result .taken) (c .before .before .before .before .before .before .turn-on .ensures) _ (c .before .stop .given .1) .legal .sound .store ∙ sym (c .before .before .before .before .before .before .before .before .before .before .before .before .before .before .before .before .before .before .before .before .before .before .before .before .before .before .before .before .before .before .before .before .before .pre .0 .sound .store)
+    ends-with (callOn (recordOf (a .start) (now (a .gathered)) (now (a .cells)) (now (a .row)) (now (a .arena)) (now (a .ends)) (now (a .text-firsts)) (now (a .text-seconds)) (now (a .kinds)) (now (a .lengths)) (now (a .firsts)) (now (a .seconds)) (now (a .values)) (now (a .steps))) (now (a .store)) (now (a .block)) (a .last) (length (now (a .out)))) (now (a .block)) (a .last) (now (a .out)) (l .place) (l .gathered) (l .cells) (l .row) (l .arena) (l .ends) (l .text-firsts) (l .text-seconds) (l .kinds) (l .lengths) (l .firsts) (l .seconds) (l .values) (l .steps) (l .store) (l .taken) (l .written) (l .out) (l .inv) (c .before .before .before .before .before .before .before .before .before .before .before .before .before .before .before .before .before .before .before .before .before .before .before .before .before .before .write-out .result) _ (c .before .before .before .before .before .before .before .before .before .before .before .before .before .before .before .before .before .before .before .before .before .before .before .before .before .before .write-out .ensures) (c .before .before .before .before .before .before .before .before .before .before .before .before .before .before .before .before .before .before .before .before .before .if1 .left) (c .before .before .before .before .before .before .turn-on .result .stop) _ _ (c .before .before .before .before .before .before .turn-on .result .taken) (c .before .before .before .before .before .before .turn-on .ensures) _ (c .before .stop .given .1) .legal .formed .sound .store ∙ sym (c .before .before .before .before .before .before .before .before .before .before .before .before .before .before .before .before .before .before .before .before .before .before .before .before .before .before .before .before .before .before .before .before .before .pre .formed .sound .store)
 
--- src/lib.rt:713:13
 returns-2 : tie.Need-returns-2 Inv-loop μ-loop
 returns-2 c =
     let a = c .before .before .before .before .before .before .before .before .before .before .before .before .before .before .before .before .before .before .before .before .before .before .before .before .before .before .before .before .before .before .before .before .before .args in
@@ -92,14 +78,12 @@ returns-2 c =
 enum-told : tie.Need-enum-told Inv-loop μ-loop
 enum-told c = search needs
 
--- src/lib.rt:677:5
 loop-less : tie.Need-loop-less Inv-loop μ-loop
 loop-less c =
     let a = c .before .before .before .before .before .before .before .before .before .before .before .before .before .before .before .before .before .before .before .before .before .before .before .before .before .before .before .before .before .before .before .before .args in
     let l = c .before .before .before .before .before .before .before .before .before .before .before .before .before .before .before .before .before .before .before .before .before .before .before .before .before .before .before .before .loop in
     goes-less (callOn (recordOf (a .start) (now (a .gathered)) (now (a .cells)) (now (a .row)) (now (a .arena)) (now (a .ends)) (now (a .text-firsts)) (now (a .text-seconds)) (now (a .kinds)) (now (a .lengths)) (now (a .firsts)) (now (a .seconds)) (now (a .values)) (now (a .steps))) (now (a .store)) (now (a .block)) (a .last) (length (now (a .out)))) (now (a .block)) (a .last) (now (a .out)) (l .place) (l .gathered) (l .cells) (l .row) (l .arena) (l .ends) (l .text-firsts) (l .text-seconds) (l .kinds) (l .lengths) (l .firsts) (l .seconds) (l .values) (l .steps) (l .store) (l .taken) (l .written) (l .out) (l .inv) (c .before .before .before .before .before .before .before .before .before .before .before .before .before .before .before .before .before .before .before .before .before .before .before .before .before .write-out .result) _ (c .before .before .before .before .before .before .before .before .before .before .before .before .before .before .before .before .before .before .before .before .before .before .before .before .before .write-out .ensures) (c .before .before .before .before .before .before .before .before .before .before .before .before .before .before .before .before .before .before .before .before .if1 .left) (c .before .before .before .before .before .turn-on .result .stop) _ _ (c .before .before .before .before .before .turn-on .result .taken) (c .before .before .before .before .before .turn-on .ensures) (c .enum-told .given .1)
 
--- src/lib.rt:677:5
 loop-again : tie.Need-loop-again Inv-loop μ-loop
 loop-again c =
     let a = c .before .before .before .before .before .before .before .before .before .before .before .before .before .before .before .before .before .before .before .before .before .before .before .before .before .before .before .before .before .before .before .before .args in

@@ -4,47 +4,36 @@ use Rattle.session.specs.Turns.{recordOf}
 use Rattle.session.proofs.Leading.{stops-done, stops-refused}
 use Rattle.session.proofs.turn_on.Statement.{statement}
 use Rattle.session.proofs.turn_on.Tie as tie
-use Rattle.session.proofs.turn_on.Reads as reads
-use Rattle.session.proofs.turn_on.Lts as lts
-use Rattle.session.proofs.open_turn.Reads as open-turn-reads
 
--- src/lib.rt:581:13
 enum-told : tie.Need-enum-told
 enum-told c = search needs
 
--- src/lib.rt:576:26
 open-turn-requires : tie.Need-open-turn-requires
 open-turn-requires c κs = search needs
 
--- src/lib.rt:597:30
 enum-told-2 : tie.Need-enum-told-2
 enum-told-2 c = search needs
 
--- src/lib.rt:601:26
 enum-known-closing : tie.Need-enum-known-closing
 enum-known-closing c = search needs
 
--- src/lib.rt:551:1
 same-length : tie.Need-same-length
 same-length c = search needs
 
--- src/lib.rt:551:1
 returns : tie.Need-returns
 returns c = search needs
 
--- src/lib.rt:551:1
 returns-2 : tie.Need-returns-2
 returns-2 c =
     let a = c .before .before .before .before .args in
     let p = c .before .before .before .before .pre in
-    stops-done (now (a .block)) (a .last) (recordOf (a .place) (now (a .gathered)) (now (a .cells)) (now (a .row)) (now (a .arena)) (now (a .ends)) (now (a .text-firsts)) (now (a .text-seconds)) (now (a .kinds)) (now (a .lengths)) (now (a .firsts)) (now (a .seconds)) (now (a .values)) (now (a .steps))) (now (a .store)) (a .taken) (p .0) (c .enum-told2 .given .1)
+    stops-done (now (a .block)) (a .last) (recordOf (a .place) (now (a .gathered)) (now (a .cells)) (now (a .row)) (now (a .arena)) (now (a .ends)) (now (a .text-firsts)) (now (a .text-seconds)) (now (a .kinds)) (now (a .lengths)) (now (a .firsts)) (now (a .seconds)) (now (a .values)) (now (a .steps))) (now (a .store)) (a .taken) (p) (c .enum-told2 .given .1)
 
--- src/lib.rt:551:1
 returns-3 : tie.Need-returns-3
 returns-3 c =
     let a = c .before .before .before .before .before .args in
     let p = c .before .before .before .before .before .pre in
-    stops-refused (now (a .block)) (a .last) (recordOf (a .place) (now (a .gathered)) (now (a .cells)) (now (a .row)) (now (a .arena)) (now (a .ends)) (now (a .text-firsts)) (now (a .text-seconds)) (now (a .kinds)) (now (a .lengths)) (now (a .firsts)) (now (a .seconds)) (now (a .values)) (now (a .steps))) (now (a .store)) (a .taken) (p .0) _ _ (c .before .closing .given .1)
+    stops-refused (now (a .block)) (a .last) (recordOf (a .place) (now (a .gathered)) (now (a .cells)) (now (a .row)) (now (a .arena)) (now (a .ends)) (now (a .text-firsts)) (now (a .text-seconds)) (now (a .kinds)) (now (a .lengths)) (now (a .firsts)) (now (a .seconds)) (now (a .values)) (now (a .steps))) (now (a .store)) (a .taken) (p) _ _ (c .before .closing .given .1)
 
 pub turn-on-spec : {M : Type 1} → statement M
 turn-on-spec =

@@ -9,35 +9,25 @@ use Rattle.session.specs.View.{sourced}
 use Rattle.session.proofs.Turns.{item-worked, open-state}
 use Rattle.session.proofs.work.Statement.{statement}
 use Rattle.session.proofs.work.Tie as tie
-use Rattle.session.proofs.work.Reads as reads
-use Rattle.session.proofs.work.Lts as lts
-use Rattle.formatter.proofs.work.Reads as work-reads
-use Rattle.session.proofs.place_after.Reads as place-after-reads
-use Rattle.settings.proofs.ten_to_the_inch.Reads as ten-to-the-inch-reads
 
--- src/lib.rt:253:9
 ten-to-the-inch-requires : tie.Need-ten-to-the-inch-requires
 ten-to-the-inch-requires c κs = search needs
 
--- src/lib.rt:251:9
 work-requires : tie.Need-work-requires
 work-requires c κs =
-    let h = c .before .before .before .before .before .before .before .before .before .before .before .before .before .before .before .before .before .pre .0 in
-    (h .sound, h .fits, h .row-long, c .before .before .before .before .before .before .before .before .before .before .before .before .before .ten-to-the-inch .ensures .sound, h .counted, c .before .before .before .before .before .before .before .before .before .before .before .before .before .before .before .before .before .pre .1)
+    let h = c .before .before .before .before .before .before .before .before .before .before .before .before .before .before .before .before .before .pre in
+    record { sound = h .sound; fits = h .fits; quiet = h .quiet; counted = h .counted; long = h .row-long; printer = c .before .before .before .before .before .before .before .before .before .before .before .before .before .ten-to-the-inch .ensures .sound }
 
--- src/lib.rt:277:5
 place-after-requires : tie.Need-place-after-requires
 place-after-requires c κs = search needs
 
--- src/lib.rt:230:1
 same-length : tie.Need-same-length
 same-length c = search needs
 
--- src/lib.rt:230:1
 returns : tie.Need-returns
 returns c =
     let a = c .before .before .before .before .before .before .before .before .before .before .before .before .before .before .before .before .before .before .before .before .before .before .args in
-    let h = c .before .before .before .before .before .before .before .before .before .before .before .before .before .before .before .before .before .before .before .before .before .before .pre .0 in
+    let h = c .before .before .before .before .before .before .before .before .before .before .before .before .before .before .before .before .before .before .before .before .before .before .pre in
     let q = wholeOf (a .place .status) (now (a .cells)) (now (a .arena)) (now (a .ends)) (now (a .store)) (now (a .text-firsts)) (now (a .text-seconds)) (now (a .kinds)) (now (a .lengths)) (now (a .firsts)) (now (a .seconds)) (now (a .values)) (now (a .steps)) in
     let p = c .before .before .before .before .before .before .before .before .before .before .before .before .before .before .before .before .before .before .ten-to-the-inch in
     let r = c .before .before .before .before .work .result in

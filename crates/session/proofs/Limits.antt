@@ -1,0 +1,165 @@
+-- Records within their limits, and records that are closed. Assumes nothing.
+use mathlib.Core.Path.{_≡_, refl, sym, ap, _∙_, subst}
+use mathlib.Core.Bool.{Bool, true, false}
+use mathlib.Core.List.{List}
+use Prim.Native.Nat.{ℕ, _≤_}
+use native.Mathlib.Omega.{arith}
+use lib.ListN.{length}
+use Rattle.stream.specs.declared.Answer.{Answer}
+use Rattle.stream.specs.declared.Answer.the-variants as answer
+use Rattle.stream.specs.Answers.{done, refused}
+use Rattle.rules.specs.State.{State}
+use Rattle.limits.specs.Within.{Within}
+use Rattle.registers.specs.Checks as registers
+use Rattle.springs.specs.Held.{Fits}
+use Rattle.dealing.specs.Whole.{stateIn, SoundWhole}
+use Rattle.checks.specs.Checks.{Lent}
+use Rattle.checks.specs.SoundLaws.{sound-whole, whole-passes}
+use Rattle.checks.specs.LimitLaws.{Kept, within-kept, kept-within, open-within, open-kept, closed-within, closed-kept}
+use Rattle.source.specs.declared.Source.{Source}
+use Rattle.session.specs.declared.Record.{Record}
+use Rattle.session.specs.declared.Reply.{Reply}
+use Rattle.session.specs.declared.Waiting.{Waiting}
+use Rattle.session.specs.declared.Closing.{Closing}
+use Rattle.session.specs.declared.Closing.the-variants.{Open, Done, Refused}
+use Rattle.session.specs.declared.Stop.{Stop}
+use Rattle.session.specs.declared.Stop.the-variants.{Goes, With}
+use Rattle.session.specs.View.{sourced, closedAs, wholeIn, Legal}
+use Rattle.session.specs.Contract.{callOn, Closes, Nothing, Ended, Does, Called, served, turned}
+use Rattle.session.specs.Turns.{Turns, Stops}
+use Rattle.session.specs.Limits.{EndsWith, isOpen, AnsweredAt, AnsweredJudged, Placed, PlacedJudged, soundIn, withinIn, Judged}
+use Rattle.session.proofs.Leading.{stops-done, stops-refused}
+use Rattle.session.proofs.Going.{go-start, does-stop}
+
+-- a false is not a true
+false-true : false ≡ true → ⊥
+false-true e = let z : _≡_ {A = ℕ} 0 1 = cc (e) in omega arith
+
+true-false : true ≡ false → ⊥
+true-false e = let z : _≡_ {A = ℕ} 0 1 = cc (e) in omega arith
+
+-- the closing answer
+pub answered-no : (c : Closing) (l : ℕ) → (AnsweredAt c l → ⊥) → AnsweredJudged false c l
+answered-no c l f = record { yes = λ e. absurd (false-true e); no = λ e. f }
+
+pub answered-yes : (c : Closing) (l : ℕ) → AnsweredAt c l → AnsweredJudged true c l
+answered-yes c l h = record { yes = λ e. h; no = λ e k. true-false e }
+
+-- the source and the waiting bytes
+pub placed-no : (s : Source) (w : Waiting) (c : Closing) → (Placed s w c → ⊥) → PlacedJudged false s w c
+placed-no s w c f = record { yes = λ e. absurd (false-true e); no = λ e. f }
+
+-- the arrays of a record have their lengths
+pub record Sized (r : Record) : Type 0 where
+  pub gathered : length (r .gathered) ≡ 512
+  pub row : length (r .row) ≡ 872
+  pub lent : Lent (r .ends) (r .«text_firsts») (r .«text_seconds») (r .lengths) (r .firsts) (r .seconds)
+  pub cells : length (r .cells) ≡ 512
+  pub arena : length (r .arena) ≡ 8704
+  pub kinds : length (r .kinds) ≡ 64
+  pub numbers : registers.NumberColumns (r .values) (r .steps)
+
+module _ (r : Record) (st : List ℕ) where
+  -- the parts of its state
+  abbrev parts : State
+  parts = stateIn (wholeIn r st) (sourced (r .source) (r .gathered))
+
+  answered-of : (c : Closing) → Within (closedAs c parts) → AnsweredAt c (r .source .line)
+  answered-of Open w = tt
+  answered-of Done w = tt
+  answered-of (Refused n l) w = w .closing
+
+  placed-of : Legal r st → Placed (r .source) (r .waiting) (r .closing)
+  placed-of l =
+      let f = l .formed in
+      record { short = f .short; numbered = f .numbered; counted = f .counted; order = f .order; inside = f .inside; answered = answered-of (r .closing) (l .within) }
+
+  within-by : (c : Closing) → AnsweredAt c (r .source .line) → Kept (isOpen c) parts → Within (closedAs c parts)
+  within-by Open a k = open-within parts refl k
+  within-by Done a k = closed-within done parts k tt
+  within-by (Refused n l) a k = closed-within (refused n l) parts k a
+
+  kept-by : (c : Closing) → Within (closedAs c parts) → Kept (isOpen c) parts
+  kept-by Open w = open-kept parts refl w
+  kept-by Done w = closed-kept done parts w .0
+  kept-by (Refused n l) w = closed-kept (refused n l) parts w .0
+
+  -- a record whose source, waiting bytes or closing answer pass a limit
+  pub legal-no : (b : Bool) → PlacedJudged b (r .source) (r .waiting) (r .closing) → b ≡ false → Judged false r st
+  legal-no b p e = record { yes = λ z. absurd (false-true z); no = λ z l. p .no e (placed-of l) }
+
+  sound-by : Legal r st → soundIn r (length st) ≡ true
+  sound-by l =
+      whole-passes (r .status) (r .cells) (r .arena) (r .ends) st (r .«text_firsts») (r .«text_seconds») (r .kinds) (r .lengths) (r .firsts) (r .seconds) (r .values) (r .steps)
+      (l .formed .sound) (l .formed .fits)
+
+  -- one whose parts pass a limit
+  pub legal-unsound : (v : Bool) → v ≡ soundIn r (length st) → v ≡ false → Judged false r st
+  legal-unsound v e f = record { yes = λ z. absurd (false-true z); no = λ z l. true-false (sym (sound-by l) ∙ sym e ∙ f) }
+
+  -- one whose parts pass none, by the test of its state
+  pub legal-by : Sized r → (b : Bool) → PlacedJudged b (r .source) (r .waiting) (r .closing) → b ≡ true → (v : Bool) → v ≡ soundIn r (length st) → v ≡ true
+      → (w : Bool) → w ≡ withinIn r → Judged w r st
+  legal-by h b p e v f g w i = record { yes = λ z. good z; no = λ z l. bad z l }
+    where
+      k : Placed (r .source) (r .waiting) (r .closing)
+      k = p .yes e
+
+      whole : SoundWhole (wholeIn r st) × Fits (r .status .stack)
+      whole =
+          sound-whole (r .status) (r .cells) (r .arena) (r .ends) st (r .«text_firsts») (r .«text_seconds») (r .kinds) (r .lengths) (r .firsts) (r .seconds) (r .values) (r .steps)
+          (length st) (h .lent)
+          (record { cells-long = h .cells; arena-long = h .arena; store-long = refl; kinds-long = h .kinds; numbers-long = h .numbers }) (sym f ∙ g)
+
+      good : w ≡ true → Legal r st
+      good z = record {
+        formed = record { sound = whole .0; fits = whole .1; gathered-long = h .gathered; row-long = h .row; short = k .short; numbered = k .numbered; counted = k .counted; order = k .order; inside = k .inside };
+        within = within-by (r .closing) (k .answered)
+            (within-kept (r .status) (r .cells) (r .arena) (r .ends) st (r .«text_firsts») (r .«text_seconds») (r .kinds) (r .lengths) (r .firsts) (r .seconds) (r .values) (r .steps)
+            (isOpen (r .closing)) (r .gathered) (r .source .length) (sourced (r .source) (r .gathered)) refl (whole .0) (sym i ∙ z));
+      }
+
+      bad : w ≡ false → Legal r st → ⊥
+      bad z l =
+          true-false
+          (sym (kept-within (r .status) (r .cells) (r .arena) (r .ends) st (r .«text_firsts») (r .«text_seconds») (r .kinds) (r .lengths) (r .firsts) (r .seconds) (r .values) (r .steps)
+          (isOpen (r .closing)) (r .gathered) (r .source .length) (sourced (r .source) (r .gathered)) refl (l .formed .short) (l .formed .sound) (kept-by (r .closing) (l .within)))
+          ∙ sym i ∙ z)
+
+-- a session has one closing answer
+closes-one : (c : Closing) (a a' : Answer) → Closes c a → Closes c a' → a ≡ a'
+closes-one Open a a' h k = absurd h
+closes-one Done a a' h k = h ∙ sym k
+closes-one (Refused n l) a a' h k = h ∙ sym k
+
+module _ (r : Record) (st bl : List ℕ) (last : Bool) (out : List ℕ) (l : Legal r st) where
+  -- a call on a closed record for which nothing waits
+  module _ (a : Answer) (h : Closes (r .closing) a) (none : r .waiting .at ≡ r .waiting .end) where
+    at-start : Turns bl r st 0
+    at-start = record { legal = l; none = none; within = omega arith }
+
+    stops : (c : Closing) → r .closing ≡ c → Closes c a → Stops bl last r st 0 a r st 0
+    stops Open e k = absurd k
+    stops Done e k = subst (λ v. Stops bl last r st 0 v r st 0) (sym k) (stops-done bl last r st 0 at-start e)
+    stops (Refused n m) e k = subst (λ v. Stops bl last r st 0 v r st 0) (sym k) (stops-refused bl last r st 0 at-start n m e)
+
+    pub call-ended : Called r st bl last out (record { answer = a; taken = 0; written = 0; next = r }) st out
+    call-ended =
+        served l
+        (does-stop (callOn r st bl last (length out)) bl last out r st 0 0 out (go-start r st bl last out l) at-start a r st 0 (stops (r .closing) refl h))
+        (λ a' e. record {
+          reply = ap (λ v. record { answer = v; taken = 0; written = 0; next = r }) (closes-one (r .closing) a a' h (e .closes));
+          same-store = refl;
+          same-out = refl;
+        })
+
+  -- a call on any other record within its limits
+  pub call-served : (s : Stop) → EndsWith s (r .closing) (r .waiting) → s ≡ Goes → (p : Reply) (st' out' : List ℕ)
+      → Does (callOn r st bl last (length out)) out p st' out' → Called r st bl last out p st' out'
+  call-served s h e p st' out' d =
+      served l d (λ a k. absurd (subst (λ v. EndsWith v (r .closing) (r .waiting)) e h a (k .closes) (k .none)))
+
+-- a call on a record that passes a limit
+pub call-turned : (r : Record) (st bl : List ℕ) (last : Bool) (out : List ℕ) → (Legal r st → ⊥)
+    → Called r st bl last out (record { answer = answer.Refused 1 0; taken = 0; written = 0; next = r }) st out
+call-turned r st bl last out f = turned f (record { reply = refl; same-store = refl; same-out = refl })
