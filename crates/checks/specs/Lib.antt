@@ -1,3 +1,5 @@
 pub mod Checks
 pub mod StackLaws
 pub mod SoundLaws
+pub mod LimitChecks
+pub mod LimitLaws

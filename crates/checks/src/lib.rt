@@ -12,13 +12,20 @@ use settings::Setting;
 use settings::Total;
 use sheet::Collected;
 use texts::Place;
+use traps::Planted;
 ghost use mathlib.Core.Path.{_≡_};
+ghost use mathlib.Core.Bool.{not, _||_};
 ghost use Prim.Native.Nat.{_+_, _*_, _≤_, _<_};
 ghost use lib.ListN.{length, take, drop};
+ghost use Rattle.rules.specs.Rows.{theEnd};
+ghost use Rattle.registers.specs.Checks as registers;
 ghost use Rattle.texts.specs.Table.{Names, namesOf, sum};
 ghost use Rattle.texts.specs.Places.{placeOf};
+ghost use Rattle.texts.specs.Checks as texts;
+ghost use Rattle.traps.specs.Table.{plantedOf};
 ghost use Rattle.springs.specs.Held.{isText};
 ghost use Rattle.checks.specs.Checks.{Lent, isSetting, isLength, isTotal, isLayout, isPage, isCollected, isSheet, areArguments, isAt, isItem, isFrame, isDepth, isStack, isOpening, areTexts, isSound};
+ghost use Rattle.checks.specs.LimitChecks.{LentTables, arePlaces, isGone, areTables, isRanged, areSettings, isGathered, isLayered, isDeep, isNext, isOpenOver, isPile, isWithin};
 
 // A setting and the value before it: at most so many cells.
 fn is_setting(setting: Setting, most: u32) -> bool
@@ -317,4 +324,259 @@ pub fn is_sound(
     }
     let stack = status.stack;
     is_stack(stack, ends, text_firsts, text_seconds, status.texts)
+}
+
+// The row of a trap: "result outside ±1,000,000,000"
+fn is_place(place: i32) -> bool
+    ensures { λ r. ⌜ r ≡ registers.isWithin place ⌝ }
+{
+    if place < -1000000000 {
+        return false;
+    }
+    if 1000000000 < place {
+        return false;
+    }
+    true
+}
+
+// Whether the row of each trap is the result of an expression.
+fn are_places(planted: Planted) -> bool
+    requires { ⌜ planted .count ≤ 16 ⌝ }
+    ensures { λ r. ⌜ r ≡ arePlaces (plantedOf planted) ⌝ }
+{
+    let traps = planted.traps;
+    let count = planted.count;
+    let mut i: usize = 0;
+    while i < count {
+        let trap = traps[i];
+        if !is_place(trap.place) {
+            return false;
+        }
+        i += 1;
+    }
+    true
+}
+
+// Whether no text has the name of an open definition.
+fn is_gone(opening: Opening, firsts: &[u8; 64], seconds: &[u8; 64], count: usize) -> bool
+    requires { ⌜ Names (now firsts) (now seconds) count ⌝ }
+    ensures { λ r. ⌜ r ≡ isGone (opening .there) (opening .name) (namesOf (now (firsts .entry)) (now (seconds .entry)) count) ⌝ }
+{
+    if !opening.there {
+        return true;
+    }
+    let name = opening.name;
+    !is_there(firsts, seconds, count, name)
+}
+
+// The numbers of registers and traps, and the names of texts.
+fn are_tables(
+    status: Status,
+    text_firsts: &[u8; 64],
+    text_seconds: &[u8; 64],
+    values: &[i32; 64],
+    steps: &[i32; 64],
+) -> bool
+    requires { ⌜ LentTables (now «text_firsts») (now «text_seconds») (now values) (now steps) ⌝ }
+    ensures { λ r. ⌜ r ≡ areTables status (now («text_firsts» .entry)) (now («text_seconds» .entry)) (now (values .entry)) (now (steps .entry)) ⌝ }
+{
+    if !registers::is_bounded(values, steps, status.registers) {
+        return false;
+    }
+    let planted = status.planted;
+    if !traps::is_table(planted) {
+        return false;
+    }
+    if !are_places(planted) {
+        return false;
+    }
+    if !texts::no_name_twice(text_firsts, text_seconds, status.texts) {
+        return false;
+    }
+    let opening = status.opening;
+    is_gone(opening, text_firsts, text_seconds, status.texts)
+}
+
+// "ll 1 to 240 cells", and the value before.
+fn is_ranged(line: Setting) -> bool
+    ensures { λ r. ⌜ r ≡ isRanged line ⌝ }
+{
+    let now = line.now;
+    let cells = measure::across(now);
+    if cells < 1 {
+        return false;
+    }
+    if 240 < cells {
+        return false;
+    }
+    let former = line.former;
+    let before = measure::across(former);
+    if before < 1 {
+        return false;
+    }
+    before <= 240
+}
+
+// The settings whose range has an end that no work asks for.
+fn are_settings(layout: Layout) -> bool
+    ensures { λ r. ⌜ r ≡ areSettings layout ⌝ }
+{
+    let line = layout.line;
+    if !is_ranged(line) {
+        return false;
+    }
+    layout.centred <= 1000000000
+}
+
+// Whether at most 512 bytes are gathered, each of which may stand in a source line.
+fn is_gathered(gathered: &[u8; 512], count: usize) -> bool
+    requires { ⌜ length (now gathered) ≡ 512 ⌝ }
+    ensures { λ r. ⌜ r ≡ isGathered (now (gathered .entry)) count ⌝ }
+{
+    if 512 < count {
+        return false;
+    }
+    let mut i: usize = 0;
+    while i < count {
+        let byte = gathered[i];
+        if byte < 32 {
+            return false;
+        }
+        if 126 < byte {
+            return false;
+        }
+        i += 1;
+    }
+    true
+}
+
+// A text may lie on anything, and any other item on what holds nothing yet.
+fn is_layer(text: bool, held: bool) -> bool
+    ensures { λ r. ⌜ r ≡ (text || not held) ⌝ }
+{
+    if text {
+        return true;
+    }
+    !held
+}
+
+// Whether each item that is no text lies on a text, or at the bottom.
+fn is_layered(stack: Stack) -> bool
+    ensures { λ r. ⌜ r ≡ isLayered stack ⌝ }
+{
+    if 17 < stack.depth {
+        return false;
+    }
+    let entries = stack.entries;
+    let mut held = false;
+    let mut i = stack.depth;
+    while 0 < i {
+        i -= 1;
+        let entry = entries[i];
+        let what = entry.what;
+        let text = is_text(what);
+        if !is_layer(text, held) {
+            return false;
+        }
+        held = !text;
+    }
+    true
+}
+
+// The end is an item too, once it has begun.
+fn the_end(last: bool) -> usize
+    ensures { λ r. ⌜ r ≡ theEnd last ⌝ }
+{
+    if last {
+        return 1;
+    }
+    0
+}
+
+// "input stack past 16 items", with the end among them.
+fn is_deep(last: bool, stack: Stack) -> bool
+    ensures { λ r. ⌜ r ≡ isDeep last stack ⌝ }
+{
+    let depth = stack.depth;
+    if 17 < depth {
+        return false;
+    }
+    let items = depth + the_end(last);
+    if items <= 16 {
+        return true;
+    }
+    if 17 < items {
+        return false;
+    }
+    let entry = input::top(stack);
+    let what = entry.what;
+    !is_text(what)
+}
+
+// Whether a line of the source or of a text comes next.
+fn is_next(stack: Stack) -> bool
+    requires { ⌜ stack .depth ≤ 17 ⌝ }
+    ensures { λ r. ⌜ r ≡ isNext stack ⌝ }
+{
+    if stack.depth == 0 {
+        return true;
+    }
+    let entry = input::top(stack);
+    let what = entry.what;
+    is_text(what)
+}
+
+// While a definition is open, in a session that is not closed, lines come next.
+fn is_open_over(running: bool, there: bool, stack: Stack) -> bool
+    requires { ⌜ stack .depth ≤ 17 ⌝ }
+    ensures { λ r. ⌜ r ≡ isOpenOver running there stack ⌝ }
+{
+    if !running {
+        return true;
+    }
+    if !there {
+        return true;
+    }
+    is_next(stack)
+}
+
+// The items on the input stack, over one another and below the end.
+fn is_pile(status: Status, running: bool) -> bool
+    ensures { λ r. ⌜ r ≡ isPile status running ⌝ }
+{
+    let stack = status.stack;
+    if !is_layered(stack) {
+        return false;
+    }
+    if !is_deep(status.page.last, stack) {
+        return false;
+    }
+    is_open_over(running, status.opening.there, stack)
+}
+
+// Whether a record keeps to the limits that every state of the rules keeps to, with so many bytes gathered, in a session that is open or closed.
+pub fn is_within(
+    status: Status,
+    running: bool,
+    gathered: &[u8; 512],
+    count: usize,
+    text_firsts: &[u8; 64],
+    text_seconds: &[u8; 64],
+    values: &[i32; 64],
+    steps: &[i32; 64],
+) -> bool
+    requires { ⌜ (length (now gathered) ≡ 512) × LentTables (now «text_firsts») (now «text_seconds») (now values) (now steps) ⌝ }
+    ensures { λ r. ⌜ r ≡ isWithin status running (now (gathered .entry)) count (now («text_firsts» .entry)) (now («text_seconds» .entry)) (now (values .entry)) (now (steps .entry)) ⌝ }
+{
+    if !are_tables(status, text_firsts, text_seconds, values, steps) {
+        return false;
+    }
+    let layout = status.layout;
+    if !are_settings(layout) {
+        return false;
+    }
+    if !is_gathered(gathered, count) {
+        return false;
+    }
+    is_pile(status, running)
 }

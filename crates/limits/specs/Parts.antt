@@ -8,7 +8,7 @@ use native.Mathlib.Omega.{arith}
 use Rattle.stream.specs.Answers.{Closing, done}
 use Rattle.rules.specs.declared.Register.{Register}
 use Rattle.rules.specs.declared.Trap.{Trap}
-use Rattle.rules.specs.TableLaws.{Each, OfSome}
+use Rattle.rules.specs.TableLaws.{Each}
 use Rattle.rules.specs.RegisterLaws.{BoundedTable}
 use Rattle.rules.specs.TrapLaws.{Single}
 use Rattle.rules.specs.Texts.{Text}
@@ -16,7 +16,7 @@ use Rattle.rules.specs.TextLaws.{Distinct}
 use Rattle.rules.specs.Settings.{Setting, withLine, withCentred}
 use Rattle.rules.specs.Filling.{Collected}
 use Rattle.rules.specs.State.{Item, reading, fresh, again, others, acts, ejects, Definition, State, refuse, close, withStack, withLayout, withCollected, withRegisters, withTexts, withOpened, withTraps}
-use Rattle.limits.specs.Within.{Ranged, Narrow, Gone, BoundedTrap, OverText, Layer, Layered, limitOf, Deep, NextLine, OpenOver, Refusal, Within}
+use Rattle.limits.specs.Within.{Ranged, Gone, BoundedTrap, OverText, Layer, Layered, limitOf, Deep, NextLine, OpenOver, Refusal, Within}
 
 -- the numbers of refusals
 pub is-2 : Refusal 2
@@ -141,46 +141,46 @@ popped-deep i e k d = omega (arith, limit-most (i ∷ k), limit-least k)
 module _ (s : State) (h : Within s) where
   pub registers-kept : (rs : List Register) → BoundedTable rs → Within (withRegisters rs s)
   registers-kept rs b =
-      record { registers = b; traps = h .traps; places = h .places; texts = h .texts; gone = h .gone; line = h .line; centred = h .centred; room = h .room; gathered = h .gathered; stack = h .stack; depth = h .depth; opened = h .opened; closing = h .closing }
+      record { registers = b; traps = h .traps; places = h .places; texts = h .texts; gone = h .gone; line = h .line; centred = h .centred; gathered = h .gathered; stack = h .stack; depth = h .depth; opened = h .opened; closing = h .closing }
 
   pub traps-kept : (ts : List Trap) → Single ts → Each BoundedTrap ts → Within (withTraps ts s)
   traps-kept ts d b =
-      record { registers = h .registers; traps = d; places = b; texts = h .texts; gone = h .gone; line = h .line; centred = h .centred; room = h .room; gathered = h .gathered; stack = h .stack; depth = h .depth; opened = h .opened; closing = h .closing }
+      record { registers = h .registers; traps = d; places = b; texts = h .texts; gone = h .gone; line = h .line; centred = h .centred; gathered = h .gathered; stack = h .stack; depth = h .depth; opened = h .opened; closing = h .closing }
 
   pub texts-kept : (ts : List Text) → Distinct ts → Gone (s .tables .opened) ts → Within (withTexts ts s)
   texts-kept ts d g =
-      record { registers = h .registers; traps = h .traps; places = h .places; texts = d; gone = g; line = h .line; centred = h .centred; room = h .room; gathered = h .gathered; stack = h .stack; depth = h .depth; opened = h .opened; closing = h .closing }
+      record { registers = h .registers; traps = h .traps; places = h .places; texts = d; gone = g; line = h .line; centred = h .centred; gathered = h .gathered; stack = h .stack; depth = h .depth; opened = h .opened; closing = h .closing }
 
   pub opened-kept : (o : Option Definition) (ts : List Text) → Distinct ts → Gone o ts → OpenOver o (s .closing) (s .input .stack)
       → Within (withOpened o (withTexts ts s))
   opened-kept o ts d g n =
-      record { registers = h .registers; traps = h .traps; places = h .places; texts = d; gone = g; line = h .line; centred = h .centred; room = h .room; gathered = h .gathered; stack = h .stack; depth = h .depth; opened = n; closing = h .closing }
+      record { registers = h .registers; traps = h .traps; places = h .places; texts = d; gone = g; line = h .line; centred = h .centred; gathered = h .gathered; stack = h .stack; depth = h .depth; opened = n; closing = h .closing }
 
   pub line-kept : (v : Setting) → Ranged v → Within (withLayout (withLine v (s .layout)) s)
   line-kept v l =
-      record { registers = h .registers; traps = h .traps; places = h .places; texts = h .texts; gone = h .gone; line = l; centred = h .centred; room = h .room; gathered = h .gathered; stack = h .stack; depth = h .depth; opened = h .opened; closing = h .closing }
+      record { registers = h .registers; traps = h .traps; places = h .places; texts = h .texts; gone = h .gone; line = l; centred = h .centred; gathered = h .gathered; stack = h .stack; depth = h .depth; opened = h .opened; closing = h .closing }
 
   pub centred-kept : (n : ℕ) → n ≤ 1000000000 → Within (withLayout (withCentred n (s .layout)) s)
   centred-kept n m =
-      record { registers = h .registers; traps = h .traps; places = h .places; texts = h .texts; gone = h .gone; line = h .line; centred = m; room = h .room; gathered = h .gathered; stack = h .stack; depth = h .depth; opened = h .opened; closing = h .closing }
+      record { registers = h .registers; traps = h .traps; places = h .places; texts = h .texts; gone = h .gone; line = h .line; centred = m; gathered = h .gathered; stack = h .stack; depth = h .depth; opened = h .opened; closing = h .closing }
 
   pub stack-kept : (k : List Item) → Layered k → Deep (s .page .last) k → OpenOver (s .tables .opened) (s .closing) k → Within (withStack k s)
   stack-kept k l d o =
-      record { registers = h .registers; traps = h .traps; places = h .places; texts = h .texts; gone = h .gone; line = h .line; centred = h .centred; room = h .room; gathered = h .gathered; stack = l; depth = d; opened = o; closing = h .closing }
+      record { registers = h .registers; traps = h .traps; places = h .places; texts = h .texts; gone = h .gone; line = h .line; centred = h .centred; gathered = h .gathered; stack = l; depth = d; opened = o; closing = h .closing }
 
-  pub collected-kept : (o : Option Collected) → OfSome Narrow o → Within (withCollected o s)
-  collected-kept o n =
-      record { registers = h .registers; traps = h .traps; places = h .places; texts = h .texts; gone = h .gone; line = h .line; centred = h .centred; room = n; gathered = h .gathered; stack = h .stack; depth = h .depth; opened = h .opened; closing = h .closing }
+  pub collected-kept : (o : Option Collected) → Within (withCollected o s)
+  collected-kept o =
+      record { registers = h .registers; traps = h .traps; places = h .places; texts = h .texts; gone = h .gone; line = h .line; centred = h .centred; gathered = h .gathered; stack = h .stack; depth = h .depth; opened = h .opened; closing = h .closing }
 
   -- done closes
   pub done-kept : Within (close done s)
   done-kept =
-      record { registers = h .registers; traps = h .traps; places = h .places; texts = h .texts; gone = h .gone; line = h .line; centred = h .centred; room = tt; gathered = h .gathered; stack = h .stack; depth = h .depth; opened = closed-over (s .tables .opened) done (s .input .stack); closing = tt }
+      record { registers = h .registers; traps = h .traps; places = h .places; texts = h .texts; gone = h .gone; line = h .line; centred = h .centred; gathered = h .gathered; stack = h .stack; depth = h .depth; opened = closed-over (s .tables .opened) done (s .input .stack); closing = tt }
 
 -- A refusal closes, whatever lies on the stack.
 pub refuse-popped : (s : State) (k : List Item) (n : ℕ) → Refusal n → Within s → Layered k → Deep (s .page .last) k → Within (refuse n (withStack k s))
 refuse-popped s k n r h l d =
-    record { registers = h .registers; traps = h .traps; places = h .places; texts = h .texts; gone = h .gone; line = h .line; centred = h .centred; room = tt; gathered = h .gathered; stack = l; depth = d; opened = closed-over (s .tables .opened) _ k; closing = (r, refl) }
+    record { registers = h .registers; traps = h .traps; places = h .places; texts = h .texts; gone = h .gone; line = h .line; centred = h .centred; gathered = h .gathered; stack = l; depth = d; opened = closed-over (s .tables .opened) _ k; closing = (r, refl) }
 
 pub refuse-kept : (s : State) (n : ℕ) → Refusal n → Within s → Within (refuse n s)
 refuse-kept s n r h = refuse-popped s (s .input .stack) n r h (h .stack) (h .depth)

@@ -9,14 +9,13 @@ use lib.Dec.{leb, ltb, eqb}
 use lib.ListN.{length}
 use lib.IntN.{ℤ, pos, negsuc}
 use borrow.Author.Tests.{leb-true}
-use Rattle.rules.specs.TableLaws.{OfSome}
 use Rattle.rules.specs.Texts.{Text}
 use Rattle.rules.specs.Settings.{Down}
 use Rattle.rules.specs.Filling.{Collected}
 use Rattle.rules.specs.Traps.{seenAt}
 use Rattle.rules.specs.State.{State, Item, reading, ejects, withStack, withPage, withCollected}
 use Rattle.rules.specs.Rows.{linesOf, theEnd, pushIf, heldIf, call, userText, springText, spring, startIf, startPage, endPage, withUsed, reach, down, break, rowsBelow, fewer, skip, ejectIf, eject, lastPage, ejectLast, endFrom, beginEnd}
-use Rattle.limits.specs.Within.{Narrow, OverText, Deep, Within, Keeps}
+use Rattle.limits.specs.Within.{OverText, Deep, Within, Keeps}
 use Rattle.limits.specs.Parts.{is-10, is-12, next-over, none-over, over-layer, Held, held-deep, stack-kept, collected-kept, done-kept, refuse-kept}
 
 -- what work on a line or a request finds: the limits, nothing on the stack over a text, and no definition open
@@ -43,8 +42,8 @@ hold-if true i s t h = hold i s t h
 hold-if false i s t h = hold-none s (h .0)
 
 -- another collected line, whatever is held
-pub hold-collected : (held : List Item) (s : State) (o : Option Collected) → OfSome Narrow o → Holds held s → Holds held (withCollected o s)
-hold-collected held s o n h = (collected-kept s (h .0) o n, collected-kept (withStack (held ++ s .input .stack) s) (h .1) o n)
+pub hold-collected : (held : List Item) (s : State) (o : Option Collected) → Holds held s → Holds held (withCollected o s)
+hold-collected held s o h = (collected-kept s (h .0) o, collected-kept (withStack (held ++ s .input .stack) s) (h .1) o)
 
 push-kept : (t : Bool) (k : List Item) (s : State) → Within s → (t ≡ true → Within (withStack k s)) → Within (pushIf t k s)
 push-kept true k s h g = g refl
@@ -89,7 +88,7 @@ down-kept n held s h = reach-kept (ltb (s .page .used + n) (s .layout .page)) (s
 -- a break
 pub break-kept : (c : Collected) (held : List Item) (s : State) → Holds held s → Keeps (break c held s)
 unfolding break
-break-kept c held s h = down-kept 1 held (withCollected none s) (hold-collected held s none tt h)
+break-kept c held s h = down-kept 1 held (withCollected none s) (hold-collected held s none h)
 
 -- sp
 pub skip-kept : (n : ℤ) (s : State) → Within s → Keeps (skip n s)
@@ -121,7 +120,7 @@ endFrom-kept none (suc r) s h = ejectLast-kept s h
 
 last-kept : (s : State) → Within s → s .input .stack ≡ [] → Within (lastPage s)
 last-kept s h e =
-    record { registers = h .registers; traps = h .traps; places = h .places; texts = h .texts; gone = h .gone; line = h .line; centred = h .centred; room = h .room; gathered = h .gathered; stack = h .stack; depth = subst (Deep true) (sym e) (omega arith); opened = h .opened; closing = h .closing }
+    record { registers = h .registers; traps = h .traps; places = h .places; texts = h .texts; gone = h .gone; line = h .line; centred = h .centred; gathered = h .gathered; stack = h .stack; depth = subst (Deep true) (sym e) (omega arith); opened = h .opened; closing = h .closing }
 
 pub beginEnd-kept : (s : State) → Within s → s .input .stack ≡ [] → Keeps (beginEnd s)
 unfolding beginEnd

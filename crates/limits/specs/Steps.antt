@@ -43,7 +43,7 @@ none-deep false = omega arith
 -- other gathered bytes, and lines next
 gather-kept : (g : List ℕ) (k : List Item) (s : State) → Within s → Each SourceByte g → Layered k → Deep (s .page .last) k → NextLine k → Within (gather g k s)
 gather-kept g k s h i l d n =
-    record { registers = h .registers; traps = h .traps; places = h .places; texts = h .texts; gone = h .gone; line = h .line; centred = h .centred; room = h .room; gathered = i; stack = l; depth = d; opened = next-over (s .tables .opened) (s .closing) k n; closing = h .closing }
+    record { registers = h .registers; traps = h .traps; places = h .places; texts = h .texts; gone = h .gone; line = h .line; centred = h .centred; gathered = i; stack = l; depth = d; opened = next-over (s .tables .opened) (s .closing) k n; closing = h .closing }
 
 take-kept : (a n l c : Bool) (b : ℕ) (s : State) → Within s → (c ≡ true → SourceByte b) → Within (takeBy a n l c b s)
 take-kept true n l c b s h f = refuse-kept s 12 is-12 h
@@ -54,7 +54,7 @@ take-kept false false false false b s h f = refuse-kept s 2 is-2 h
 
 begun-kept : (g : List ℕ) (s : State) → s .closing ≡ none → Within s → Within (withInput (begunBy g (s .input)) s)
 begun-kept [] s e h =
-    record { registers = h .registers; traps = h .traps; places = h .places; texts = h .texts; gone = h .gone; line = h .line; centred = h .centred; room = h .room; gathered = tt; stack = h .stack; depth = h .depth; opened = h .opened; closing = subst (λ c. Answered c (suc (s .input .line))) (sym e) tt }
+    record { registers = h .registers; traps = h .traps; places = h .places; texts = h .texts; gone = h .gone; line = h .line; centred = h .centred; gathered = tt; stack = h .stack; depth = h .depth; opened = h .opened; closing = subst (λ c. Answered c (suc (s .input .line))) (sym e) tt }
 begun-kept (b ∷ g) s e h = h
 
 byte-kept : (b : ℕ) (s : State) → s .closing ≡ none → Within s → Within (takeByte b s)

@@ -1,17 +1,14 @@
 -- Text lines keep to the limits: beside rows, they change the ti total, the lines to centre and the collected line. Assumes nothing.
-use mathlib.Core.Path.{_≡_, refl, subst}
-use mathlib.Core.Bool.{Bool, true, false}
 use mathlib.Core.Option.{Option, none, some}
 use mathlib.Core.List.{List, [], _∷_}
 use Prim.Native.Nat.{ℕ, _-_}
 use native.Mathlib.Omega.{arith}
 use lib.IntN.{pos}
 use Rattle.rules.specs.declared.Breaking.the-variants.{Sp}
-use Rattle.rules.specs.TableLaws.{OfSome}
-use Rattle.rules.specs.Filling.{Word, words, standing, after, gapAfter, Collected, withNext, begin, begun, joined, Placed, all, full, fits, place}
+use Rattle.rules.specs.Filling.{Word, words, standing, after, gapAfter, Collected, withNext, begin, begun, Placed, all, full, place}
 use Rattle.rules.specs.State.{State, again, others, acts, text, withLayout, withCollected}
 use Rattle.rules.specs.TextLines.{Way, starts, blank, stands, fills, breaks, wayOf, asItStands, counted, othersOf, nextGap, filled, fillFrom, fill, blankFrom, gapHere, textWay, textLine}
-use Rattle.limits.specs.Within.{Narrow, Within, Keeps}
+use Rattle.limits.specs.Within.{Within, Keeps}
 use Rattle.limits.specs.Parts.{centred-kept, collected-kept}
 use Rattle.limits.specs.Rows.{Ready, Holds, hold-none, hold, hold-collected, down-kept, startPage-kept, break-kept, skip-kept}
 
@@ -19,41 +16,22 @@ hold-others : (ws : List Word) (g : ℕ) (s : State) → Ready s → Holds (othe
 hold-others [] g s h = hold-none s (h .0)
 hold-others (w ∷ ws) g s h = hold (others (w ∷ ws) g) s tt h
 
--- words that join leave a line its room
-abbrev NarrowPlaced : Placed → Type 0
-NarrowPlaced (all c) = Narrow c
-NarrowPlaced (full c w ws) = Narrow c
-
-place-test : (t : Bool) (c : Collected) (w : Word) (ws : List Word) → Narrow c → NarrowPlaced (place (joined w c) ws)
-    → NarrowPlaced (elim t [ true ↦ place (joined w c) ws | false ↦ full c w ws ])
-place-test true c w ws h i = i
-place-test false c w ws h i = h
-
-place-narrow : (c : Collected) (ws : List Word) → Narrow c → NarrowPlaced (place c ws)
-unfolding place
-place-narrow c [] h = h
-place-narrow c (w ∷ ws) h = place-test (fits c w) c w ws h (place-narrow (joined w c) ws h)
-
-begin-narrow : (s : State) (w : Word) → Within s → Narrow (begin (s .layout) w)
-begin-narrow s w h = omega (arith, h .line .most)
-
-filled-kept : (x : Placed) (g : ℕ) (s : State) → NarrowPlaced x → Ready s → Keeps (filled x g s)
-filled-kept (all c) g s n h = collected-kept s (h .0) (some (withNext g c)) n
-filled-kept (full c w ws) g s n h =
+filled-kept : (x : Placed) (g : ℕ) (s : State) → Ready s → Keeps (filled x g s)
+filled-kept (all c) g s h = collected-kept s (h .0) (some (withNext g c))
+filled-kept (full c w ws) g s h =
     let t = withLayout (begun (s .layout)) s in
     let o = some (withNext (nextGap ws g) (begin (s .layout) w)) in
-    down-kept 1 (othersOf ws g) (withCollected o t) (hold-collected (othersOf ws g) t o (begin-narrow s w (h .0)) (hold-others ws g t h))
+    down-kept 1 (othersOf ws g) (withCollected o t) (hold-collected (othersOf ws g) t o (hold-others ws g t h))
 
-fillFrom-kept : (c : Option Collected) (w : Word) (ws : List Word) (g : ℕ) (s : State) → s .collected ≡ c → Ready s → Keeps (fillFrom c w ws g s)
-fillFrom-kept none w ws g s e h =
-    filled-kept (place (begin (s .layout) w) ws) g (withLayout (begun (s .layout)) s) (place-narrow (begin (s .layout) w) ws (begin-narrow s w (h .0))) h
-fillFrom-kept (some c) w ws g s e h = filled-kept (place c (w ∷ ws)) g s (place-narrow c (w ∷ ws) (subst (OfSome Narrow) e (h .0 .room))) h
+fillFrom-kept : (c : Option Collected) (w : Word) (ws : List Word) (g : ℕ) (s : State) → Ready s → Keeps (fillFrom c w ws g s)
+fillFrom-kept none w ws g s h = filled-kept (place (begin (s .layout) w) ws) g (withLayout (begun (s .layout)) s) h
+fillFrom-kept (some c) w ws g s h = filled-kept (place c (w ∷ ws)) g s h
 
 -- words are placed
 pub fill-kept : (ws : List Word) (g : ℕ) (s : State) → Ready s → Keeps (fill ws g s)
 unfolding fill
 fill-kept [] g s h = h .0
-fill-kept (w ∷ ws) g s h = fillFrom-kept (s .collected) w ws g s refl h
+fill-kept (w ∷ ws) g s h = fillFrom-kept (s .collected) w ws g s h
 
 blank-kept : (c : Option Collected) (s : State) → Ready s → Keeps (blankFrom c s)
 blank-kept none s h = skip-kept (pos 1) s (h .0)

@@ -10,14 +10,13 @@ use Rattle.stream.specs.Answers.{Closing, done, refused}
 use Rattle.stream.specs.Machine.{Step, works, asks, closed}
 use Rattle.rules.specs.declared.Trap.{Trap}
 use Rattle.rules.specs.Printers.{Printer, tenToTheInch}
-use Rattle.rules.specs.TableLaws.{Each, OfSome}
+use Rattle.rules.specs.TableLaws.{Each}
 use Rattle.rules.specs.NumberLaws.{Bounded}
 use Rattle.rules.specs.RegisterLaws.{BoundedTable}
 use Rattle.rules.specs.TrapLaws.{Single}
 use Rattle.rules.specs.Texts.{Text, textOf}
 use Rattle.rules.specs.TextLaws.{Distinct}
 use Rattle.rules.specs.Settings.{Setting}
-use Rattle.rules.specs.Filling.{Collected}
 use Rattle.rules.specs.State.{Item, reading, fresh, again, others, acts, ejects, Definition, Tables, State, start}
 use Rattle.rules.specs.Rows.{theEnd}
 
@@ -27,10 +26,6 @@ pub record Ranged (v : Setting) : Type 0 where
   pub most : v .now ≤ 240
   pub former-least : 1 ≤ v .former
   pub former-most : v .former ≤ 240
-
--- "Room is ll minus indent": a line's room, which its first word fixed, is at most ll's
-abbrev pub Narrow : Collected → Type 0
-Narrow c = c .room ≤ 240
 
 -- "the old text counts as gone when the new definition starts", and "A macro exists once closed": no text has the name of an open definition
 abbrev pub Gone : Option Definition → List Text → Type 0
@@ -112,7 +107,7 @@ Answered (some done) l = Unit
 Answered (some (refused n m)) l = Refusal n × (m ≡ l)
 
 -- THE LIMITS, part by part. Those of the settings' other ranges are `Limits` (settings); those of counts and lengths are in what the code asks for.
-pub record Limited (t : Tables) (ll : Setting) (ce : ℕ) (o : Option Collected) (g : List ℕ) (l : ℕ) (k : List Item) (e : Bool) (c : Option Closing) : Type 0 where
+pub record Limited (t : Tables) (ll : Setting) (ce : ℕ) (g : List ℕ) (l : ℕ) (k : List Item) (e : Bool) (c : Option Closing) : Type 0 where
   -- "6: .. literal, step or result outside ±1,000,000,000": values and steps
   pub registers : BoundedTable (t .registers)
   -- "the same N is replaced": no two traps have one N
@@ -124,7 +119,6 @@ pub record Limited (t : Tables) (ll : Setting) (ce : ℕ) (o : Option Collected)
   pub line : Ranged ll
   -- the lines that ce has still to centre were the result of an expression
   pub centred : ce ≤ 1000000000
-  pub room : OfSome Narrow o
   pub gathered : Each SourceByte g
   pub stack : Layered k
   pub depth : Deep e k
@@ -133,7 +127,7 @@ pub record Limited (t : Tables) (ll : Setting) (ce : ℕ) (o : Option Collected)
 
 -- the limits of a state; the rest of its page and its other settings are free in them
 abbrev pub Within : State → Type 0
-Within s = Limited (s .tables) (s .layout .line) (s .layout .centred) (s .collected) (s .input .gathered) (s .input .line) (s .input .stack) (s .page .last) (s .closing)
+Within s = Limited (s .tables) (s .layout .line) (s .layout .centred) (s .input .gathered) (s .input .line) (s .input .stack) (s .page .last) (s .closing)
 
 -- what a state leads to keeps to something
 abbrev pub KeepsTo : {S : Type 0} → (S → Type 0) → Step S → Type 0
@@ -155,7 +149,6 @@ start-within p a b = record {
   gone = tt;
   line = record { least = a; most = b; former-least = a; former-most = b };
   centred = omega arith;
-  room = tt;
   gathered = tt;
   stack = tt;
   depth = omega arith;

@@ -1,0 +1,87 @@
+-- How the tests of the traps' rows, of the gathered bytes and of the items on the stack go on. Assumes nothing.
+use mathlib.Core.Path.{_≡_, ap, _∙_}
+use mathlib.Core.Bool.{Bool, true, false, not, _&&_, _||_}
+use mathlib.Core.List.{List}
+use Prim.Native.Nat.{ℕ, suc, _+_, _-_, _≤_, _<_}
+use native.Mathlib.Omega.{arith}
+use lib.Dec.{leb}
+use lib.ListN.{length, take, drop, getD}
+use borrow.Author.Tests.{leb-true, le-leb, lt-leb}
+use Rattle.rules.specs.declared.Trap.{Trap}
+use Rattle.rules.specs.RefusalLaws.{both}
+use Rattle.registers.specs.Checks as registers
+use Rattle.texts.specs.Table.{namesOf, Names}
+use Rattle.texts.specs.Checks as texts
+use Rattle.traps.specs.declared.Planted.{Planted}
+use Rattle.traps.specs.TableLaws.{front-next, front-end}
+use Rattle.traps.specs.Checks as traps
+use Rattle.input.specs.declared.Entry.{Entry}
+use Rattle.input.specs.declared.Stack.{Stack}
+use Rattle.input.specs.Frames.{noEntry}
+use Rattle.springs.specs.Held.{isText}
+use Rattle.checks.specs.LimitChecks.{arePlaces, areBytes, isGathered, layeredTo, isLayered}
+
+-- the trap at i, whose row passed its test with v
+pub places-at : (l : List Trap) (n i : ℕ) (d : Trap) (v : Bool) → i < n → n ≤ length l → registers.isWithin (getD l i d .place) ≡ v
+    → arePlaces (drop i (take n l)) ≡ (v && arePlaces (drop (i + 1) (take n l)))
+unfolding arePlaces
+places-at l n i d v h k e = ap arePlaces (front-next l n i d h k) ∙ ap (λ (b : Bool). b && arePlaces (drop (i + 1) (take n l))) e
+
+pub places-end : (l : List Trap) (n i : ℕ) → n ≤ i → arePlaces (drop i (take n l)) ≡ true
+unfolding arePlaces
+places-end l n i h = ap arePlaces (front-end l n i h)
+
+-- the byte at i
+module _ (l : List ℕ) (n i : ℕ) (h : i < n) (k : n ≤ length l) where
+  bytes-at : areBytes (drop i (take n l)) ≡ (leb 32 (getD l i 0) && leb (getD l i 0) 126 && areBytes (drop (i + 1) (take n l)))
+  unfolding areBytes
+  bytes-at = ap areBytes (front-next l n i 0 h k)
+
+  pub bytes-low : getD l i 0 < 32 → areBytes (drop i (take n l)) ≡ false
+  bytes-low a = bytes-at ∙ rw (lt-leb 32 (getD l i 0) a)
+
+  pub bytes-high : 32 ≤ getD l i 0 → 126 < getD l i 0 → areBytes (drop i (take n l)) ≡ false
+  bytes-high a b = bytes-at ∙ rw (le-leb 32 (getD l i 0) a, lt-leb (getD l i 0) 126 b)
+
+  pub bytes-on : 32 ≤ getD l i 0 → getD l i 0 ≤ 126 → areBytes (drop i (take n l)) ≡ areBytes (drop (i + 1) (take n l))
+  bytes-on a b = bytes-at ∙ rw (le-leb 32 (getD l i 0) a, le-leb (getD l i 0) 126 b)
+
+pub bytes-end : (l : List ℕ) (n i : ℕ) → n ≤ i → areBytes (drop i (take n l)) ≡ true
+unfolding areBytes
+bytes-end l n i h = ap areBytes (front-end l n i h)
+
+pub gathered-many : (l : List ℕ) (n : ℕ) → 512 < n → isGathered l n ≡ false
+gathered-many l n h = rw (lt-leb n 512 h)
+
+pub gathered-few : (l : List ℕ) (n : ℕ) → n ≤ 512 → isGathered l n ≡ areBytes (take n l)
+gathered-few l n h = rw (le-leb n 512 h)
+
+-- the items below a depth are the one under it, and those below that
+pub layers-step : (held : Bool) (es : List Entry) (i : ℕ) → 0 < i
+    → layeredTo held es i ≡ ((isText (getD es (i - 1) noEntry .what) || not held) && layeredTo (not (isText (getD es (i - 1) noEntry .what))) es (i - 1))
+unfolding layeredTo
+layers-step held es i h = let e : i ≡ suc (i - 1) = omega arith in ap (layeredTo held es) e
+
+-- there are none below the first
+pub layers-none : (held : Bool) (es : List Entry) (i : ℕ) → i ≡ 0 → layeredTo held es i ≡ true
+unfolding layeredTo
+layers-none held es i e = ap (layeredTo held es) e
+
+pub layered-many : (s : Stack) → 17 < s .depth → isLayered s ≡ false
+layered-many s h = rw (lt-leb (s .depth) 17 h)
+
+pub layered-few : (s : Stack) → s .depth ≤ 17 → isLayered s ≡ layeredTo false (s .entries) (s .depth)
+layered-few s h = rw (le-leb (s .depth) 17 h)
+
+-- a stack that passes the test has at most 17 items
+pub layered-most : (s : Stack) → isLayered s ≡ true → s .depth ≤ 17
+layered-most s h = leb-true (s .depth) 17 (both (leb (s .depth) 17) (layeredTo false (s .entries) (s .depth)) h .0)
+
+-- a table of traps that passes its test has at most 16
+pub traps-most : (p : Planted) → traps.isTable p ≡ true → p .count ≤ 16
+traps-most p h = traps.table-sound p h .0
+
+-- columns of names that pass theirs have at most 64
+pub names-most : (fs ss : List ℕ) (n : ℕ) → texts.NameColumns fs ss → texts.noNameTwice fs ss n ≡ true → Names fs ss n
+names-most fs ss n c h =
+    record { firsts-long = c .firsts-long; seconds-long = c .seconds-long; few = leb-true n 64 (both (leb n 64) (texts.allDistinct (namesOf fs ss n)) h .0) }
