@@ -3,36 +3,34 @@ use mathlib.Core.Path.{_≡_, refl, sym, ap, ap₂, _∙_, subst}
 use mathlib.Core.Bool.{Bool, true, false}
 use mathlib.Core.Option.{none}
 use mathlib.Core.List.{List, [], _∷_, _++_}
-use Prim.Native.Nat.{ℕ, zero, suc, _+_, _-_, _*_, _<_, _≤_}
+use Prim.Native.Nat.{ℕ, _+_, _-_, _<_, _≤_}
 use native.Mathlib.Omega.{arith}
 use lib.ListN.{length, take, drop, length-drop, take-append-drop, drop-of-length-le}
 use lib.Seq.{length-take-le, drop-drop}
 use lib.IntN.{ℤ}
-use Rattle.stream.specs.declared.Answer.{Answer}
 use Rattle.stream.specs.declared.Answer.the-variants as answer
-use Rattle.stream.specs.Answers.{Closing, done, refused, needs-input, closes, replyOf}
+use Rattle.stream.specs.Answers.{Closing, done, refused, needs-input, closes}
 use Rattle.stream.specs.Machine.{Step, works, asks, Outcome, stop, callFrom, Below}
 use Rattle.stream.specs.Laws.{call-works, call-ends, call-waits, call-closed}
 use Rattle.rules.specs.Printers.{tenToTheInch}
 use Rattle.rules.specs.State.{State, close}
 use Rattle.rules.specs.Session.{step, takeByte, readEnd}
 use Rattle.rules.specs.SessionLaws.{step-close}
-use Rattle.rules.specs.Load.{Good, load, byteLoad, formatter}
+use Rattle.rules.specs.Load.{Good, load, formatter}
 use Rattle.rules.specs.Falls.{falls}
 use Rattle.limits.specs.Within.{Within}
 use Rattle.limits.specs.Steps.{works-within, byte-within, end-within}
 use Rattle.source.specs.Gathering.{Asks, Takes}
 use Rattle.source.specs.CallLaws.{after, step-asks, takes-good, call-gathers}
-use Rattle.dealing.specs.Whole.{Whole, stateIn}
+use Rattle.dealing.specs.Whole.{stateIn}
 use Rattle.dealing.specs.Statuses.{wholeOf}
 use Rattle.session.specs.declared.Place.{Place}
 use Rattle.session.specs.declared.Record.{Record}
-use Rattle.session.specs.declared.Closing as declared
 use Rattle.session.specs.declared.Closing.the-variants.{Open, Done, Refused}
-use Rattle.session.specs.View.{sourced, closedAs, wholeIn, stateOf, waitingOf, lastLine, Formed, Legal}
-use Rattle.session.specs.Contract.{Closes, Ended, EndedBy}
+use Rattle.session.specs.View.{sourced, closedAs, wholeIn, stateOf, waitingOf, lastLine, Formed}
+use Rattle.session.specs.Contract.{Closes}
 use Rattle.session.specs.Calls.{formed-good}
-use Rattle.session.specs.Turns.{recordOf, Works, Busy, Asking, Arrives, stands, after-work, TakenTo, weight, Turns, Leads, Stops, HasWork}
+use Rattle.session.specs.Turns.{recordOf, Works, Busy, Asking, Arrives, stands, after-work, TakenTo, Turns, Leads, Stops, HasWork}
 use Rattle.session.proofs.Taking.{stack-none}
 use Rattle.session.proofs.Quiet.{quiet-in}
 

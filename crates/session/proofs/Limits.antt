@@ -2,7 +2,7 @@
 use mathlib.Core.Path.{_≡_, refl, sym, ap, _∙_, subst}
 use mathlib.Core.Bool.{Bool, true, false}
 use mathlib.Core.List.{List}
-use Prim.Native.Nat.{ℕ, _≤_}
+use Prim.Native.Nat.{ℕ}
 use native.Mathlib.Omega.{arith}
 use lib.ListN.{length}
 use Rattle.stream.specs.declared.Answer.{Answer}
@@ -23,9 +23,9 @@ use Rattle.session.specs.declared.Waiting.{Waiting}
 use Rattle.session.specs.declared.Closing.{Closing}
 use Rattle.session.specs.declared.Closing.the-variants.{Open, Done, Refused}
 use Rattle.session.specs.declared.Stop.{Stop}
-use Rattle.session.specs.declared.Stop.the-variants.{Goes, With}
+use Rattle.session.specs.declared.Stop.the-variants.{Goes}
 use Rattle.session.specs.View.{sourced, closedAs, wholeIn, Legal}
-use Rattle.session.specs.Contract.{callOn, Closes, Nothing, Ended, Does, Called, served, turned}
+use Rattle.session.specs.Contract.{callOn, Closes, Does, Called, served, turned}
 use Rattle.session.specs.Turns.{Turns, Stops}
 use Rattle.session.specs.Limits.{EndsWith, isOpen, AnsweredAt, AnsweredJudged, Placed, PlacedJudged, soundIn, withinIn, Judged}
 use Rattle.session.proofs.Leading.{stops-done, stops-refused}

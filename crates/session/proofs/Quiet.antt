@@ -1,5 +1,5 @@
 -- Where a definition is open in a session that is not closed, lines come next: a text is on top of the stack, or nothing is. Assumes nothing.
-use mathlib.Core.Path.{_≡_, refl, sym, subst}
+use mathlib.Core.Path.{_≡_, refl, subst}
 use mathlib.Core.Bool.{Bool, true}
 use mathlib.Core.Option.{Option, none}
 use mathlib.Core.List.{List, _∷_}

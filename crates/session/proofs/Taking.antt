@@ -2,14 +2,14 @@
 use mathlib.Core.Path.{_≡_, refl, sym, ap, _∙_, subst}
 use mathlib.Core.Bool.{Bool, true, false}
 use mathlib.Core.List.{List, [], _∷_}
-use Prim.Native.Nat.{ℕ, zero, suc, _+_, _-_, _<_, _≤_}
+use Prim.Native.Nat.{ℕ, _+_, _-_, _<_, _≤_}
 use native.Mathlib.Omega.{arith}
 use lib.ListN.{length, take, drop}
 use lib.Seq.{length-take-le}
 use lib.IntN.{ℤ}
 use Rattle.stream.specs.Answers.{refused}
 use Rattle.rules.specs.Printers.{tenToTheInch}
-use Rattle.rules.specs.State.{State, Item, fresh, input, withInput, close}
+use Rattle.rules.specs.State.{State, fresh, input, withInput, close}
 use Rattle.rules.specs.ControlLines.{deal}
 use Rattle.rules.specs.Session.{step, readEnd, lastLine as lastItem}
 use Rattle.source.specs.declared.Source.{Source}
@@ -21,13 +21,12 @@ use Rattle.source.specs.Gathering as source
 use Rattle.input.specs.Frames.{framesTo}
 use Rattle.input.specs.Items.{itemsOf, stackOf}
 use Rattle.springs.specs.declared.Way.the-variants as way
-use Rattle.dealing.specs.Whole.{Whole, textsIn, stateIn, SoundWhole}
+use Rattle.dealing.specs.Whole.{Whole, textsIn, stateIn}
 use Rattle.dealing.specs.Statuses.{wholeOf}
 use Rattle.session.specs.declared.Place.{Place}
 use Rattle.session.specs.declared.Record.{Record}
-use Rattle.session.specs.declared.Closing.{Closing}
-use Rattle.session.specs.declared.Closing.the-variants.{Open, Done, Refused}
-use Rattle.session.specs.View.{sourced, closedAs, stateOf, waitingOf, lastLine, Legal}
+use Rattle.session.specs.declared.Closing.the-variants.{Refused}
+use Rattle.session.specs.View.{sourced, stateOf, lastLine}
 use Rattle.session.specs.Turns.{recordOf, placeAfter, Works, Deals, Asking, Arrives, stands, after-work, TakenTo, emptied, Whichever}
 use Rattle.session.proofs.Turns.{open-state}
 

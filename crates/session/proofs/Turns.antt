@@ -1,11 +1,11 @@
 -- The turns of a call lead from record to record as the rules lead from state to state. Assumes nothing.
 use mathlib.Core.Path.{_≡_, refl, sym, ap, ap₂, _∙_, subst}
-use mathlib.Core.Bool.{Bool, true, false}
+use mathlib.Core.Bool.{true}
 use mathlib.Core.Option.{none}
-use mathlib.Core.List.{List, []}
-use Prim.Native.Nat.{ℕ, zero, suc, _+_, _-_, _*_, _<_, _≤_}
+use mathlib.Core.List.{List}
+use Prim.Native.Nat.{ℕ, _-_, _≤_}
 use native.Mathlib.Omega.{arith}
-use lib.ListN.{length, take, drop}
+use lib.ListN.{length, take}
 use lib.IntN.{ℤ}
 use Rattle.stream.specs.Machine.{works}
 use Rattle.rules.specs.Printers.{Printer, tenToTheInch}
@@ -22,11 +22,9 @@ use Rattle.dealing.specs.Whole.{Whole, stateIn, SoundWhole, Did}
 use Rattle.dealing.specs.Statuses.{wholeOf}
 use Rattle.formatter.specs.Works.{WorkedTo}
 use Rattle.session.specs.declared.Place.{Place}
-use Rattle.session.specs.declared.Record.{Record}
-use Rattle.session.specs.declared.Closing.{Closing}
 use Rattle.session.specs.declared.Closing.the-variants.{Open, Done, Refused}
-use Rattle.session.specs.View.{sourced, closedAs, stateOf, waitingOf, lastLine, Legal}
-use Rattle.session.specs.Turns.{recordOf, closingOf, placeAfter, Works, Deals, Busy}
+use Rattle.session.specs.View.{sourced, closedAs, stateOf, lastLine}
+use Rattle.session.specs.Turns.{recordOf, closingOf, placeAfter, Works, Deals}
 
 -- a way closes a state as the record says
 closes-as : (w : Way) (q : Whole) (s : Source) (g : List ℕ) → closeBy w (stateIn q (sourced s g)) ≡ closedAs (closingOf w (s .line)) (stateIn q (sourced s g))

@@ -2,7 +2,7 @@
 use mathlib.Core.Path.{_≡_, refl, sym, ap, _∙_, subst}
 use mathlib.Core.Bool.{Bool, true}
 use mathlib.Core.List.{List, [], _∷_, _++_, append-assoc}
-use Prim.Native.Nat.{ℕ, _<_, _≤_}
+use Prim.Native.Nat.{ℕ}
 use native.Mathlib.Omega.{arith}
 use lib.ListN.{length, take, drop}
 use lib.Seq.{take-at, drop-at}
@@ -25,7 +25,7 @@ use Rattle.session.specs.declared.Reply.{Reply}
 use Rattle.session.specs.declared.Closing.{Closing}
 use Rattle.session.specs.declared.Closing.the-variants.{Open, Done, Refused}
 use Rattle.session.specs.View.{sourced, wholeIn, closedAs, stateOf, waitingOf, Formed, Legal}
-use Rattle.session.specs.Contract.{callOn, Closes, Nothing, Ended, EndedBy, Does, Called, served, turned}
+use Rattle.session.specs.Contract.{callOn, Nothing, Ended, EndedBy, Does, Called, served, turned}
 
 -- a call as its caller sees it: what it lent, and what it was answered
 abbrev pub seen : (block : List ℕ) → (last : Bool) → (out : List ℕ) → Reply → (out' : List ℕ) → Call

@@ -1,8 +1,8 @@
 -- The starting record. Assumes nothing.
 use mathlib.Core.Path.{_≡_, refl, sym, subst}
 use mathlib.Core.Bool.{true, false}
-use mathlib.Core.List.{List, []}
-use Prim.Native.Nat.{ℕ, _≤_, _<_}
+use mathlib.Core.List.{List}
+use Prim.Native.Nat.{ℕ}
 use native.Mathlib.Omega.{arith}
 use lib.ListN.{length, replicate, length-replicate}
 use lib.IntN.{ℤ, pos}
@@ -20,14 +20,12 @@ use Rattle.traps.specs.Table.{emptyTable}
 use Rattle.input.specs.Frames.{noFrames, framesTo}
 use Rattle.input.specs.Items.{itemsOf}
 use Rattle.texts.specs.Table.{cut, lies-none}
-use Rattle.registers.specs.Columns as registers
-use Rattle.rules.specs.RegisterLaws.{Ordered}
 use Rattle.sheet.specs.Desk.{noLine}
 use Rattle.dealing.specs.declared.Status.{Status}
 use Rattle.source.specs.declared.Source.{Source}
 use Rattle.session.specs.declared.Record.{Record}
 use Rattle.session.specs.declared.Closing.the-variants.{Open}
-use Rattle.session.specs.View.{stateOf, waitingOf, Legal, Formed}
+use Rattle.session.specs.View.{stateOf, Legal, Formed}
 use Rattle.session.specs.Calls.{Calls, condition-3-from}
 
 -- a setting of so many cells

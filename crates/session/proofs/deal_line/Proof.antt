@@ -1,7 +1,7 @@
 use borrow.Author.Needs.{needs}
 use native.Mathlib.Omega.{arith}
-use mathlib.Core.Path.{_≡_, refl, sym, ap, _∙_}
-use mathlib.Core.List.{List, []}
+use mathlib.Core.Path.{sym, ap}
+use mathlib.Core.List.{[]}
 use denote.Ref.{now}
 use Rattle.rules.specs.ControlLines.{deal}
 use Rattle.settings.specs.Layouts.{printerOf}

@@ -1,4 +1,4 @@
-use mathlib.Core.Path.{_≡_, refl, sym, subst}
+use mathlib.Core.Path.{refl, sym, subst}
 use Rattle.stream.specs.declared.Answer.the-variants as answer
 use Rattle.session.specs.Contract.{Closes}
 use borrow.Author.Needs.{needs}

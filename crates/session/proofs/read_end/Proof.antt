@@ -1,8 +1,8 @@
 use borrow.Author.Needs.{needs}
 use native.Mathlib.Omega.{arith}
 use Prim.Native.Nat.{_≤_}
-use mathlib.Core.Path.{_≡_, refl, sym, ap, _∙_, subst}
-use mathlib.Core.Bool.{true, false}
+use mathlib.Core.Path.{ap, _∙_, subst}
+use mathlib.Core.Bool.{true}
 use lib.ListN.{length, take}
 use lib.Seq.{length-take-le}
 use denote.Ref.{now}
@@ -34,8 +34,8 @@ deal-line-requires c κs =
     let h = c .before .before .before .before .before .before .before .before .before .before .before .before .before .before .before .before .before .before .before .before .before .pre in
     let l = h .formed in
     rw (c .before .before .before .before .before .before .before .before .before .before .before .before .before .before .before .before .before .emptied .ensures, c .before .before .before .before .before .before .before .before .before .before .before .before .before .first .ensures)
-          (may-deal (a .place) (now (a .gathered)) (now (a .cells)) (now (a .row)) (now (a .arena)) (now (a .ends)) (now (a .text-firsts)) (now (a .text-seconds)) (now (a .kinds)) (now (a .lengths)) (now (a .firsts)) (now (a .seconds)) (now (a .values)) (now (a .steps)) (now (a .store)) h (a .place .source) true (take (a .place .source .length) (now (a .gathered)))
-          (subst (λ v. a .place .source .line ≤ lastLine v) (h .unclosed) (l .numbered)) (l .counted) (rw (length-take-le (a .place .source .length) (now (a .gathered)) (omega (arith, l .short, l .gathered-long))) (l .short)))
+    (may-deal (a .place) (now (a .gathered)) (now (a .cells)) (now (a .row)) (now (a .arena)) (now (a .ends)) (now (a .text-firsts)) (now (a .text-seconds)) (now (a .kinds)) (now (a .lengths)) (now (a .firsts)) (now (a .seconds)) (now (a .values)) (now (a .steps)) (now (a .store)) h (a .place .source) true (take (a .place .source .length) (now (a .gathered)))
+    (subst (λ v. a .place .source .line ≤ lastLine v) (h .unclosed) (l .numbered)) (l .counted) (rw (length-take-le (a .place .source .length) (now (a .gathered)) (omega (arith, l .short, l .gathered-long))) (l .short)))
 
 same-length : tie.Need-same-length
 same-length c = search needs

@@ -1,8 +1,7 @@
 -- `session::run` meets its contract. The loop keeps that what the whole call does is what it has taken and written, and then what it does from here (`Going`).
 -- The measure is the machine's load. Assumes nothing.
-use native.Mathlib.Omega.{arith}
 use borrow.Author.Needs.{needs}
-use mathlib.Core.Path.{_≡_, refl, sym, ap, _∙_}
+use mathlib.Core.Path.{sym, _∙_}
 use lib.ListN.{length}
 use denote.Ref.{now}
 use Rattle.session.specs.Contract.{callOn}

@@ -1,12 +1,8 @@
 use borrow.Author.Needs.{needs}
 use native.Mathlib.Omega.{arith}
 use Prim.Native.Nat.{_≤_}
-use mathlib.Core.Path.{_≡_, refl, sym, ap, _∙_, subst}
-use mathlib.Core.Bool.{true, false}
-use lib.ListN.{length, take}
-use lib.Seq.{length-take-le}
+use mathlib.Core.Path.{subst}
 use denote.Ref.{now}
-use Rattle.source.specs.Gathering as source
 use Rattle.session.specs.View.{lastLine}
 use Rattle.session.specs.Turns.{recordOf}
 use Rattle.session.proofs.Taking.{may-deal-ended, more-taken, refused-taken, ended-taken}

@@ -1,11 +1,7 @@
 use borrow.Author.Needs.{needs}
-use native.Mathlib.Omega.{arith}
-use mathlib.Core.Path.{_≡_, refl, sym, ap, _∙_}
 use denote.Ref.{now}
 use Rattle.settings.specs.Layouts.{printerOf}
-use Rattle.dealing.specs.Whole.{stateIn}
 use Rattle.dealing.specs.Statuses.{wholeOf}
-use Rattle.session.specs.View.{sourced}
 use Rattle.session.proofs.Turns.{item-worked, open-state}
 use Rattle.session.proofs.work.Statement.{statement}
 use Rattle.session.proofs.work.Tie as tie
