@@ -176,7 +176,7 @@ fn the_edits_exist() {
     for [quote, _, cell, _] in rules() {
         for span in spans(&cell) {
             if let Some((crate_name, edit)) =
-                span.split_once('/').filter(|(name, _)| ["rules", "stream"].contains(name))
+                span.split_once('/').filter(|(name, _)| ["rules", "stream", "session"].contains(name))
             {
                 if !edit.contains('.') {
                     let path = format!("crates/{crate_name}/must-fail/{edit}.edit");
