@@ -13,7 +13,7 @@ pub struct Record {
     steps: [i32; 64],
     trap_places: [i32; 16],
     item_pages: [u32; 17],
-    stored: [u16; 1],
+    stored: u16,
     ends: [u16; 153],
     lengths: [u16; 64],
     item_places: [u16; 17],
@@ -50,7 +50,7 @@ extern "C" {
         steps: *mut [i32; 64],
         trap_places: *mut [i32; 16],
         item_pages: *mut [u32; 17],
-        stored: *mut [u16; 1],
+        stored: *mut u16,
         ends: *mut [u16; 153],
         lengths: *mut [u16; 64],
         item_places: *mut [u16; 17],
@@ -81,7 +81,7 @@ extern "C" {
         steps: *mut [i32; 64],
         trap_places: *mut [i32; 16],
         item_pages: *mut [u32; 17],
-        stored: *mut [u16; 1],
+        stored: *mut u16,
         ends: *mut [u16; 153],
         lengths: *mut [u16; 64],
         item_places: *mut [u16; 17],
@@ -240,3 +240,6 @@ impl Record {
         unsafe { std::slice::from_raw_parts_mut((self as *mut Record).cast(), size) }
     }
 }
+
+/// include/rockavine.h states these.
+const _: () = assert!(std::mem::size_of::<Record>() == 12_320 && std::mem::align_of::<Record>() == 8);
