@@ -22,11 +22,11 @@ impl Random {
         (self.next() % bound as u64) as usize
     }
 
-    fn one_in(&mut self, chances: usize) -> bool {
+    pub(crate) fn one_in(&mut self, chances: usize) -> bool {
         self.below(chances) == 0
     }
 
-    fn pick<'a>(&mut self, choices: &[&'a str]) -> &'a str {
+    pub(crate) fn pick<'a>(&mut self, choices: &[&'a str]) -> &'a str {
         choices[self.below(choices.len())]
     }
 }
@@ -135,7 +135,8 @@ fn words(random: &mut Random) -> String {
     text
 }
 
-fn line(random: &mut Random, depth: usize) -> String {
+/// A line of text, or a control line.
+pub(crate) fn line(random: &mut Random, depth: usize) -> String {
     let control = if random.one_in(6) { "'" } else { "." };
     let number = random.pick(&NUMBERS);
     let name = random.pick(&NAMES);

@@ -4,9 +4,10 @@
 //! The modules follow document 01's sections:
 //! `session` (A session), `refusal` (Refusal numbers), `number` (Numbers), `escape`, `argument`,
 //! `text`, `line` and `request` (Lines and escapes), `fill` (Filling), `page` (Rows, pages, traps).
-//! `json`, `vector` and `part` serve the command line.
+//! `json`, `vector` and `part` serve the command line; `generate` and `crowd` make random documents.
 
 pub mod argument;
+pub mod crowd;
 pub mod escape;
 pub mod fill;
 pub mod generate;
