@@ -43,7 +43,7 @@ module _ (fs ss : List ℕ) (n : ℕ) (planted : Planted) (d : Desk) (row : List
     is = λ st ks ls i x. ap (λ (j : Judged rule.Layout). laidOut j (stateAt (textsOf st fs ss ks ls n) (plantedOf planted) d x)) (h .is);
     good = λ st ks ls i k. k;
     sound = record { limits = of-new (new-layout.Is y) y (h .limits) refl; above = omega (arith, s .above, of-new (new-layout.Is y) y (h .page) refl); numbered = s .numbered; few = s .few; line = s .line; indent = s .indent; next = s .next; columns = s .columns };
-    fits = fits-few (d .stack) few;
+    fits = fits-few (d .stack) (d .ends) few;
     few = omega arith;
     long = long;
   }
@@ -51,7 +51,7 @@ module _ (fs ss : List ℕ) (n : ℕ) (planted : Planted) (d : Desk) (row : List
     is = λ st ks ls i x. ap (λ (j : Judged rule.Layout). laidOut j (stateAt (textsOf st fs ss ks ls n) (plantedOf planted) d x)) (h .is);
     good = λ st ks ls i k. k;
     sound = s;
-    fits = fits-few (d .stack) few;
+    fits = fits-few (d .stack) (d .ends) few;
     few = omega arith;
     long = long;
   }
@@ -59,7 +59,7 @@ module _ (fs ss : List ℕ) (n : ℕ) (planted : Planted) (d : Desk) (row : List
     is = λ st ks ls i x. ap (λ (j : Judged rule.Layout). laidOut j (stateAt (textsOf st fs ss ks ls n) (plantedOf planted) d x)) (h .is);
     good = λ st ks ls i k. k;
     sound = s;
-    fits = fits-few (d .stack) few;
+    fits = fits-few (d .stack) (d .ends) few;
     few = omega arith;
     long = long;
   }

@@ -15,9 +15,8 @@ use Rattle.texts.specs.Checks as texts
 use Rattle.traps.specs.declared.Planted.{Planted}
 use Rattle.traps.specs.TableLaws.{front-next, front-end}
 use Rattle.traps.specs.Checks as traps
-use Rattle.input.specs.declared.Entry.{Entry}
 use Rattle.input.specs.declared.Stack.{Stack}
-use Rattle.input.specs.Frames.{noEntry}
+use Rattle.input.specs.Frames.{entryAt}
 use Rattle.springs.specs.Held.{isText}
 use Rattle.checks.specs.LimitChecks.{arePlaces, areBytes, isGathered, layeredTo, isLayered}
 
@@ -57,25 +56,25 @@ pub gathered-few : (l : List ℕ) (n : ℕ) → n ≤ 512 → isGathered l n ≡
 gathered-few l n h = rw (le-leb n 512 h)
 
 -- the items below a depth are the one under it, and those below that
-pub layers-step : (held : Bool) (es : List Entry) (i : ℕ) → 0 < i
-    → layeredTo held es i ≡ ((isText (getD es (i - 1) noEntry .what) || not held) && layeredTo (not (isText (getD es (i - 1) noEntry .what))) es (i - 1))
+pub layers-step : (held : Bool) (ps : List ℕ) (i : ℕ) → 0 < i
+    → layeredTo held ps i ≡ ((isText (entryAt ps (i - 1) .what) || not held) && layeredTo (not (isText (entryAt ps (i - 1) .what))) ps (i - 1))
 unfolding layeredTo
-layers-step held es i h = let e : i ≡ suc (i - 1) = omega arith in ap (layeredTo held es) e
+layers-step held ps i h = let e : i ≡ suc (i - 1) = omega arith in ap (layeredTo held ps) e
 
 -- there are none below the first
-pub layers-none : (held : Bool) (es : List Entry) (i : ℕ) → i ≡ 0 → layeredTo held es i ≡ true
+pub layers-none : (held : Bool) (ps : List ℕ) (i : ℕ) → i ≡ 0 → layeredTo held ps i ≡ true
 unfolding layeredTo
-layers-none held es i e = ap (layeredTo held es) e
+layers-none held ps i e = ap (layeredTo held ps) e
 
-pub layered-many : (s : Stack) → 17 < s .depth → isLayered s ≡ false
-layered-many s h = rw (lt-leb (s .depth) 17 h)
+pub layered-many : (s : Stack) (ps : List ℕ) → 17 < s .depth → isLayered s ps ≡ false
+layered-many s ps h = rw (lt-leb (s .depth) 17 h)
 
-pub layered-few : (s : Stack) → s .depth ≤ 17 → isLayered s ≡ layeredTo false (s .entries) (s .depth)
-layered-few s h = rw (le-leb (s .depth) 17 h)
+pub layered-few : (s : Stack) (ps : List ℕ) → s .depth ≤ 17 → isLayered s ps ≡ layeredTo false ps (s .depth)
+layered-few s ps h = rw (le-leb (s .depth) 17 h)
 
 -- a stack that passes the test has at most 17 items
-pub layered-most : (s : Stack) → isLayered s ≡ true → s .depth ≤ 17
-layered-most s h = leb-true (s .depth) 17 (both (leb (s .depth) 17) (layeredTo false (s .entries) (s .depth)) h .0)
+pub layered-most : (s : Stack) (ps : List ℕ) → isLayered s ps ≡ true → s .depth ≤ 17
+layered-most s ps h = leb-true (s .depth) 17 (both (leb (s .depth) 17) (layeredTo false ps (s .depth)) h .0)
 
 -- a table of traps that passes its test has at most 16
 pub traps-most : (p : Planted) → traps.isTable p ≡ true → p .count ≤ 16

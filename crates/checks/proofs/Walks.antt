@@ -11,24 +11,23 @@ use lib.Seq.{drop-cons, length-take-le, getD-take, getD-drop}
 use borrow.Author.Tests.{leb-true, le-leb, lt-leb}
 use Rattle.rules.specs.declared.Name.{Name}
 use Rattle.rules.specs.RefusalLaws.{both}
-use Rattle.input.specs.declared.Entry.{Entry}
 use Rattle.input.specs.declared.Stack.{Stack}
-use Rattle.input.specs.Frames.{noEntry, topEntry}
+use Rattle.input.specs.Frames.{entryAt, topEntry}
 use Rattle.springs.specs.Held.{isText, limitBy}
 use Rattle.checks.specs.Checks.{inOrder, areArguments, isFrame, areFrames, isDepth, isStack}
 
 -- the places in a frame where its arguments end
 abbrev pub given : (ends : List ℕ) → (frame count : ℕ) → List ℕ
-given ps f n = take n (take 9 (drop (f * 9) ps))
+given ps f n = take n (take 9 (drop (f * 13 + 4) ps))
 
-module _ (ps : List ℕ) (frame count : ℕ) (n : length ps ≡ 153) (f : frame < 17) (k : count ≤ 9) where
+module _ (ps : List ℕ) (frame count : ℕ) (n : length ps ≡ 221) (f : frame < 17) (k : count ≤ 9) where
   pub given-long : length (given ps frame count) ≡ count
   given-long =
-      let l : length (take 9 (drop (frame * 9) ps)) ≡ 9 = length-take-le 9 (drop (frame * 9) ps) (omega (arith, length-drop (frame * 9) ps)) in
-      length-take-le count (take 9 (drop (frame * 9) ps)) (omega arith)
+      let l : length (take 9 (drop (frame * 13 + 4) ps)) ≡ 9 = length-take-le 9 (drop (frame * 13 + 4) ps) (omega (arith, length-drop (frame * 13 + 4) ps)) in
+      length-take-le count (take 9 (drop (frame * 13 + 4) ps)) (omega arith)
 
-  pub given-at : (i : ℕ) → i < count → getD (given ps frame count) i 0 ≡ getD ps (frame * 9 + i) 0
-  given-at i h = getD-take count (take 9 (drop (frame * 9) ps)) i 0 h ∙ getD-take 9 (drop (frame * 9) ps) i 0 (omega arith) ∙ getD-drop (frame * 9) ps i 0
+  pub given-at : (i : ℕ) → i < count → getD (given ps frame count) i 0 ≡ getD ps (frame * 13 + 4 + i) 0
+  given-at i h = getD-take count (take 9 (drop (frame * 13 + 4) ps)) i 0 h ∙ getD-take 9 (drop (frame * 13 + 4) ps) i 0 (omega arith) ∙ getD-drop (frame * 13 + 4) ps i 0
 
 -- the place at i, with the value v
 module _ (from end : ℕ) (l : List ℕ) (i v : ℕ) (h : i < length l) (e : getD l i 0 ≡ v) where
@@ -58,21 +57,21 @@ pub arguments-few : (es : List ℕ) (n size : ℕ) → n ≤ 9 → areArguments 
 arguments-few es n size h = rw (le-leb n 9 h)
 
 -- the frames below a depth are the one under it, and those below that
-pub frames-step : (ns : List Name) (es : List Entry) (ps : List ℕ) (i : ℕ) → 0 < i
-    → areFrames ns es ps i ≡ (isFrame ns (getD es (i - 1) noEntry) (take 9 (drop ((i - 1) * 9) ps)) && areFrames ns es ps (i - 1))
+pub frames-step : (ns : List Name) (ps : List ℕ) (i : ℕ) → 0 < i
+    → areFrames ns ps i ≡ (isFrame ns (entryAt ps (i - 1)) (take 9 (drop ((i - 1) * 13 + 4) ps)) && areFrames ns ps (i - 1))
 unfolding areFrames
-frames-step ns es ps i h = let e : i ≡ suc (i - 1) = omega arith in ap (areFrames ns es ps) e
+frames-step ns ps i h = let e : i ≡ suc (i - 1) = omega arith in ap (areFrames ns ps) e
 
 -- there are none below the first
-pub frames-none : (ns : List Name) (es : List Entry) (ps : List ℕ) (i : ℕ) → i ≡ 0 → areFrames ns es ps i ≡ true
+pub frames-none : (ns : List Name) (ps : List ℕ) (i : ℕ) → i ≡ 0 → areFrames ns ps i ≡ true
 unfolding areFrames
-frames-none ns es ps i e = ap (areFrames ns es ps) e
+frames-none ns ps i e = ap (areFrames ns ps) e
 
 -- a stack of a depth that passes its test has at most 17 frames
-pub depth-most : (s : Stack) → isDepth s ≡ true → s .depth ≤ 17
-depth-most s h = leb-true (s .depth) 17 (both (leb (s .depth) 17) (leb (s .depth) (limitBy (isText (topEntry s .what)))) h .0)
+pub depth-most : (s : Stack) (ps : List ℕ) → isDepth s ps ≡ true → s .depth ≤ 17
+depth-most s ps h = leb-true (s .depth) 17 (both (leb (s .depth) 17) (leb (s .depth) (limitBy (isText (topEntry s ps .what)))) h .0)
 
 -- a stack of such a depth keeps to its limits if its frames do
-pub stack-by : (ns : List Name) (s : Stack) (ps : List ℕ) (v : Bool) → isDepth s ≡ true → areFrames ns (s .entries) ps (s .depth) ≡ v → v ≡ isStack ns s ps
+pub stack-by : (ns : List Name) (s : Stack) (ps : List ℕ) (v : Bool) → isDepth s ps ≡ true → areFrames ns ps (s .depth) ≡ v → v ≡ isStack ns s ps
 unfolding isStack
 stack-by ns s ps v d e = rw (d, e)

@@ -6,7 +6,7 @@ use mathlib.Core.List.{List, [], _∷_}
 use Prim.Native.Nat.{ℕ, zero, suc, _+_, _*_}
 use lib.Dec.{leb, ltb, eqb}
 use lib.IntN.{ℤ}
-use lib.ListN.{length, take, drop, getD}
+use lib.ListN.{length, take, drop}
 use Rattle.measure.specs.declared.Rows.{Rows}
 use Rattle.measure.specs.Counts.{acrossOf, downOf}
 use Rattle.rules.specs.declared.Name.{Name}
@@ -25,7 +25,7 @@ use Rattle.input.specs.declared.What.{What}
 use Rattle.input.specs.declared.What.the-variants as what
 use Rattle.input.specs.declared.Entry.{Entry}
 use Rattle.input.specs.declared.Stack.{Stack}
-use Rattle.input.specs.Frames.{noEntry, topEntry}
+use Rattle.input.specs.Frames.{entryAt, topEntry}
 use Rattle.page.specs.declared.Page.{Page}
 use Rattle.springs.specs.Held.{isText, limitBy}
 use Rattle.sheet.specs.declared.Collected.{Collected}
@@ -34,7 +34,7 @@ use Rattle.dealing.specs.declared.Status.{Status}
 
 -- what the types of the lent arrays say of their lengths
 pub record Lent (ends textFirsts textSeconds lengths firsts seconds : List ℕ) : Type 0 where
-  pub ends-long : length ends ≡ 153
+  pub ends-long : length ends ≡ 221
   pub texts-long : texts.NameColumns textFirsts textSeconds
   pub lengths-long : length lengths ≡ 64
   pub registers-long : registers.NameColumns firsts seconds
@@ -108,17 +108,17 @@ abbrev pub isFrame : List Name → Entry → (ends : List ℕ) → Bool
 isFrame ns e es = leb (e .size) 512 && isItem ns (e .what) (e .size) es
 
 -- each frame below a depth
-unfoldable pub areFrames : List Name → (entries : List Entry) → (ends : List ℕ) → (depth : ℕ) → Bool
-areFrames ns es ps zero = true
-areFrames ns es ps (suc d) = isFrame ns (getD es d noEntry) (take 9 (drop (d * 9) ps)) && areFrames ns es ps d
+unfoldable pub areFrames : List Name → (ends : List ℕ) → (depth : ℕ) → Bool
+areFrames ns ps zero = true
+areFrames ns ps (suc d) = isFrame ns (entryAt ps d) (take 9 (drop (d * 13 + 4) ps)) && areFrames ns ps d
 
 -- "input stack past 16 items": 16, and one that is no text for a moment over them
-abbrev pub isDepth : Stack → Bool
-isDepth s = leb (s .depth) 17 && leb (s .depth) (limitBy (isText (topEntry s .what)))
+abbrev pub isDepth : Stack → (ends : List ℕ) → Bool
+isDepth s ps = leb (s .depth) 17 && leb (s .depth) (limitBy (isText (topEntry s ps .what)))
 
 -- the input stack, over texts of these names
 unfoldable pub isStack : List Name → Stack → (ends : List ℕ) → Bool
-isStack ns s ps = isDepth s && areFrames ns (s .entries) ps (s .depth)
+isStack ns s ps = isDepth s ps && areFrames ns ps (s .depth)
 
 -- "live text past 8,192 bytes", "65th name": the body of an open definition lies behind the texts, and a row is left for it
 abbrev pub isOpeningIf : (there : Bool) → Opening → (lengths : List ℕ) → (count store : ℕ) → Bool

@@ -4,7 +4,7 @@ use mathlib.Core.List.{List, [], _∷_}
 use Prim.Native.Nat.{ℕ, zero, suc, _+_}
 use lib.Dec.{leb, eqb}
 use lib.IntN.{ℤ}
-use lib.ListN.{take, getD}
+use lib.ListN.{take}
 use Rattle.measure.specs.Counts.{acrossOf}
 use Rattle.rules.specs.declared.Name.{Name}
 use Rattle.rules.specs.declared.Trap.{Trap}
@@ -17,9 +17,8 @@ use Rattle.traps.specs.Table.{plantedOf}
 use Rattle.traps.specs.Checks as traps
 use Rattle.settings.specs.declared.Setting.{Setting}
 use Rattle.settings.specs.declared.Layout.{Layout}
-use Rattle.input.specs.declared.Entry.{Entry}
 use Rattle.input.specs.declared.Stack.{Stack}
-use Rattle.input.specs.Frames.{noEntry, topEntry}
+use Rattle.input.specs.Frames.{entryAt, topEntry}
 use Rattle.springs.specs.Held.{isText, limitBy}
 use Rattle.dealing.specs.declared.Status.{Status}
 use Rattle.checks.specs.Checks.{isAt}
@@ -63,32 +62,32 @@ abbrev pub isGathered : (gathered : List ℕ) → (length : ℕ) → Bool
 isGathered g n = leb n 512 && areBytes (take n g)
 
 -- the items below a depth: one that is no text lies on a text, or at the bottom; `held` says that one lies on them
-unfoldable pub layeredTo : (held : Bool) → (entries : List Entry) → (depth : ℕ) → Bool
-layeredTo held es zero = true
-layeredTo held es (suc d) = (isText (getD es d noEntry .what) || not held) && layeredTo (not (isText (getD es d noEntry .what))) es d
+unfoldable pub layeredTo : (held : Bool) → (ends : List ℕ) → (depth : ℕ) → Bool
+layeredTo held ps zero = true
+layeredTo held ps (suc d) = (isText (entryAt ps d .what) || not held) && layeredTo (not (isText (entryAt ps d .what))) ps d
 
 -- "10: input stack past 16 items (texts; lines, requests or the end with work left after a trap)": work is held over a text
-abbrev pub isLayered : Stack → Bool
-isLayered s = leb (s .depth) 17 && layeredTo false (s .entries) (s .depth)
+abbrev pub isLayered : Stack → (ends : List ℕ) → Bool
+isLayered s ps = leb (s .depth) 17 && layeredTo false ps (s .depth)
 
 -- the same: 16 with the end, once it has begun, and one that is no text for a moment over them
-abbrev pub isDeep : (last : Bool) → Stack → Bool
-isDeep e s = leb (s .depth + theEnd e) (limitBy (isText (topEntry s .what)))
+abbrev pub isDeep : (last : Bool) → Stack → (ends : List ℕ) → Bool
+isDeep e s ps = leb (s .depth + theEnd e) (limitBy (isText (topEntry s ps .what)))
 
 -- what comes next is a line: of the source, or of the text on top
-abbrev pub isNext : Stack → Bool
-isNext s = eqb (s .depth) 0 || isText (topEntry s .what)
+abbrev pub isNext : Stack → (ends : List ℕ) → Bool
+isNext s ps = eqb (s .depth) 0 || isText (topEntry s ps .what)
 
 -- "8: a macro definition not ended when its input ends": while one is open, in a session that is not closed, lines come next
-abbrev pub isOpenOver : (running there : Bool) → Stack → Bool
-isOpenOver true true s = isNext s
-isOpenOver true false s = true
-isOpenOver false t s = true
+abbrev pub isOpenOver : (running there : Bool) → Stack → (ends : List ℕ) → Bool
+isOpenOver true true s ps = isNext s ps
+isOpenOver true false s ps = true
+isOpenOver false t s ps = true
 
 -- the items on the input stack
-unfoldable pub isPile : Status → (running : Bool) → Bool
-isPile s running = isLayered (s .stack) && isDeep (s .page .last) (s .stack) && isOpenOver running (s .opening .there) (s .stack)
+unfoldable pub isPile : Status → (running : Bool) → (ends : List ℕ) → Bool
+isPile s running ps = isLayered (s .stack) ps && isDeep (s .page .last) (s .stack) ps && isOpenOver running (s .opening .there) (s .stack) ps
 
 -- all these limits, of a session that is open or closed, with so many bytes gathered
-unfoldable pub isWithin : Status → (running : Bool) → (gathered : List ℕ) → (length : ℕ) → (textFirsts textSeconds : List ℕ) → (values steps : List ℤ) → Bool
-isWithin s running g n tf ts vs us = areTables s tf ts vs us && areSettings (s .layout) && isGathered g n && isPile s running
+unfoldable pub isWithin : Status → (running : Bool) → (ends gathered : List ℕ) → (length : ℕ) → (textFirsts textSeconds : List ℕ) → (values steps : List ℤ) → Bool
+isWithin s running ps g n tf ts vs us = areTables s tf ts vs us && areSettings (s .layout) && isGathered g n && isPile s running ps

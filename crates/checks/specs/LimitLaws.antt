@@ -7,7 +7,7 @@ use Prim.Native.Nat.{ℕ, zero, suc, _+_, _*_, _≤_, _<_}
 use native.Mathlib.Omega.{arith}
 use lib.Dec.{leb, eqb}
 use lib.IntN.{ℤ, natAbs}
-use lib.ListN.{take, drop, getD}
+use lib.ListN.{take, drop}
 use borrow.Author.Tests.{leb-true, le-leb, eqb-true, eqb-false}
 use Rattle.stream.specs.Answers.{Closing}
 use Rattle.measure.specs.Counts.{acrossOf}
@@ -35,9 +35,8 @@ use Rattle.settings.specs.declared.Layout.{Layout}
 use Rattle.settings.specs.Views.{settingOf}
 use Rattle.input.specs.declared.What.{What}
 use Rattle.input.specs.declared.What.the-variants as what
-use Rattle.input.specs.declared.Entry.{Entry}
 use Rattle.input.specs.declared.Stack.{Stack}
-use Rattle.input.specs.Frames.{noEntry, topEntry, topBytes, topEnds, framesTo, below}
+use Rattle.input.specs.Frames.{entryAt, topEntry, topBytes, topEnds, framesTo, below}
 use Rattle.input.specs.Items.{itemBy, itemsOf, stackOf}
 use Rattle.input.specs.ItemLaws.{stack-length, top-item, none-there}
 use Rattle.springs.specs.Held.{isText, limitBy}
@@ -237,30 +236,30 @@ module _ (ts : List Text) (l qs : List ℕ) (k : List Item) where
       go false = refl
 
 -- the items below a depth
-module _ (ts : List Text) (es : List Entry) (bs ps : List ℕ) where
+module _ (ts : List Text) (bs ps : List ℕ) where
   abbrev items : ℕ → List Item
-  items d = itemsOf ts (framesTo es bs ps d)
+  items d = itemsOf ts (framesTo bs ps d)
 
   abbrev bytesAt : ℕ → List ℕ
-  bytesAt d = take (getD es d noEntry .size) (drop (d * 512) bs)
+  bytesAt d = take (entryAt ps d .size) (drop (d * 512) bs)
 
   abbrev endsAt : ℕ → List ℕ
-  endsAt d = take 9 (drop (d * 9) ps)
+  endsAt d = take 9 (drop (d * 13 + 4) ps)
 
-  layered-sound : (held : Bool) (d : ℕ) → layeredTo held es d ≡ true → OverIf held (items d) × Layered (items d)
+  layered-sound : (held : Bool) (d : ℕ) → layeredTo held ps d ≡ true → OverIf held (items d) × Layered (items d)
   unfolding layeredTo framesTo itemsOf
   layered-sound held zero h = (over-none held, tt)
   layered-sound held (suc d) h =
-      let w = getD es d noEntry .what in
-      let t = both (isText w || not held) (layeredTo (not (isText w)) es d) h in let r = layered-sound (not (isText w)) d (t .1) in
+      let w = entryAt ps d .what in
+      let t = both (isText w || not held) (layeredTo (not (isText w)) ps d) h in let r = layered-sound (not (isText w)) d (t .1) in
       (or-sound ts (bytesAt d) (endsAt d) (items d) held w (t .0), (layer-sound ts (bytesAt d) (endsAt d) (items d) w (r .0), r .1))
 
-  layered-complete : (held : Bool) (d : ℕ) → OverIf held (items d) → Layered (items d) → layeredTo held es d ≡ true
+  layered-complete : (held : Bool) (d : ℕ) → OverIf held (items d) → Layered (items d) → layeredTo held ps d ≡ true
   unfolding layeredTo framesTo itemsOf
   layered-complete held zero o h = refl
   layered-complete held (suc d) o h =
-      let w = getD es d noEntry .what in
-      and-true (isText w || not held) (layeredTo (not (isText w)) es d) (or-complete ts (bytesAt d) (endsAt d) (items d) held w o)
+      let w = entryAt ps d .what in
+      and-true (isText w || not held) (layeredTo (not (isText w)) ps d) (or-complete ts (bytesAt d) (endsAt d) (items d) held w o)
       (layered-complete (not (isText w)) d (layer-complete ts (bytesAt d) (endsAt d) (items d) w (h .0)) (h .1))
 
 end-most : (e : Bool) → theEnd e ≤ 1
@@ -277,15 +276,15 @@ module _ (ts : List Text) (s : Stack) (bs ps : List ℕ) where
   stacked = stackOf ts s bs ps
 
   abbrev top : What
-  top = topEntry s .what
+  top = topEntry s ps .what
 
-  top-is : 0 < s .depth → stacked ≡ itemBy ts top (topBytes s bs) (topEnds s ps) ∷ stackOf ts (below s) bs ps
+  top-is : 0 < s .depth → stacked ≡ itemBy ts top (topBytes s bs ps) (topEnds s ps) ∷ stackOf ts (below s) bs ps
   top-is h = top-item ts s bs ps top h refl
 
   limit-top : 0 < s .depth → limitOf stacked ≡ limitBy (isText top)
-  limit-top h = ap limitOf (top-is h) ∙ limit-is ts (topBytes s bs) (topEnds s ps) (stackOf ts (below s) bs ps) top
+  limit-top h = ap limitOf (top-is h) ∙ limit-is ts (topBytes s bs ps) (topEnds s ps) (stackOf ts (below s) bs ps) top
 
-  deep-sound : (e : Bool) → isDeep e s ≡ true → Deep e stacked
+  deep-sound : (e : Bool) → isDeep e s ps ≡ true → Deep e stacked
   deep-sound e h = go (eqb (s .depth) 0) refl
     where
       go : (t : Bool) → eqb (s .depth) 0 ≡ t → Deep e stacked
@@ -296,37 +295,37 @@ module _ (ts : List Text) (s : Stack) (bs ps : List ℕ) where
           let z = eqb-false (s .depth) 0 q in let n = leb-true (s .depth + theEnd e) (limitBy (isText top)) h in
           omega (arith, stack-length ts s bs ps, limit-top (omega arith))
 
-  deep-complete : (e : Bool) → Deep e stacked → isDeep e s ≡ true
+  deep-complete : (e : Bool) → Deep e stacked → isDeep e s ps ≡ true
   deep-complete e h = le-leb (s .depth + theEnd e) (limitBy (isText top)) (go (eqb (s .depth) 0) refl)
     where
       go : (t : Bool) → eqb (s .depth) 0 ≡ t → s .depth + theEnd e ≤ limitBy (isText top)
       go true q = let z = eqb-true (s .depth) 0 q in omega (arith, end-most e, limit-least (isText top))
       go false q = let z = eqb-false (s .depth) 0 q in omega (arith, stack-length ts s bs ps, limit-top (omega arith))
 
-  lines-sound : isNext s ≡ true → NextLine stacked
+  lines-sound : isNext s ps ≡ true → NextLine stacked
   lines-sound h = go (eqb (s .depth) 0) refl h
     where
       go : (t : Bool) → eqb (s .depth) 0 ≡ t → (t || isText top) ≡ true → NextLine stacked
       go true q h = subst NextLine (sym (none-there ts s bs ps (eqb-true (s .depth) 0 q))) tt
       go false q h =
           let z = eqb-false (s .depth) 0 q in
-          subst NextLine (sym (top-is (omega arith))) (next-sound ts (topBytes s bs) (topEnds s ps) (stackOf ts (below s) bs ps) top h)
+          subst NextLine (sym (top-is (omega arith))) (next-sound ts (topBytes s bs ps) (topEnds s ps) (stackOf ts (below s) bs ps) top h)
 
-  lines-complete : NextLine stacked → isNext s ≡ true
+  lines-complete : NextLine stacked → isNext s ps ≡ true
   lines-complete h = go (eqb (s .depth) 0) refl
     where
       go : (t : Bool) → eqb (s .depth) 0 ≡ t → (t || isText top) ≡ true
       go true q = refl
       go false q =
           let z = eqb-false (s .depth) 0 q in
-          next-complete ts (topBytes s bs) (topEnds s ps) (stackOf ts (below s) bs ps) top (subst NextLine (top-is (omega arith)) h)
+          next-complete ts (topBytes s bs ps) (topEnds s ps) (stackOf ts (below s) bs ps) top (subst NextLine (top-is (omega arith)) h)
 
-  opened-sound : (running there : Bool) (o : Opening) (t : Texts) → isOpenOver running there s ≡ true → OpenedWhile running (openedIf there o t) stacked
+  opened-sound : (running there : Bool) (o : Opening) (t : Texts) → isOpenOver running there s ps ≡ true → OpenedWhile running (openedIf there o t) stacked
   opened-sound true true o t h = lines-sound h
   opened-sound true false o t h = tt
   opened-sound false there o t h = tt
 
-  opened-complete : (running there : Bool) (o : Opening) (t : Texts) → OpenedWhile running (openedIf there o t) stacked → isOpenOver running there s ≡ true
+  opened-complete : (running there : Bool) (o : Opening) (t : Texts) → OpenedWhile running (openedIf there o t) stacked → isOpenOver running there s ps ≡ true
   opened-complete true true o t h = lines-complete h
   opened-complete true false o t h = refl
   opened-complete false there o t h = refl
@@ -337,17 +336,17 @@ module _ (s : Status) (cs bs ps st tf ts ks ls fs ss : List ℕ) (vs us : List �
   held = wholeOf s cs bs ps st tf ts ks ls fs ss vs us
 
   -- A record that passes the test keeps to the limits.
-  pub within-kept : (x : State) → x .input .gathered ≡ take n g → SoundWhole held → isWithin s running g n tf ts vs us ≡ true → Kept running (stateIn held x)
+  pub within-kept : (x : State) → x .input .gathered ≡ take n g → SoundWhole held → isWithin s running ps g n tf ts vs us ≡ true → Kept running (stateIn held x)
   unfolding isWithin areTables isPile
   within-kept x e q h =
       let a = areTables s tf ts vs us in let b = areSettings (s .layout) in let c = isGathered g n in
-      let t = both (a && b && c) (isPile s running) h in let u = both (a && b) c (t .0) in let v = both a b (u .0) in
+      let t = both (a && b && c) (isPile s running ps) h in let u = both (a && b) c (t .0) in let v = both a b (u .0) in
       let ra = registers.isBounded vs us (s .registers) in let tr = traps.isTable (s .planted) in let pl = arePlaces (plantedOf (s .planted)) in
       let na = texts.noNameTwice tf ts (s .texts) in
       let w = both (ra && tr && pl && na) (isGone (s .opening .there) (s .opening .name) (namesOf tf ts (s .texts))) (v .0) in
       let k = both (ra && tr && pl) na (w .0) in let l = both (ra && tr) pl (k .0) in let m = both ra tr (l .0) in
-      let d = both (isLayered (s .stack) && isDeep (s .page .last) (s .stack)) (isOpenOver running (s .opening .there) (s .stack)) (t .1) in
-      let f = both (isLayered (s .stack)) (isDeep (s .page .last) (s .stack)) (d .0) in
+      let d = both (isLayered (s .stack) ps && isDeep (s .page .last) (s .stack) ps) (isOpenOver running (s .opening .there) (s .stack) ps) (t .1) in
+      let f = both (isLayered (s .stack) ps) (isDeep (s .page .last) (s .stack) ps) (d .0) in
       let y = settings-sound (s .layout) (v .1) in let z = textsOf st tf ts ks ls (s .texts) in
       record {
         registers = registers.bounded-sound fs ss vs us (s .registers) (m .0);
@@ -358,27 +357,27 @@ module _ (s : Status) (cs bs ps st tf ts ks ls fs ss : List ℕ) (vs us : List �
         line = y .0;
         centred = y .1;
         gathered = subst (Each SourceByte) (sym e) (bytes-sound (take n g) (both (leb n 512) (areBytes (take n g)) (u .1) .1));
-        stack = layered-sound z (s .stack .entries) bs ps false (s .stack .depth) (both (leb (s .stack .depth) 17) (layeredTo false (s .stack .entries) (s .stack .depth)) (f .0) .1) .1;
+        stack = layered-sound z bs ps false (s .stack .depth) (both (leb (s .stack .depth) 17) (layeredTo false ps (s .stack .depth)) (f .0) .1) .1;
         depth = deep-sound z (s .stack) bs ps (s .page .last) (f .1);
         opened = opened-sound z (s .stack) bs ps running (s .opening .there) (s .opening) (textColumns st tf ts ks ls (s .texts)) (d .1);
       }
 
   -- It has gathered no more than a line may have.
-  pub within-short : isWithin s running g n tf ts vs us ≡ true → n ≤ 512
+  pub within-short : isWithin s running ps g n tf ts vs us ≡ true → n ≤ 512
   unfolding isWithin
   within-short h =
       let a = areTables s tf ts vs us && areSettings (s .layout) in
-      let t = both (a && isGathered g n) (isPile s running) h in
+      let t = both (a && isGathered g n) (isPile s running ps) h in
       leb-true n 512 (both (leb n 512) (areBytes (take n g)) (both a (isGathered g n) (t .0) .1) .0)
 
   -- A record that keeps to the limits passes it: refusal 1 never hits one whose state the rules lead to.
-  pub kept-within : (x : State) → x .input .gathered ≡ take n g → n ≤ 512 → SoundWhole held → Kept running (stateIn held x) → isWithin s running g n tf ts vs us ≡ true
+  pub kept-within : (x : State) → x .input .gathered ≡ take n g → n ≤ 512 → SoundWhole held → Kept running (stateIn held x) → isWithin s running ps g n tf ts vs us ≡ true
   unfolding isWithin areTables isPile
   kept-within x e j q k =
       let a = areTables s tf ts vs us in let b = areSettings (s .layout) in let c = isGathered g n in
       let ra = registers.isBounded vs us (s .registers) in let tr = traps.isTable (s .planted) in let pl = arePlaces (plantedOf (s .planted)) in
       let na = texts.noNameTwice tf ts (s .texts) in let z = textsOf st tf ts ks ls (s .texts) in
-      and-true (a && b && c) (isPile s running)
+      and-true (a && b && c) (isPile s running ps)
       (and-true (a && b) c
       (and-true a b
       (and-true (ra && tr && pl && na) (isGone (s .opening .there) (s .opening .name) (namesOf tf ts (s .texts)))
@@ -390,10 +389,10 @@ module _ (s : Status) (cs bs ps st tf ts ks ls fs ss : List ℕ) (vs us : List �
       (gone-complete st tf ts ks ls (s .texts) (q .lies) (s .opening .there) (s .opening) (k .gone)))
       (settings-complete (s .layout) (k .line) (k .centred)))
       (and-true (leb n 512) (areBytes (take n g)) (le-leb n 512 j) (bytes-complete (take n g) (subst (Each SourceByte) e (k .gathered)))))
-      (and-true (isLayered (s .stack) && isDeep (s .page .last) (s .stack)) (isOpenOver running (s .opening .there) (s .stack))
-      (and-true (isLayered (s .stack)) (isDeep (s .page .last) (s .stack))
-      (and-true (leb (s .stack .depth) 17) (layeredTo false (s .stack .entries) (s .stack .depth)) (le-leb (s .stack .depth) 17 (q .sheet .columns .few))
-      (layered-complete z (s .stack .entries) bs ps false (s .stack .depth) tt (k .stack)))
+      (and-true (isLayered (s .stack) ps && isDeep (s .page .last) (s .stack) ps) (isOpenOver running (s .opening .there) (s .stack) ps)
+      (and-true (isLayered (s .stack) ps) (isDeep (s .page .last) (s .stack) ps)
+      (and-true (leb (s .stack .depth) 17) (layeredTo false ps (s .stack .depth)) (le-leb (s .stack .depth) 17 (q .sheet .columns .few))
+      (layered-complete z bs ps false (s .stack .depth) tt (k .stack)))
       (deep-complete z (s .stack) bs ps (s .page .last) (k .depth)))
       (opened-complete z (s .stack) bs ps running (s .opening .there) (s .opening) (textColumns st tf ts ks ls (s .texts)) (k .opened)))
 

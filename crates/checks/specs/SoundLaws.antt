@@ -154,7 +154,7 @@ module _ (s : Status) (cs bs ps st tf ts ks ls fs ss : List ℕ) (vs us : List �
 
   -- A record that passes the test keeps to the limits, whatever the arrays hold that the test does not read.
   pub sound-whole : (size : ℕ) → Lent ps tf ts ls fs ss → Beside size cs bs st ks vs us → isSound s size ps tf ts ls fs ss ≡ true
-      → SoundWhole (wholeOf s cs bs ps st tf ts ks ls fs ss vs us) × Fits (s .stack)
+      → SoundWhole (wholeOf s cs bs ps st tf ts ks ls fs ss vs us) × Fits (s .stack) ps
   unfolding isSound
   sound-whole size a b h =
       let x = areTexts s size ls in let y = registers.isTable fs ss (s .registers) in let z = isStack (namesOf tf ts (s .texts)) (s .stack) ps in
@@ -173,7 +173,7 @@ module _ (s : Status) (cs bs ps st tf ts ks ls fs ss : List ℕ) (vs us : List �
       )
 
   -- A record that keeps to the limits passes it: refusal 1 never hits what a piece of work handed back.
-  pub whole-passes : SoundWhole (wholeOf s cs bs ps st tf ts ks ls fs ss vs us) → Fits (s .stack) → isSound s (length st) ps tf ts ls fs ss ≡ true
+  pub whole-passes : SoundWhole (wholeOf s cs bs ps st tf ts ks ls fs ss vs us) → Fits (s .stack) ps → isSound s (length st) ps tf ts ls fs ss ≡ true
   unfolding isSound
   whole-passes q f =
       let x = areTexts s (length st) ls in let y = registers.isTable fs ss (s .registers) in let z = isStack (namesOf tf ts (s .texts)) (s .stack) ps in

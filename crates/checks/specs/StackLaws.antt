@@ -2,7 +2,7 @@
 use mathlib.Core.Path.{_≡_, refl, sym, ap, _∙_, subst}
 use mathlib.Core.Bool.{Bool, true, false, _&&_, false≢true}
 use mathlib.Core.List.{List, [], _∷_}
-use Prim.Native.Nat.{ℕ, zero, suc, _*_, _≤_, _<_}
+use Prim.Native.Nat.{ℕ, zero, suc, _+_, _*_, _≤_, _<_}
 use native.Mathlib.Omega.{arith}
 use lib.Dec.{leb, eqb}
 use lib.ListN.{length, take, drop, getD, length-drop}
@@ -19,9 +19,8 @@ use Rattle.texts.proofs.Laws.{found-text, not-text}
 use Rattle.scan.specs.Around.{beginOf, Arguments}
 use Rattle.input.specs.declared.What.{What}
 use Rattle.input.specs.declared.What.the-variants as what
-use Rattle.input.specs.declared.Entry.{Entry}
 use Rattle.input.specs.declared.Stack.{Stack}
-use Rattle.input.specs.Frames.{noEntry, topEntry, frameAt, framesTo, framesOf, Columns}
+use Rattle.input.specs.Frames.{entryAt, topEntry, frameAt, framesTo, framesOf, Columns}
 use Rattle.input.specs.Items.{There, GoodBy, GoodFrame, Good}
 use Rattle.springs.specs.Held.{isText, limitBy, Fits}
 use Rattle.checks.specs.Checks.{inOrder, areArguments, isAt, isItem, isFrame, areFrames, isDepth, isStack}
@@ -136,71 +135,71 @@ module _ (st fs ss ks ls : List ℕ) (n : ℕ) (lies : Lies st fs ss ks ls n) wh
   item-complete (what.Acts r) l es long g = refl
   item-complete (what.Ejects p) l es long g = refl
 
-  -- the frames of entries, in arrays of these lengths
-  module _ (es : List Entry) (bs ps : List ℕ) (b : length bs ≡ 8704) (p : length ps ≡ 153) where
+  -- the frames in arrays of these lengths
+  module _ (bs ps : List ℕ) (b : length bs ≡ 8704) (p : length ps ≡ 221) where
     -- a frame has its nine places, and as many bytes as it says
-    ends-nine : (d : ℕ) → d < 17 → length (take 9 (drop (d * 9) ps)) ≡ 9
-    ends-nine d h = length-take-le 9 (drop (d * 9) ps) (omega (arith, length-drop (d * 9) ps))
+    ends-nine : (d : ℕ) → d < 17 → length (take 9 (drop (d * 13 + 4) ps)) ≡ 9
+    ends-nine d h = length-take-le 9 (drop (d * 13 + 4) ps) (omega (arith, length-drop (d * 13 + 4) ps))
 
-    bytes-size : (d : ℕ) → d < 17 → getD es d noEntry .size ≤ 512 → length (take (getD es d noEntry .size) (drop (d * 512) bs)) ≡ getD es d noEntry .size
-    bytes-size d h k = length-take-le (getD es d noEntry .size) (drop (d * 512) bs) (omega (arith, length-drop (d * 512) bs))
+    bytes-size : (d : ℕ) → d < 17 → entryAt ps d .size ≤ 512 → length (take (entryAt ps d .size) (drop (d * 512) bs)) ≡ entryAt ps d .size
+    bytes-size d h k = length-take-le (entryAt ps d .size) (drop (d * 512) bs) (omega (arith, length-drop (d * 512) bs))
 
-    frame-sound : (d : ℕ) → d < 17 → isFrame (namesOf fs ss n) (getD es d noEntry) (take 9 (drop (d * 9) ps)) ≡ true
-        → (getD es d noEntry .size ≤ 512) × GoodFrame texts (frameAt es bs ps d)
+    frame-sound : (d : ℕ) → d < 17 → isFrame (namesOf fs ss n) (entryAt ps d) (take 9 (drop (d * 13 + 4) ps)) ≡ true
+        → (entryAt ps d .size ≤ 512) × GoodFrame texts (frameAt bs ps d)
     frame-sound d h t =
-        let e = getD es d noEntry in let qs = take 9 (drop (d * 9) ps) in let l = take (e .size) (drop (d * 512) bs) in
+        let e = entryAt ps d in let qs = take 9 (drop (d * 13 + 4) ps) in let l = take (e .size) (drop (d * 512) bs) in
         let u = both (leb (e .size) 512) (isItem (namesOf fs ss n) (e .what) (e .size) qs) t in let k = leb-true (e .size) 512 (u .0) in
         (k, item-sound (e .what) l qs (ends-nine d h) (ap (λ (m : ℕ). isItem (namesOf fs ss n) (e .what) m qs) (bytes-size d h k) ∙ u .1))
 
-    frame-complete : (d : ℕ) → d < 17 → getD es d noEntry .size ≤ 512 → GoodFrame texts (frameAt es bs ps d)
-        → isFrame (namesOf fs ss n) (getD es d noEntry) (take 9 (drop (d * 9) ps)) ≡ true
+    frame-complete : (d : ℕ) → d < 17 → entryAt ps d .size ≤ 512 → GoodFrame texts (frameAt bs ps d)
+        → isFrame (namesOf fs ss n) (entryAt ps d) (take 9 (drop (d * 13 + 4) ps)) ≡ true
     frame-complete d h k g =
-        let e = getD es d noEntry in let qs = take 9 (drop (d * 9) ps) in let l = take (e .size) (drop (d * 512) bs) in
+        let e = entryAt ps d in let qs = take 9 (drop (d * 13 + 4) ps) in let l = take (e .size) (drop (d * 512) bs) in
         and-true (leb (e .size) 512) (isItem (namesOf fs ss n) (e .what) (e .size) qs) (le-leb (e .size) 512 k)
         (ap (λ (m : ℕ). isItem (namesOf fs ss n) (e .what) m qs) (sym (bytes-size d h k)) ∙ item-complete (e .what) l qs (ends-nine d h) g)
 
-    sizes-under : (d i : ℕ) → i < suc d → getD es d noEntry .size ≤ 512 → ((j : ℕ) → j < d → getD es j noEntry .size ≤ 512) → getD es i noEntry .size ≤ 512
+    sizes-under : (d i : ℕ) → i < suc d → entryAt ps d .size ≤ 512 → ((j : ℕ) → j < d → entryAt ps j .size ≤ 512) → entryAt ps i .size ≤ 512
     sizes-under d i h k f = go (eqb i d) refl
       where
-        go : (t : Bool) → eqb i d ≡ t → getD es i noEntry .size ≤ 512
-        go true q = subst (λ (j : ℕ). getD es j noEntry .size ≤ 512) (sym (eqb-true i d q)) k
+        go : (t : Bool) → eqb i d ≡ t → entryAt ps i .size ≤ 512
+        go true q = subst (λ (j : ℕ). entryAt ps j .size ≤ 512) (sym (eqb-true i d q)) k
         go false q = let z = eqb-false i d q in f i (omega arith)
 
     -- Frames that pass the test are within their bytes, and good.
-    pub frames-sound : (d : ℕ) → d ≤ 17 → areFrames (namesOf fs ss n) es ps d ≡ true
-        → ((i : ℕ) → i < d → getD es i noEntry .size ≤ 512) × Good texts (framesTo es bs ps d)
+    pub frames-sound : (d : ℕ) → d ≤ 17 → areFrames (namesOf fs ss n) ps d ≡ true
+        → ((i : ℕ) → i < d → entryAt ps i .size ≤ 512) × Good texts (framesTo bs ps d)
     unfolding areFrames framesTo
     frames-sound zero h t = (λ i k. absurd (omega arith), tt)
     frames-sound (suc d) h t =
-        let u = both (isFrame (namesOf fs ss n) (getD es d noEntry) (take 9 (drop (d * 9) ps))) (areFrames (namesOf fs ss n) es ps d) t in
+        let u = both (isFrame (namesOf fs ss n) (entryAt ps d) (take 9 (drop (d * 13 + 4) ps))) (areFrames (namesOf fs ss n) ps d) t in
         let f = frame-sound d (omega arith) (u .0) in let r = frames-sound d (omega arith) (u .1) in
         (λ i k. sizes-under d i k (f .0) (r .0), (f .1, r .1))
 
     -- Frames that are pass it.
-    pub frames-complete : (d : ℕ) → d ≤ 17 → ((i : ℕ) → i < d → getD es i noEntry .size ≤ 512) → Good texts (framesTo es bs ps d)
-        → areFrames (namesOf fs ss n) es ps d ≡ true
+    pub frames-complete : (d : ℕ) → d ≤ 17 → ((i : ℕ) → i < d → entryAt ps i .size ≤ 512) → Good texts (framesTo bs ps d)
+        → areFrames (namesOf fs ss n) ps d ≡ true
     unfolding areFrames framesTo
     frames-complete zero h z g = refl
     frames-complete (suc d) h z g =
-        and-true (isFrame (namesOf fs ss n) (getD es d noEntry) (take 9 (drop (d * 9) ps))) (areFrames (namesOf fs ss n) es ps d)
+        and-true (isFrame (namesOf fs ss n) (entryAt ps d) (take 9 (drop (d * 13 + 4) ps))) (areFrames (namesOf fs ss n) ps d)
         (frame-complete d (omega arith) (z d (omega arith)) (g .0))
         (frames-complete d (omega arith) (λ i k. z i (omega arith)) (g .1))
 
   module _ (s : Stack) (bs ps : List ℕ) where
     -- A stack that passes the test keeps to its limits.
-    pub stack-sound : length bs ≡ 8704 → length ps ≡ 153 → isStack (namesOf fs ss n) s ps ≡ true
-        → Columns s bs ps × Good texts (framesOf s bs ps) × Fits s
+    pub stack-sound : length bs ≡ 8704 → length ps ≡ 221 → isStack (namesOf fs ss n) s ps ≡ true
+        → Columns s bs ps × Good texts (framesOf s bs ps) × Fits s ps
     unfolding isStack
     stack-sound b p t =
-        let u = both (isDepth s) (areFrames (namesOf fs ss n) (s .entries) ps (s .depth)) t in
-        let v = both (leb (s .depth) 17) (leb (s .depth) (limitBy (isText (topEntry s .what)))) (u .0) in let few = leb-true (s .depth) 17 (v .0) in
-        let f = frames-sound (s .entries) bs ps b p (s .depth) few (u .1) in
-        (record { few = few; long = b; ends-long = p; sizes = f .0 }, f .1, leb-true (s .depth) (limitBy (isText (topEntry s .what))) (v .1))
+        let u = both (isDepth s ps) (areFrames (namesOf fs ss n) ps (s .depth)) t in
+        let v = both (leb (s .depth) 17) (leb (s .depth) (limitBy (isText (topEntry s ps .what)))) (u .0) in let few = leb-true (s .depth) 17 (v .0) in
+        let f = frames-sound bs ps b p (s .depth) few (u .1) in
+        (record { few = few; long = b; ends-long = p; sizes = f .0 }, f .1, leb-true (s .depth) (limitBy (isText (topEntry s ps .what))) (v .1))
 
     -- One that keeps to them passes it.
-    pub stack-complete : Columns s bs ps → Good texts (framesOf s bs ps) → Fits s → isStack (namesOf fs ss n) s ps ≡ true
+    pub stack-complete : Columns s bs ps → Good texts (framesOf s bs ps) → Fits s ps → isStack (namesOf fs ss n) s ps ≡ true
     unfolding isStack
     stack-complete c g f =
-        and-true (isDepth s) (areFrames (namesOf fs ss n) (s .entries) ps (s .depth))
-        (and-true (leb (s .depth) 17) (leb (s .depth) (limitBy (isText (topEntry s .what)))) (le-leb (s .depth) 17 (c .few)) (le-leb (s .depth) (limitBy (isText (topEntry s .what))) f))
-        (frames-complete (s .entries) bs ps (c .long) (c .ends-long) (s .depth) (c .few) (c .sizes) g)
+        and-true (isDepth s ps) (areFrames (namesOf fs ss n) ps (s .depth))
+        (and-true (leb (s .depth) 17) (leb (s .depth) (limitBy (isText (topEntry s ps .what)))) (le-leb (s .depth) 17 (c .few)) (le-leb (s .depth) (limitBy (isText (topEntry s ps .what))) f))
+        (frames-complete bs ps (c .long) (c .ends-long) (s .depth) (c .few) (c .sizes) g)

@@ -134,15 +134,15 @@ fn is_sheet(status: Status) -> bool
 }
 
 // Whether there are at most nine arguments in a frame, each within so many bytes and not before it begins.
-fn are_arguments(ends: &[u16; 153], frame: usize, count: u8, size: u16) -> bool
-    requires { ⌜ (length (now ends) ≡ 153) × (frame < 17) ⌝ }
-    ensures { λ r. ⌜ r ≡ areArguments (take 9 (drop (frame * 9) (now (ends .entry)))) count size ⌝ }
+fn are_arguments(ends: &[u16; 221], frame: usize, count: u8, size: u16) -> bool
+    requires { ⌜ (length (now ends) ≡ 221) × (frame < 17) ⌝ }
+    ensures { λ r. ⌜ r ≡ areArguments (take 9 (drop (frame * 13 + 4) (now (ends .entry)))) count size ⌝ }
 {
     if 9 < count {
         return false;
     }
     let given = count as usize;
-    let at = frame * 9;
+    let at = frame * 13 + 4;
     let mut from: u16 = 0;
     let mut i: usize = 0;
     while i < given {
@@ -175,13 +175,13 @@ fn is_item(
     what: What,
     size: u16,
     frame: usize,
-    ends: &[u16; 153],
+    ends: &[u16; 221],
     firsts: &[u8; 64],
     seconds: &[u8; 64],
     count: usize,
 ) -> bool
-    requires { ⌜ Names (now firsts) (now seconds) count × (length (now ends) ≡ 153) × (frame < 17) ⌝ }
-    ensures { λ r. ⌜ r ≡ isItem (namesOf (now (firsts .entry)) (now (seconds .entry)) count) what size (take 9 (drop (frame * 9) (now (ends .entry)))) ⌝ }
+    requires { ⌜ Names (now firsts) (now seconds) count × (length (now ends) ≡ 221) × (frame < 17) ⌝ }
+    ensures { λ r. ⌜ r ≡ isItem (namesOf (now (firsts .entry)) (now (seconds .entry)) count) what size (take 9 (drop (frame * 13 + 4) (now (ends .entry)))) ⌝ }
 {
     match what {
         What::Reading(name, _, given) => {
@@ -199,13 +199,13 @@ fn is_item(
 fn is_frame(
     entry: Entry,
     frame: usize,
-    ends: &[u16; 153],
+    ends: &[u16; 221],
     firsts: &[u8; 64],
     seconds: &[u8; 64],
     count: usize,
 ) -> bool
-    requires { ⌜ Names (now firsts) (now seconds) count × (length (now ends) ≡ 153) × (frame < 17) ⌝ }
-    ensures { λ r. ⌜ r ≡ isFrame (namesOf (now (firsts .entry)) (now (seconds .entry)) count) entry (take 9 (drop (frame * 9) (now (ends .entry)))) ⌝ }
+    requires { ⌜ Names (now firsts) (now seconds) count × (length (now ends) ≡ 221) × (frame < 17) ⌝ }
+    ensures { λ r. ⌜ r ≡ isFrame (namesOf (now (firsts .entry)) (now (seconds .entry)) count) entry (take 9 (drop (frame * 13 + 4) (now (ends .entry)))) ⌝ }
 {
     let size = entry.size;
     if 512 < size {
@@ -225,8 +225,8 @@ fn is_text(what: What) -> bool
 }
 
 // "input stack past 16 items": 16, and one that is no text for a moment over them.
-fn is_depth(stack: Stack) -> bool
-    ensures { λ r. ⌜ r ≡ isDepth stack ⌝ }
+fn is_depth(stack: Stack, ends: &[u16; 221]) -> bool
+    ensures { λ r. ⌜ r ≡ isDepth stack (now (ends .entry)) ⌝ }
 {
     let depth = stack.depth;
     if depth <= 16 {
@@ -235,7 +235,7 @@ fn is_depth(stack: Stack) -> bool
     if 17 < depth {
         return false;
     }
-    let entry = input::top(stack);
+    let entry = input::top(stack, ends);
     let what = entry.what;
     !is_text(what)
 }
@@ -243,22 +243,21 @@ fn is_depth(stack: Stack) -> bool
 // The input stack, over texts of these names.
 fn is_stack(
     stack: Stack,
-    ends: &[u16; 153],
+    ends: &[u16; 221],
     firsts: &[u8; 64],
     seconds: &[u8; 64],
     count: usize,
 ) -> bool
-    requires { ⌜ Names (now firsts) (now seconds) count × (length (now ends) ≡ 153) ⌝ }
+    requires { ⌜ Names (now firsts) (now seconds) count × (length (now ends) ≡ 221) ⌝ }
     ensures { λ r. ⌜ r ≡ isStack (namesOf (now (firsts .entry)) (now (seconds .entry)) count) stack (now (ends .entry)) ⌝ }
 {
-    if !is_depth(stack) {
+    if !is_depth(stack, ends) {
         return false;
     }
-    let entries = stack.entries;
     let mut i = stack.depth;
     while 0 < i {
         i -= 1;
-        let entry = entries[i];
+        let entry = input::entry_at(ends, i);
         if !is_frame(entry, i, ends, firsts, seconds, count) {
             return false;
         }
@@ -303,7 +302,7 @@ fn are_texts(status: Status, store: usize, lengths: &[u16; 64]) -> bool
 pub fn is_sound(
     status: Status,
     store: usize,
-    ends: &[u16; 153],
+    ends: &[u16; 221],
     text_firsts: &[u8; 64],
     text_seconds: &[u8; 64],
     lengths: &[u16; 64],
@@ -461,18 +460,17 @@ fn is_layer(text: bool, held: bool) -> bool
 }
 
 // Whether each item that is no text lies on a text, or at the bottom.
-fn is_layered(stack: Stack) -> bool
-    ensures { λ r. ⌜ r ≡ isLayered stack ⌝ }
+fn is_layered(stack: Stack, ends: &[u16; 221]) -> bool
+    ensures { λ r. ⌜ r ≡ isLayered stack (now (ends .entry)) ⌝ }
 {
     if 17 < stack.depth {
         return false;
     }
-    let entries = stack.entries;
     let mut held = false;
     let mut i = stack.depth;
     while 0 < i {
         i -= 1;
-        let entry = entries[i];
+        let entry = input::entry_at(ends, i);
         let what = entry.what;
         let text = is_text(what);
         if !is_layer(text, held) {
@@ -494,8 +492,8 @@ fn the_end(last: bool) -> usize
 }
 
 // "input stack past 16 items", with the end among them.
-fn is_deep(last: bool, stack: Stack) -> bool
-    ensures { λ r. ⌜ r ≡ isDeep last stack ⌝ }
+fn is_deep(last: bool, stack: Stack, ends: &[u16; 221]) -> bool
+    ensures { λ r. ⌜ r ≡ isDeep last stack (now (ends .entry)) ⌝ }
 {
     let depth = stack.depth;
     if 17 < depth {
@@ -508,28 +506,28 @@ fn is_deep(last: bool, stack: Stack) -> bool
     if 17 < items {
         return false;
     }
-    let entry = input::top(stack);
+    let entry = input::top(stack, ends);
     let what = entry.what;
     !is_text(what)
 }
 
 // Whether a line of the source or of a text comes next.
-fn is_next(stack: Stack) -> bool
+fn is_next(stack: Stack, ends: &[u16; 221]) -> bool
     requires { ⌜ stack .depth ≤ 17 ⌝ }
-    ensures { λ r. ⌜ r ≡ isNext stack ⌝ }
+    ensures { λ r. ⌜ r ≡ isNext stack (now (ends .entry)) ⌝ }
 {
     if stack.depth == 0 {
         return true;
     }
-    let entry = input::top(stack);
+    let entry = input::top(stack, ends);
     let what = entry.what;
     is_text(what)
 }
 
 // While a definition is open, in a session that is not closed, lines come next.
-fn is_open_over(running: bool, there: bool, stack: Stack) -> bool
+fn is_open_over(running: bool, there: bool, stack: Stack, ends: &[u16; 221]) -> bool
     requires { ⌜ stack .depth ≤ 17 ⌝ }
-    ensures { λ r. ⌜ r ≡ isOpenOver running there stack ⌝ }
+    ensures { λ r. ⌜ r ≡ isOpenOver running there stack (now (ends .entry)) ⌝ }
 {
     if !running {
         return true;
@@ -537,27 +535,28 @@ fn is_open_over(running: bool, there: bool, stack: Stack) -> bool
     if !there {
         return true;
     }
-    is_next(stack)
+    is_next(stack, ends)
 }
 
 // The items on the input stack, over one another and below the end.
-fn is_pile(status: Status, running: bool) -> bool
-    ensures { λ r. ⌜ r ≡ isPile status running ⌝ }
+fn is_pile(status: Status, running: bool, ends: &[u16; 221]) -> bool
+    ensures { λ r. ⌜ r ≡ isPile status running (now (ends .entry)) ⌝ }
 {
     let stack = status.stack;
-    if !is_layered(stack) {
+    if !is_layered(stack, ends) {
         return false;
     }
-    if !is_deep(status.page.last, stack) {
+    if !is_deep(status.page.last, stack, ends) {
         return false;
     }
-    is_open_over(running, status.opening.there, stack)
+    is_open_over(running, status.opening.there, stack, ends)
 }
 
 // Whether a record keeps to the limits that every state of the rules keeps to, with so many bytes gathered, in a session that is open or closed.
 pub fn is_within(
     status: Status,
     running: bool,
+    ends: &[u16; 221],
     gathered: &[u8; 512],
     count: usize,
     text_firsts: &[u8; 64],
@@ -566,7 +565,7 @@ pub fn is_within(
     steps: &[i32; 64],
 ) -> bool
     requires { ⌜ (length (now gathered) ≡ 512) × LentTables (now «text_firsts») (now «text_seconds») (now values) (now steps) ⌝ }
-    ensures { λ r. ⌜ r ≡ isWithin status running (now (gathered .entry)) count (now («text_firsts» .entry)) (now («text_seconds» .entry)) (now (values .entry)) (now (steps .entry)) ⌝ }
+    ensures { λ r. ⌜ r ≡ isWithin status running (now (ends .entry)) (now (gathered .entry)) count (now («text_firsts» .entry)) (now («text_seconds» .entry)) (now (values .entry)) (now (steps .entry)) ⌝ }
 {
     if !are_tables(status, text_firsts, text_seconds, values, steps) {
         return false;
@@ -578,5 +577,5 @@ pub fn is_within(
     if !is_gathered(gathered, count) {
         return false;
     }
-    is_pile(status, running)
+    is_pile(status, running, ends)
 }

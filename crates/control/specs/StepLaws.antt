@@ -170,13 +170,13 @@ module _ (s : Status) (cs bs ps st tf ts ks ls fs ss : List ℕ) (vs us : List �
     closed-did m n tf' ts' ks' ls' o c = close-did m q tf' ts' ks' ls' row n (b .sound) (b .items) (b .long) o c
 
     module _ (c : s .opening .there ≡ false) (st' tf' ts' ks' ls' : List ℕ) where
-      pub changed-did : (act : State → Judged State) (r : Changed) → ChangesAs st tf ts ks ls (s .texts) (s .stack) alone act r st' tf' ts' ks' ls'
+      pub changed-did : (act : State → Judged State) (r : Changed) → ChangesAs st tf ts ks ls (s .texts) (s .stack) ps alone act r st' tf' ts' ks' ls'
           → Did (λ v. settles (act v) v) q (changedTo r s .way) (changedTo r s .written) (wholeOf (changedTo r s .status) cs bs ps st' tf' ts' ks' ls' fs ss vs us) row
       changed-did act (changed.Count n) a = change-did act q st' tf' ts' ks' ls' row (b .sound) (b .items) (b .long) c (changed.Count n) a
       changed-did act changed.Same a = change-did act q st' tf' ts' ks' ls' row (b .sound) (b .items) (b .long) c changed.Same a
       changed-did act (changed.Refused k) a = change-did act q st' tf' ts' ks' ls' row (b .sound) (b .items) (b .long) c (changed.Refused k) a
 
-      pub opened-did : (act : State → Judged State) (m : Named) (r : Changed) (o' : Opening) → OpensAs st tf ts ks ls (s .texts) (s .stack) m act r st' tf' ts' ks' ls' → OpeningIs m r (s .opening) o'
+      pub opened-did : (act : State → Judged State) (m : Named) (r : Changed) (o' : Opening) → OpensAs st tf ts ks ls (s .texts) (s .stack) ps m act r st' tf' ts' ks' ls' → OpeningIs m r (s .opening) o'
           → Did (λ v. settles (act v) v) q (openedBy r o' s .way) (openedBy r o' s .written) (wholeOf (openedBy r o' s .status) cs bs ps st' tf' ts' ks' ls' fs ss vs us) row
       opened-did act m (changed.Count n) o' a f = open-did act q st' tf' ts' ks' ls' row (b .sound) (b .items) (b .long) c m (changed.Count n) o' a f
       opened-did act m changed.Same o' a f = open-did act q st' tf' ts' ks' ls' row (b .sound) (b .items) (b .long) c m changed.Same o' a f

@@ -37,10 +37,10 @@ assigned-as {fs} {ss} {vs} {ts} {c} act act' a e = record { is = λ x. a .is x �
 pub planted-as : {p : Planted} {r : Plants} (act act' : State → Judged State) → PlantsAs p act r → ((s : State) → act s ≡ act' s) → PlantsAs p act' r
 planted-as {p} act act' a e = record { is = λ x. a .is x ∙ e (withTraps (plantedOf p) x); within = a .within; kept = a .kept }
 
-pub changed-as : {st fs ss ks ls : List ℕ} {n : ℕ} {k : Stack} {done : State → State} {r : Changed} {st' fs' ss' ks' ls' : List ℕ} (act act' : State → Judged State) → ChangesAs st fs ss ks ls n k done act r st' fs' ss' ks' ls'
-    → ((s : State) → act s ≡ act' s) → ChangesAs st fs ss ks ls n k done act' r st' fs' ss' ks' ls'
-changed-as {st} {fs} {ss} {ks} {ls} {n} {k} act act' a e = record {
-  is = λ bs ps x. a .is bs ps x ∙ e (over k bs ps (textsOf st fs ss ks ls n) x);
+pub changed-as : {st fs ss ks ls : List ℕ} {n : ℕ} {k : Stack} {ps : List ℕ} {done : State → State} {r : Changed} {st' fs' ss' ks' ls' : List ℕ} (act act' : State → Judged State) → ChangesAs st fs ss ks ls n k ps done act r st' fs' ss' ks' ls'
+    → ((s : State) → act s ≡ act' s) → ChangesAs st fs ss ks ls n k ps done act' r st' fs' ss' ks' ls'
+changed-as {st} {fs} {ss} {ks} {ls} {n} {k} {ps} act act' a e = record {
+  is = λ bs x. a .is bs x ∙ e (over k bs ps (textsOf st fs ss ks ls n) x);
   good = a .good;
   lies = a .lies;
   long = a .long;
@@ -70,14 +70,14 @@ module _ (q : Printer) (line : List ℕ) (count : ℕ) (out ends : List ℕ) (p 
   removes-line m e = ap (λ (y : List ℕ). removes y s) (e ∙ argument-is 0 p) ∙ removes-rm (printerOf q) line s
 
 -- de of a line whose arguments were parted
-pub opened-line : (q : Printer) (line : List ℕ) (count : ℕ) (out ends : List ℕ) → PartedAll line 0 count out ends → {st fs ss ks ls : List ℕ} {n : ℕ} {k : Stack} (r : Opened) {st' fs' ss' ks' ls' : List ℕ} (o : Opening) (m : List ℕ)
+pub opened-line : (q : Printer) (line : List ℕ) (count : ℕ) (out ends : List ℕ) → PartedAll line 0 count out ends → {st fs ss ks ls : List ℕ} {n : ℕ} {k : Stack} {ps : List ℕ} (r : Opened) {st' fs' ss' ks' ls' : List ℕ} (o : Opening) (m : List ℕ)
     → m ≡ getD (argumentsOf out ends count) 0 []
-    → OpensAs st fs ss ks ls n k (nameOf m) (opensText m) (r .changed) st' fs' ss' ks' ls' × OpeningIs (nameOf m) (r .changed) o (r .opening)
-    → OpensAs st fs ss ks ls n k (nameOf (argument 0 line)) (λ s. perform (printerOf q) De line s) (r .changed) st' fs' ss' ks' ls' × OpeningIs (nameOf (argument 0 line)) (r .changed) o (r .opening)
-opened-line q line count out ends p {st} {fs} {ss} {ks} {ls} {n} {k} r {st'} {fs'} {ss'} {ks'} {ls'} o m e a =
+    → OpensAs st fs ss ks ls n k ps (nameOf m) (opensText m) (r .changed) st' fs' ss' ks' ls' × OpeningIs (nameOf m) (r .changed) o (r .opening)
+    → OpensAs st fs ss ks ls n k ps (nameOf (argument 0 line)) (λ s. perform (printerOf q) De line s) (r .changed) st' fs' ss' ks' ls' × OpeningIs (nameOf (argument 0 line)) (r .changed) o (r .opening)
+opened-line q line count out ends p {st} {fs} {ss} {ks} {ls} {n} {k} {ps} r {st'} {fs'} {ss'} {ks'} {ls'} o m e a =
     let f : m ≡ argument 0 line = e ∙ argument-is 0 p in
-    let b : OpensAs st fs ss ks ls n k (nameOf (argument 0 line)) (opensText (argument 0 line)) (r .changed) st' fs' ss' ks' ls' =
-    subst (λ (v : List ℕ). OpensAs st fs ss ks ls n k (nameOf v) (opensText v) (r .changed) st' fs' ss' ks' ls') f (a .0) in (
+    let b : OpensAs st fs ss ks ls n k ps (nameOf (argument 0 line)) (opensText (argument 0 line)) (r .changed) st' fs' ss' ks' ls' =
+    subst (λ (v : List ℕ). OpensAs st fs ss ks ls n k ps (nameOf v) (opensText v) (r .changed) st' fs' ss' ks' ls') f (a .0) in (
       record { changes = changed-as (opensText (argument 0 line)) (λ s. perform (printerOf q) De line s) (b .changes) (λ s. opens-de (printerOf q) line s); opens = b .opens },
       subst (λ (v : List ℕ). OpeningIs (nameOf v) (r .changed) o (r .opening)) f (a .1),
     )

@@ -103,7 +103,7 @@ module _ (p : Printer) (q : Whole) (line st' row : List ℕ) (s : SoundWhole q) 
       opens = kept-opens r a;
       table = s .table;
     };
-    fits = fits-few (q .desk .stack) d;
+    fits = fits-few (q .desk .stack) (q .desk .ends) d;
     few = omega arith;
     long = l;
     kept = kept-store r a;
@@ -153,7 +153,7 @@ module _ (p : Printer) (q : Whole) (fs' ss' ks' ls' row : List ℕ) (n : ℕ) (s
       opens = tt;
       table = s .table;
     };
-    fits = fits-few (q .desk .stack) d;
+    fits = fits-few (q .desk .stack) (q .desk .ends) d;
     few = omega arith;
     long = l;
     kept = tt;

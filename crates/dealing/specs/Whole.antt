@@ -113,7 +113,7 @@ KeptStore (Refused n) st st' = st' ≡ st
 pub record Did (rule : State → Next) (q : Whole) (w : Way) (written : ℕ) (q' : Whole) (row' : List ℕ) : Type 0 where
   pub is : (x : State) → works (take written row') (closeBy w (stateIn q' x)) ≡ rule (stateIn q x)
   pub sound : SoundWhole q'
-  pub fits : Fits (q' .desk .stack)
+  pub fits : Fits (q' .desk .stack) (q' .desk .ends)
   pub few : written ≤ 872
   pub long : length row' ≡ 872
   pub kept : KeptStore w (q .texts .store) (q' .texts .store)

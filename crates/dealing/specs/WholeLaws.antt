@@ -53,7 +53,7 @@ did-as rule rule' q w written q' row' h d =
 -- Nothing is written, and all is as it is.
 pub stay-did : (rule : State → Next) (q : Whole) (w : Way) (row : List ℕ) → SoundWhole q → q .desk .stack .depth ≤ 16 → length row ≡ 872
     → ((x : State) → works [] (closeBy w (stateIn q x)) ≡ rule (stateIn q x)) → Did rule q w 0 q row
-stay-did rule q w row s d l h = record { is = h; sound = s; fits = fits-few (q .desk .stack) d; few = omega arith; long = l; kept = same-store w (q .texts .store) }
+stay-did rule q w row s d l h = record { is = h; sound = s; fits = fits-few (q .desk .stack) (q .desk .ends) d; few = omega arith; long = l; kept = same-store w (q .texts .store) }
 
 -- Work on a desk.
 pub desk-did : (rule : List Text → State → Next) (q : Whole) (w : Way) (written : ℕ) (d' : Desk) (row' : List ℕ) → SoundWhole q
@@ -91,7 +91,7 @@ pub assign-did : (act : State → Judged State) (q : Whole) (r : Assigned) (fs' 
 assign-did act q r fs' ss' vs' ts' row s d l a = record {
   is = λ x. go r a x;
   sound = record { sheet = s .sheet; lies = s .lies; store = s .store; good = s .good; opens = s .opens; table = a .table };
-  fits = fits-few (q .desk .stack) d;
+  fits = fits-few (q .desk .stack) (q .desk .ends) d;
   few = omega arith;
   long = l;
   kept = same-store (assignedWay r) (q .texts .store);
@@ -118,7 +118,7 @@ plant-did act q r row s d l a = record {
     opens = s .opens;
     table = s .table;
   };
-  fits = fits-few (q .desk .stack) d;
+  fits = fits-few (q .desk .stack) (q .desk .ends) d;
   few = omega arith;
   long = l;
   kept = same-store (wayOf (r .refused)) (q .texts .store);
@@ -173,17 +173,17 @@ module _ (q : Whole) (x : State) (st' fs' ss' ks' ls' : List ℕ) where
 
 module _ (act : State → Judged State) (q : Whole) (st' fs' ss' ks' ls' row : List ℕ) (s : SoundWhole q) (d : q .desk .stack .depth ≤ 16) (l : length row ≡ 872) (c : q .opening .there ≡ false) where
   abbrev Changes : (State → State) → Changed → Type 0
-  Changes done r = ChangesAs (q .texts .store) (q .texts .firsts) (q .texts .seconds) (q .texts .kinds) (q .texts .lengths) (q .texts .count) (q .desk .stack) done act r st' fs' ss' ks' ls'
+  Changes done r = ChangesAs (q .texts .store) (q .texts .firsts) (q .texts .seconds) (q .texts .kinds) (q .texts .lengths) (q .texts .count) (q .desk .stack) (q .desk .ends) done act r st' fs' ss' ks' ls'
 
   changes-is : (r : Changed) → Changes alone r → (x : State)
       → works [] (closeBy (changedWay r) (stateIn (withTextColumns q x st' fs' ss' ks' ls' (q .opening) (in-texts.countIn r (q .texts .count))) x)) ≡ settles (act (stateIn q x)) (stateIn q x)
   changes-is (changed.Count n) a x =
-      ap (works []) (still-closed q x st' fs' ss' ks' ls' n c) ∙ ap (λ (j : Judged State). settles j (stateIn q x)) (a .is (q .desk .arena) (q .desk .ends) (stateIn q x))
+      ap (works []) (still-closed q x st' fs' ss' ks' ls' n c) ∙ ap (λ (j : Judged State). settles j (stateIn q x)) (a .is (q .desk .arena) (stateIn q x))
   changes-is changed.Same a x =
-      ap (works []) (still-closed q x st' fs' ss' ks' ls' (q .texts .count) c) ∙ ap (λ (j : Judged State). settles j (stateIn q x)) (a .is (q .desk .arena) (q .desk .ends) (stateIn q x))
+      ap (works []) (still-closed q x st' fs' ss' ks' ls' (q .texts .count) c) ∙ ap (λ (j : Judged State). settles j (stateIn q x)) (a .is (q .desk .arena) (stateIn q x))
   changes-is (changed.Refused k) a x =
       let e = a .kept in
-      rw (e .0, e .1, e .2, e .3, e .4) (ap (λ (j : Judged State). settles j (stateIn q x)) (a .is (q .desk .arena) (q .desk .ends) (stateIn q x)))
+      rw (e .0, e .1, e .2, e .3, e .4) (ap (λ (j : Judged State). settles j (stateIn q x)) (a .is (q .desk .arena) (stateIn q x)))
 
   pub change-did : (r : Changed) → Changes alone r
       → Did (λ v. settles (act v) v) q (changedWay r) 0 (whole (q .desk) (q .planted) (textColumns st' fs' ss' ks' ls' (in-texts.countIn r (q .texts .count))) (q .opening) (q .registers)) row
@@ -193,11 +193,11 @@ module _ (act : State → Judged State) (q : Whole) (st' fs' ss' ks' ls' row : L
       sheet = s .sheet;
       lies = a .lies;
       store = a .long ∙ s .store;
-      good = a .good (q .desk .arena) (q .desk .ends) (s .good);
+      good = a .good (q .desk .arena) (s .good);
       opens = subst (λ (b : Bool). OpensIn b (q .opening) (textColumns st' fs' ss' ks' ls' (in-texts.countIn r (q .texts .count)))) (sym c) tt;
       table = s .table;
     };
-    fits = fits-few (q .desk .stack) d;
+    fits = fits-few (q .desk .stack) (q .desk .ends) d;
     few = omega arith;
     long = l;
     kept = kept-store r (q .texts .store) (q .texts .firsts) (q .texts .seconds) (q .texts .kinds) (q .texts .lengths) st' fs' ss' ks' ls' (a .kept);
@@ -227,7 +227,7 @@ refused-opening (one m) k o o' e = e
 
 module _ (act : State → Judged State) (q : Whole) (st' fs' ss' ks' ls' row : List ℕ) (s : SoundWhole q) (d : q .desk .stack .depth ≤ 16) (l : length row ≡ 872) (c : q .opening .there ≡ false) (m : Named) where
   abbrev Opens-as : Changed → Type 0
-  Opens-as r = OpensAs (q .texts .store) (q .texts .firsts) (q .texts .seconds) (q .texts .kinds) (q .texts .lengths) (q .texts .count) (q .desk .stack) m act r st' fs' ss' ks' ls'
+  Opens-as r = OpensAs (q .texts .store) (q .texts .firsts) (q .texts .seconds) (q .texts .kinds) (q .texts .lengths) (q .texts .count) (q .desk .stack) (q .desk .ends) m act r st' fs' ss' ks' ls'
 
   abbrev opened-whole : Changed → Opening → Whole
   opened-whole r o = whole (q .desk) (q .planted) (textColumns st' fs' ss' ks' ls' (in-texts.countIn r (q .texts .count))) o (q .registers)
@@ -242,11 +242,11 @@ module _ (act : State → Judged State) (q : Whole) (st' fs' ss' ks' ls' row : L
       sheet = s .sheet;
       lies = a .changes .lies;
       store = a .changes .long ∙ s .store;
-      good = a .changes .good (q .desk .arena) (q .desk .ends) (s .good);
+      good = a .changes .good (q .desk .arena) (s .good);
       opens = subst (λ (b : Bool). OpensIn b (q .opening) (textColumns st' fs' ss' ks' ls' (in-texts.countIn r (q .texts .count)))) (sym c) tt;
       table = s .table;
     };
-    fits = fits-few (q .desk .stack) d;
+    fits = fits-few (q .desk .stack) (q .desk .ends) d;
     few = omega arith;
     long = l;
     kept = kept-store r (q .texts .store) (q .texts .firsts) (q .texts .seconds) (q .texts .kinds) (q .texts .lengths) st' fs' ss' ks' ls' (a .changes .kept);
@@ -258,16 +258,16 @@ module _ (act : State → Judged State) (q : Whole) (st' fs' ss' ks' ls' row : L
   opened-new o' n k e f a = subst (λ (o : Opening). Did (λ v. settles (act v) v) q On 0 (opened-whole (changed.Count n) o) row) (sym f) (record {
     is = λ x.
         sym (ap (λ (h : Named). goes (openedAs h (over (q .desk .stack) (q .desk .arena) (q .desk .ends) (textsOf st' fs' ss' ks' ls' n) (stateIn q x)))) e)
-        ∙ ap (λ (j : Judged State). settles j (stateIn q x)) (a .changes .is (q .desk .arena) (q .desk .ends) (stateIn q x));
+        ∙ ap (λ (j : Judged State). settles j (stateIn q x)) (a .changes .is (q .desk .arena) (stateIn q x));
     sound = record {
       sheet = s .sheet;
       lies = a .changes .lies;
       store = a .changes .long ∙ s .store;
-      good = a .changes .good (q .desk .arena) (q .desk .ends) (s .good);
+      good = a .changes .good (q .desk .arena) (s .good);
       opens = a .opens;
       table = s .table;
     };
-    fits = fits-few (q .desk .stack) d;
+    fits = fits-few (q .desk .stack) (q .desk .ends) d;
     few = omega arith;
     long = l;
     kept = tt;
@@ -283,11 +283,11 @@ module _ (act : State → Judged State) (q : Whole) (st' fs' ss' ks' ls' row : L
       go (one k) e g = opened-new o' n k e g a
   open-did changed.Same o' a f =
       opened-same changed.Same o' (same-opening m (q .opening) o' f)
-      (λ x. ap (works []) (still-closed q x st' fs' ss' ks' ls' (q .texts .count) c) ∙ ap (λ (j : Judged State). settles j (stateIn q x)) (a .changes .is (q .desk .arena) (q .desk .ends) (stateIn q x))) a
+      (λ x. ap (works []) (still-closed q x st' fs' ss' ks' ls' (q .texts .count) c) ∙ ap (λ (j : Judged State). settles j (stateIn q x)) (a .changes .is (q .desk .arena) (stateIn q x))) a
   open-did (changed.Refused k) o' a f =
       opened-same (changed.Refused k) o' (refused-opening m k (q .opening) o' f)
       (λ x. let e = a .changes .kept in
-      rw (e .0, e .1, e .2, e .3, e .4) (ap (λ (j : Judged State). settles j (stateIn q x)) (a .changes .is (q .desk .arena) (q .desk .ends) (stateIn q x)))) a
+      rw (e .0, e .1, e .2, e .3, e .4) (ap (λ (j : Judged State). settles j (stateIn q x)) (a .changes .is (q .desk .arena) (stateIn q x)))) a
 
 -- the definition of a name is open, unless it was refused
 abbrev pub openedWith : Changed → Name → Opening → Opened
@@ -306,12 +306,12 @@ changed-with changed.Same k o = refl
 changed-with (changed.Refused n) k o = refl
 
 -- de without a name does nothing, and one of a name too long is refused
-module _ (st fs ss ks ls : List ℕ) (n : ℕ) (k : Stack) (l : List ℕ) (h : Lies st fs ss ks ls n) where
-  pub opens-nothing : nameOf l ≡ names.none → OpensAs st fs ss ks ls n k (nameOf l) (opensText l) changed.Same st fs ss ks ls
+module _ (st fs ss ks ls : List ℕ) (n : ℕ) (k : Stack) (ps l : List ℕ) (h : Lies st fs ss ks ls n) where
+  pub opens-nothing : nameOf l ≡ names.none → OpensAs st fs ss ks ls n k ps (nameOf l) (opensText l) changed.Same st fs ss ks ls
   opens-nothing e = record {
     changes = record {
-      is = λ bs ps x. let v = over k bs ps (textsOf st fs ss ks ls n) x in sym (ap (λ (m : Named). onName m v (openText v)) e);
-      good = λ bs ps g. g;
+      is = λ bs x. let v = over k bs ps (textsOf st fs ss ks ls n) x in sym (ap (λ (m : Named). onName m v (openText v)) e);
+      good = λ bs g. g;
       lies = h;
       long = refl;
       kept = (refl, refl, refl, refl, refl);
@@ -319,11 +319,11 @@ module _ (st fs ss ks ls : List ℕ) (n : ℕ) (k : Stack) (l : List ℕ) (h : L
     opens = tt;
   }
 
-  pub opens-long : nameOf l ≡ tooLong → OpensAs st fs ss ks ls n k (nameOf l) (opensText l) (changed.Refused 7) st fs ss ks ls
+  pub opens-long : nameOf l ≡ tooLong → OpensAs st fs ss ks ls n k ps (nameOf l) (opensText l) (changed.Refused 7) st fs ss ks ls
   opens-long e = record {
     changes = record {
-      is = λ bs ps x. let v = over k bs ps (textsOf st fs ss ks ls n) x in sym (ap (λ (m : Named). onName m v (openText v)) e);
-      good = λ bs ps g. g;
+      is = λ bs x. let v = over k bs ps (textsOf st fs ss ks ls n) x in sym (ap (λ (m : Named). onName m v (openText v)) e);
+      good = λ bs g. g;
       lies = h;
       long = refl;
       kept = (refl, refl, refl, refl, refl);

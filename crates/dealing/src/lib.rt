@@ -583,6 +583,7 @@ pub fn remove(
     parts: &mut [u8; 512],
     printer: Printer,
     stack: Stack,
+    frames: &[u16; 221],
     store: &mut [u8],
     firsts: &mut [u8; 64],
     seconds: &mut [u8; 64],
@@ -591,12 +592,22 @@ pub fn remove(
     count: usize,
 ) -> Changed
     requires { ⌜ texts.Ready (now store) (now firsts) (now seconds) (now kinds) (now lengths) count stack × Unread (now line) 0 (now parts) 0 ⌝ }
-    ensures { λ r. ⌜ ChangesAs (now (store .entry)) (now (firsts .entry)) (now (seconds .entry)) (now (kinds .entry)) (now (lengths .entry)) count stack alone (λ s. perform (printerOf printer) Rm (now (line .entry)) s) r (now (store .exit)) (now (firsts .exit)) (now (seconds .exit)) (now (kinds .exit)) (now (lengths .exit)) ⌝ }
+    ensures { λ r. ⌜ ChangesAs (now (store .entry)) (now (firsts .entry)) (now (seconds .entry)) (now (kinds .entry)) (now (lengths .entry)) count stack (now (frames .entry)) alone (λ s. perform (printerOf printer) Rm (now (line .entry)) s) r (now (store .exit)) (now (firsts .exit)) (now (seconds .exit)) (now (kinds .exit)) (now (lengths .exit)) ⌝ }
 {
     let mut ends = [0u16; 9];
     let given = scan::arguments(line, 0, &mut *parts, &mut ends);
     let name = lines::argument(&*parts, &ends, given, 0);
-    requests::remove(name, stack, store, firsts, seconds, kinds, lengths, count)
+    requests::remove(
+        name,
+        stack,
+        frames,
+        store,
+        firsts,
+        seconds,
+        kinds,
+        lengths,
+        count,
+    )
 }
 
 // What de leads to: the answer of the texts, and the definition that is open then.
@@ -631,6 +642,7 @@ fn open_named(
     name: &[u8],
     opening: Opening,
     stack: Stack,
+    frames: &[u16; 221],
     store: &mut [u8],
     firsts: &mut [u8; 64],
     seconds: &mut [u8; 64],
@@ -639,13 +651,14 @@ fn open_named(
     count: usize,
 ) -> Opened
     requires { ⌜ texts.Ready (now store) (now firsts) (now seconds) (now kinds) (now lengths) count stack ⌝ }
-    ensures { λ r. ⌜ OpensAs (now (store .entry)) (now (firsts .entry)) (now (seconds .entry)) (now (kinds .entry)) (now (lengths .entry)) count stack (nameOf (now (name .entry))) (texts.opensText (now (name .entry))) (r .changed) (now (store .exit)) (now (firsts .exit)) (now (seconds .exit)) (now (kinds .exit)) (now (lengths .exit)) × OpeningIs (nameOf (now (name .entry))) (r .changed) opening (r .opening) ⌝ }
+    ensures { λ r. ⌜ OpensAs (now (store .entry)) (now (firsts .entry)) (now (seconds .entry)) (now (kinds .entry)) (now (lengths .entry)) count stack (now (frames .entry)) (nameOf (now (name .entry))) (texts.opensText (now (name .entry))) (r .changed) (now (store .exit)) (now (firsts .exit)) (now (seconds .exit)) (now (kinds .exit)) (now (lengths .exit)) × OpeningIs (nameOf (now (name .entry))) (r .changed) opening (r .opening) ⌝ }
 {
     match lines::name_of(name) {
         Named::One(known) => {
             let changed = requests::open(
                 name,
                 stack,
+                frames,
                 store,
                 firsts,
                 seconds,
@@ -673,6 +686,7 @@ pub fn open(
     printer: Printer,
     opening: Opening,
     stack: Stack,
+    frames: &[u16; 221],
     store: &mut [u8],
     firsts: &mut [u8; 64],
     seconds: &mut [u8; 64],
@@ -681,7 +695,7 @@ pub fn open(
     count: usize,
 ) -> Opened
     requires { ⌜ texts.Ready (now store) (now firsts) (now seconds) (now kinds) (now lengths) count stack × Unread (now line) 0 (now parts) 0 ⌝ }
-    ensures { λ r. ⌜ OpensAs (now (store .entry)) (now (firsts .entry)) (now (seconds .entry)) (now (kinds .entry)) (now (lengths .entry)) count stack (nameOf (argument 0 (now (line .entry)))) (λ s. perform (printerOf printer) De (now (line .entry)) s) (r .changed) (now (store .exit)) (now (firsts .exit)) (now (seconds .exit)) (now (kinds .exit)) (now (lengths .exit)) × OpeningIs (nameOf (argument 0 (now (line .entry)))) (r .changed) opening (r .opening) ⌝ }
+    ensures { λ r. ⌜ OpensAs (now (store .entry)) (now (firsts .entry)) (now (seconds .entry)) (now (kinds .entry)) (now (lengths .entry)) count stack (now (frames .entry)) (nameOf (argument 0 (now (line .entry)))) (λ s. perform (printerOf printer) De (now (line .entry)) s) (r .changed) (now (store .exit)) (now (firsts .exit)) (now (seconds .exit)) (now (kinds .exit)) (now (lengths .exit)) × OpeningIs (nameOf (argument 0 (now (line .entry)))) (r .changed) opening (r .opening) ⌝ }
 {
     let mut ends = [0u16; 9];
     let given = scan::arguments(line, 0, &mut *parts, &mut ends);
@@ -690,6 +704,7 @@ pub fn open(
         name,
         opening,
         stack,
+        frames,
         store,
         firsts,
         seconds,

@@ -26,9 +26,9 @@ use Rattle.scan.specs.Around.{argumentsOf}
 use Rattle.input.specs.declared.What.{What}
 use Rattle.input.specs.declared.What.the-variants as what
 use Rattle.input.specs.declared.Stack.{Stack}
-use Rattle.input.specs.Frames.{framesOf, topEntry, topBytes, topEnds, Columns, below, placedAt}
+use Rattle.input.specs.Frames.{framesOf, topEntry, topBytes, topEnds, Columns, Topped, below, placedAt}
 use Rattle.input.specs.Items.{unread, itemBy, stackOf, GoodBy, Good}
-use Rattle.input.specs.ItemLaws.{top-item, none-there, below-columns, below-stacked, placed-item, placed-columns, placed-stacked}
+use Rattle.input.specs.ItemLaws.{top-item, none-there, topped, below-columns, below-stacked, placed-item, placed-bytes, placed-ends, placed-columns, placed-stacked}
 use Rattle.springs.specs.declared.Way.{Way}
 use Rattle.springs.specs.declared.Way.the-variants.{Refused}
 use Rattle.springs.specs.Held.{isText, PlainItem, limitBy, Fits}
@@ -43,9 +43,17 @@ use Rattle.settings.specs.Layouts.{layoutOf}
 use Rattle.page.specs.Landing.{pageOf}
 use Rattle.formatter.specs.Works.{leftBy, resumed, WorkedTo}
 
--- the whole with another stack
+-- the whole with another stack and other words of its frames
+abbrev pub framed : Stack → (ends : List ℕ) → Whole → Whole
+framed k ps q = whole (desk (q .desk .layout) (q .desk .page) (q .desk .collected) (q .desk .cells) k (q .desk .arena) ps) (q .planted) (q .texts) (q .opening) (q .registers)
+
+-- with another stack
 abbrev pub stacked : Stack → Whole → Whole
-stacked k q = whole (desk (q .desk .layout) (q .desk .page) (q .desk .collected) (q .desk .cells) k (q .desk .arena) (q .desk .ends)) (q .planted) (q .texts) (q .opening) (q .registers)
+stacked k q = framed k (q .desk .ends) q
+
+-- with another place in the frame on top
+abbrev pub placed : (place : ℕ) → Whole → Whole
+placed p q = framed (q .desk .stack) (placedAt (q .desk .stack) (q .desk .ends) p) q
 
 -- the whole with other values of registers
 abbrev pub valued : List ℤ → Whole → Whole
@@ -78,8 +86,8 @@ sound-valued q vs' s t = record { sheet = s .sheet; lies = s .lies; store = s .s
 pub shows : (q : Whole) → SoundWhole q → Shows (layoutOf (q .desk .layout)) (pageOf (q .desk .page))
 shows q s = record { limits = s .sheet .limits; used = omega (arith, s .sheet .above, s .sheet .limits .page-most); number = s .sheet .numbered }
 
-pub sound-stacked : (q : Whole) (k : Stack) → SoundWhole q → Columns k (q .desk .arena) (q .desk .ends) → Good (textsIn (q .texts)) (framesOf k (q .desk .arena) (q .desk .ends)) → SoundWhole (stacked k q)
-sound-stacked q k s c g = record {
+pub sound-framed : (q : Whole) (k : Stack) (ends : List ℕ) → SoundWhole q → Columns k (q .desk .arena) ends → Good (textsIn (q .texts)) (framesOf k (q .desk .arena) ends) → SoundWhole (framed k ends q)
+sound-framed q k ps s c g = record {
   sheet = record { limits = s .sheet .limits; above = s .sheet .above; numbered = s .sheet .numbered; few = s .sheet .few; line = s .sheet .line; indent = s .sheet .indent; next = s .sheet .next; columns = c };
   lies = s .lies;
   store = s .store;
@@ -92,14 +100,28 @@ module _ (q : Whole) (s : SoundWhole q) where
   -- what lies below the top item is sound
   pub sound-below : SoundWhole (stacked (below (q .desk .stack)) q)
   sound-below =
-      sound-stacked q (below (q .desk .stack)) s (below-columns (q .desk .stack) (q .desk .arena) (q .desk .ends) (s .sheet .columns))
+      sound-framed q (below (q .desk .stack)) (q .desk .ends) s (below-columns (q .desk .stack) (q .desk .arena) (q .desk .ends) (s .sheet .columns))
       (below-stacked (textsIn (q .texts)) (q .desk .stack) (q .desk .arena) (q .desk .ends) (record { columns = s .sheet .columns; good = s .good }) .good)
 
   -- a text that is read up to another place
-  pub sound-placed : (place : ℕ) → SoundWhole (stacked (placedAt (q .desk .stack) place) q)
-  sound-placed place =
-      sound-stacked q (placedAt (q .desk .stack) place) s (placed-columns (q .desk .stack) place (q .desk .arena) (q .desk .ends) (s .sheet .columns))
-      (placed-stacked (q .desk .stack) place (textsIn (q .texts)) (q .desk .arena) (q .desk .ends) (record { columns = s .sheet .columns; good = s .good }) .good)
+  module _ (place : ℕ) (deep : 0 < q .desk .stack .depth) where
+    abbrev ps' : List ℕ
+    ps' = placedAt (q .desk .stack) (q .desk .ends) place
+
+    pub sound-placed : SoundWhole (placed place q)
+    sound-placed =
+        sound-framed q (q .desk .stack) ps' s (placed-columns (q .desk .stack) place (q .desk .arena) (q .desk .ends) (s .sheet .columns) deep)
+        (placed-stacked (q .desk .stack) place (q .desk .arena) (q .desk .ends) (s .sheet .columns) deep (textsIn (q .texts)) (record { columns = s .sheet .columns; good = s .good }) .good)
+
+    pub topped-placed : Topped (q .desk .stack) ps'
+    topped-placed = topped (q .desk .stack) (q .desk .arena) ps' (placed-columns (q .desk .stack) place (q .desk .arena) (q .desk .ends) (s .sheet .columns) deep) deep
+
+    -- its arguments are as they were
+    pub given-placed : (P : (bytes ends : List ℕ) → Type 0) → P (topBytes (q .desk .stack) (q .desk .arena) (q .desk .ends)) (topEnds (q .desk .stack) (q .desk .ends))
+        → P (topBytes (q .desk .stack) (q .desk .arena) ps') (topEnds (q .desk .stack) ps')
+    given-placed P h =
+        subst (λ (e : List ℕ). P (topBytes (q .desk .stack) (q .desk .arena) ps') e) (sym (placed-ends (q .desk .stack) place (q .desk .arena) (q .desk .ends) (s .sheet .columns) deep))
+        (subst (λ (l : List ℕ). P l (topEnds (q .desk .stack) (q .desk .ends))) (sym (placed-bytes (q .desk .stack) place (q .desk .arena) (q .desk .ends) (s .sheet .columns) deep)) h)
 
 -- an item that is no text
 resumed-is : (p : Printer) (ts : List Text) (w : What) (l es : List ℕ) (s : State) → PlainItem w → resumed p w l s ≡ work p (itemBy ts w l es) s
@@ -145,20 +167,20 @@ module _ (p : Printer) (q : Whole) (stored : ℕ) (few : stored ≤ 10000) (w : 
   }
 
   -- an item that is no text
-  pub worked-item : (h : What) (l : List ℕ) → PlainItem h → 0 < q .desk .stack .depth → topEntry (q .desk .stack) .what ≡ h → l ≡ topBytes (q .desk .stack) (q .desk .arena)
+  pub worked-item : (h : What) (l : List ℕ) → PlainItem h → 0 < q .desk .stack .depth → topEntry (q .desk .stack) (q .desk .ends) .what ≡ h → l ≡ topBytes (q .desk .stack) (q .desk .arena) (q .desk .ends)
       → (q₂ : Whole) → q₂ ≡ stacked (below (q .desk .stack)) q → Did (resumed p h l) q₂ w written q' row' → WorkedTo p q stored w written q' stored row'
   worked-item h l pl deep top e q₂ z d =
       worked (resumed p h l) (stacked (below (q .desk .stack)) q) stored few refl (subst (λ (v : Whole). Did (resumed p h l) v w written q' row') z d)
       (λ x c f g.
       ap (λ (y : State). resumed p h l (stateIn (stacked (below (q .desk .stack)) q) y)) (same-stored x stored f)
       ∙ ap (λ (v : List ℕ). resumed p h v (stateIn (stacked (below (q .desk .stack)) q) x)) e
-      ∙ resumed-is p (textsIn (q .texts)) h (topBytes (q .desk .stack) (q .desk .arena)) (topEnds (q .desk .stack) (q .desk .ends)) (stateIn (stacked (below (q .desk .stack)) q) x) pl
-      ∙ sym (top-step p q x c (itemBy (textsIn (q .texts)) h (topBytes (q .desk .stack) (q .desk .arena)) (topEnds (q .desk .stack) (q .desk .ends)))
+      ∙ resumed-is p (textsIn (q .texts)) h (topBytes (q .desk .stack) (q .desk .arena) (q .desk .ends)) (topEnds (q .desk .stack) (q .desk .ends)) (stateIn (stacked (below (q .desk .stack)) q) x) pl
+      ∙ sym (top-step p q x c (itemBy (textsIn (q .texts)) h (topBytes (q .desk .stack) (q .desk .arena) (q .desk .ends)) (topEnds (q .desk .stack) (q .desk .ends)))
       (stackOf (textsIn (q .texts)) (below (q .desk .stack)) (q .desk .arena) (q .desk .ends)) (top-item (textsIn (q .texts)) (q .desk .stack) (q .desk .arena) (q .desk .ends) h deep top)))
 
-  module _ (n : Name) (k count : ℕ) (deep : 0 < q .desk .stack .depth) (top : topEntry (q .desk .stack) .what ≡ what.Reading n k count) where
+  module _ (n : Name) (k count : ℕ) (deep : 0 < q .desk .stack .depth) (top : topEntry (q .desk .stack) (q .desk .ends) .what ≡ what.Reading n k count) where
     abbrev args : List (List ℕ)
-    args = argumentsOf (topBytes (q .desk .stack) (q .desk .arena)) (topEnds (q .desk .stack) (q .desk .ends)) count
+    args = argumentsOf (topBytes (q .desk .stack) (q .desk .arena) (q .desk .ends)) (topEnds (q .desk .stack) (q .desk .ends)) count
 
     abbrev beneath : List Item
     beneath = stackOf (textsIn (q .texts)) (below (q .desk .stack)) (q .desk .arena) (q .desk .ends)
@@ -178,19 +200,22 @@ module _ (p : Printer) (q : Whole) (stored : ℕ) (few : stored ≤ 10000) (w : 
         (λ x c f g. ap (λ (y : State). let v = stateIn (stacked (below (q .desk .stack)) q) y in leave (v .tables .opened) v) (same-stored x stored f) ∙ text-step x c [] e)
 
     -- its next line
-    module _ (place : ℕ) (line : List ℕ) (e : unread (textOf n (textsIn (q .texts))) k ≡ line ∷ unread (textOf n (textsIn (q .texts))) place) where
+    module _ (sound : SoundWhole q) (place : ℕ) (line : List ℕ) (e : unread (textOf n (textsIn (q .texts))) k ≡ line ∷ unread (textOf n (textsIn (q .texts))) place) where
       abbrev q₁ : Whole
-      q₁ = stacked (placedAt (q .desk .stack) place) q
+      q₁ = placed place q
 
       line-step : (x : State) → x .closing ≡ none → readLine p (ltb (x .input .stored) 10000) args line (stateIn q₁ x) ≡ step p (stateIn q x)
       line-step x c =
           ap (λ (v : List Item). readLine p (ltb (x .input .stored) 10000) args line (state.withStack v (stateIn q x)))
-          (placed-item (q .desk .stack) place (textsIn (q .texts)) (q .desk .arena) (q .desk .ends) n k count deep top)
+          (placed-item (q .desk .stack) place (q .desk .arena) (q .desk .ends) (sound .sheet .columns) deep (textsIn (q .texts)) n k count top)
           ∙ text-step x c (line ∷ unread (textOf n (textsIn (q .texts))) place) e
 
-      pub worked-line : (more : ℕ) → more ≡ suc stored → stored < 10000 → (q₂ : Whole) → q₂ ≡ q₁ → Did (deal p args line) q₂ w written q' row' → WorkedTo p q stored w written q' more row'
-      worked-line more m h q₂ z d =
-          worked (deal p args line) q₁ more (omega (arith, m, h)) refl (subst (λ (v : Whole). Did (deal p args line) v w written q' row') z d)
+      pub worked-line : (more : ℕ) → more ≡ suc stored → stored < 10000
+          → Did (deal p (argumentsOf (topBytes (q₁ .desk .stack) (q₁ .desk .arena) (q₁ .desk .ends)) (topEnds (q₁ .desk .stack) (q₁ .desk .ends)) count) line) q₁ w written q' row'
+          → WorkedTo p q stored w written q' more row'
+      worked-line more m h d =
+          let same = given-placed q sound place deep (λ l es. argumentsOf l es count ≡ args) refl in
+          worked (deal p args line) q₁ more (omega (arith, m, h)) refl (subst (λ (v : List (List ℕ)). Did (deal p v line) q₁ w written q' row') same d)
           (λ x c f g.
           ap (λ (i : ℕ). deal p args line (stateIn q₁ (withStored i x))) (m ∙ ap suc (sym f))
           ∙ sym (ap (λ (b : Bool). readLine p b args line (stateIn q₁ x)) (lt-ltb (x .input .stored) 10000 (omega (arith, f, h)))) ∙ line-step x c)
@@ -244,6 +269,6 @@ quiet-closed false t h e = refl
 quiet-closed true t h e = let z = h refl in let y : _≡_ {A = ℕ} 0 1 = cc in absurd (omega arith)
 
 -- a stack with a text on top has at most 16 items
-pub text-few : (s : Stack) (t : Bool) → Fits s → isText (topEntry s .what) ≡ t → t ≡ true → s .depth ≤ 16
-text-few s false f e z = let y : _≡_ {A = ℕ} 0 1 = cc in absurd (omega arith)
-text-few s true f e z = subst (λ (b : Bool). s .depth ≤ limitBy b) e f
+pub text-few : (s : Stack) (ends : List ℕ) (t : Bool) → Fits s ends → isText (topEntry s ends .what) ≡ t → t ≡ true → s .depth ≤ 16
+text-few s ps false f e z = let y : _≡_ {A = ℕ} 0 1 = cc in absurd (omega arith)
+text-few s ps true f e z = subst (λ (b : Bool). s .depth ≤ limitBy b) e f

@@ -93,12 +93,12 @@ pub record ReadyItem (w : What) (line : List ℕ) (size : ℕ) (opened : Bool) :
 
 -- where a definition is open, a text is on top or the stack is empty
 abbrev pub Quiet : Whole → Type 0
-Quiet q = q .opening .there ≡ true → 0 < q .desk .stack .depth → isText (topEntry (q .desk .stack) .what) ≡ true
+Quiet q = q .opening .there ≡ true → 0 < q .desk .stack .depth → isText (topEntry (q .desk .stack) (q .desk .ends) .what) ≡ true
 
 -- a piece of work may be done
 pub record ReadyWork (q : Whole) (stored : ℕ) (row : List ℕ) (p : Printer) : Type 0 where
   pub sound : SoundWhole q
-  pub fits : Fits (q .desk .stack)
+  pub fits : Fits (q .desk .stack) (q .desk .ends)
   pub quiet : Quiet q
   pub counted : stored ≤ 10000
   pub long : length row ≡ 872
@@ -108,13 +108,13 @@ pub record ReadyWork (q : Whole) (stored : ℕ) (row : List ℕ) (p : Printer) :
 pub record ReadyText (q : Whole) (stored : ℕ) (row : List ℕ) (p : Printer) (name : Name) (place count : ℕ) : Type 0 where
   pub ready : ReadyWork q stored row p
   pub deep : 0 < q .desk .stack .depth
-  pub top : topEntry (q .desk .stack) .what ≡ what.Reading name place count
+  pub top : topEntry (q .desk .stack) (q .desk .ends) .what ≡ what.Reading name place count
 
 -- it is no text
 pub record ReadyTaken (q : Whole) (stored : ℕ) (row : List ℕ) (p : Printer) (w : What) : Type 0 where
   pub ready : ReadyWork q stored row p
   pub deep : 0 < q .desk .stack .depth
-  pub top : topEntry (q .desk .stack) .what ≡ w
+  pub top : topEntry (q .desk .stack) (q .desk .ends) .what ≡ w
   pub other : isText w ≡ false
 
 -- One piece of work is done as the rules say, in every open session with these parts.
@@ -122,7 +122,7 @@ pub record WorkedTo (p : printers.Printer) (q : Whole) (stored : ℕ) (w : Way) 
   pub is : (x : State) → x .closing ≡ none → x .input .stored ≡ stored → (q .desk .stack .depth ≡ 0 → x .input .ended ≡ true)
       → works (take written row') (closeBy w (stateIn q' (withStored stored' x))) ≡ step p (stateIn q x)
   pub sound : SoundWhole q'
-  pub fits : Fits (q' .desk .stack)
+  pub fits : Fits (q' .desk .stack) (q' .desk .ends)
   pub few : written ≤ 872
   pub long : length row' ≡ 872
   pub kept : KeptStore w (q .texts .store) (q' .texts .store)

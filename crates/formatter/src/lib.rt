@@ -91,7 +91,7 @@ pub fn deal(
     cells: &mut [u8; 512],
     row: &mut [u8; 872],
     arena: &mut [u8; 8704],
-    ends: &mut [u16; 153],
+    ends: &mut [u16; 221],
     store: &mut [u8],
     text_firsts: &mut [u8; 64],
     text_seconds: &mut [u8; 64],
@@ -154,17 +154,16 @@ pub fn deal(
     )
 }
 
-// A line of the text that is on top of the stack it was called on, with the arguments of its call.
+// A line of the text on top of the stack, with the arguments of its call.
 fn deal_stored(
     top: Top,
     count: u8,
-    called: Stack,
     printer: Printer,
     status: Status,
     cells: &mut [u8; 512],
     row: &mut [u8; 872],
     arena: &mut [u8; 8704],
-    ends: &mut [u16; 153],
+    ends: &mut [u16; 221],
     store: &mut [u8],
     text_firsts: &mut [u8; 64],
     text_seconds: &mut [u8; 64],
@@ -175,16 +174,17 @@ fn deal_stored(
     values: &mut [i32; 64],
     steps: &mut [i32; 64],
 ) -> Step
-    requires { ⌜ Begins (wholeOf status (now cells) (now arena) (now ends) (now store) (now «text_firsts») (now «text_seconds») (now kinds) (now lengths) (now firsts) (now seconds) (now values) (now steps)) [] (now row) printer × TopInside [] (now store) top × Topped called × Arguments (topBytes called (now arena)) (topEnds called (now ends)) count ⌝ }
-    ensures { λ r. ⌜ Did (λ s. rules.deal (printerOf printer) (argumentsOf (topBytes called (now (arena .entry))) (topEnds called (now (ends .entry))) count) (nextLine [] (now (store .entry)) top) s) (wholeOf status (now (cells .entry)) (now (arena .entry)) (now (ends .entry)) (now (store .entry)) (now («text_firsts» .entry)) (now («text_seconds» .entry)) (now (kinds .entry)) (now (lengths .entry)) (now (firsts .entry)) (now (seconds .entry)) (now (values .entry)) (now (steps .entry))) (r .way) (r .written) (wholeOf (r .status) (now (cells .exit)) (now (arena .exit)) (now (ends .exit)) (now (store .exit)) (now («text_firsts» .exit)) (now («text_seconds» .exit)) (now (kinds .exit)) (now (lengths .exit)) (now (firsts .exit)) (now (seconds .exit)) (now (values .exit)) (now (steps .exit))) (now (row .exit)) ⌝ }
+    requires { ⌜ Begins (wholeOf status (now cells) (now arena) (now ends) (now store) (now «text_firsts») (now «text_seconds») (now kinds) (now lengths) (now firsts) (now seconds) (now values) (now steps)) [] (now row) printer × TopInside [] (now store) top × Topped (status .stack) (now ends) × Arguments (topBytes (status .stack) (now arena) (now ends)) (topEnds (status .stack) (now ends)) count ⌝ }
+    ensures { λ r. ⌜ Did (λ s. rules.deal (printerOf printer) (argumentsOf (topBytes (status .stack) (now (arena .entry)) (now (ends .entry))) (topEnds (status .stack) (now (ends .entry))) count) (nextLine [] (now (store .entry)) top) s) (wholeOf status (now (cells .entry)) (now (arena .entry)) (now (ends .entry)) (now (store .entry)) (now («text_firsts» .entry)) (now («text_seconds» .entry)) (now (kinds .entry)) (now (lengths .entry)) (now (firsts .entry)) (now (seconds .entry)) (now (values .entry)) (now (steps .entry))) (r .way) (r .written) (wholeOf (r .status) (now (cells .exit)) (now (arena .exit)) (now (ends .exit)) (now (store .exit)) (now («text_firsts» .exit)) (now («text_seconds» .exit)) (now (kinds .exit)) (now (lengths .exit)) (now (firsts .exit)) (now (seconds .exit)) (now (values .exit)) (now (steps .exit))) (now (row .exit)) ⌝ }
 {
     let layout = status.layout;
     let page = status.page;
     let opening = status.opening;
+    let stack = status.stack;
     let mut given = [0u16; 9];
-    input::load_ends(called, &*ends, &mut given);
+    input::load_ends(stack, &*ends, &mut given);
     let mut out = [0u8; 512];
-    let arguments = input::top_bytes(called, &*arena);
+    let arguments = input::top_bytes(stack, &*arena, &*ends);
     let dealt = dealing::read(
         b"",
         top,
@@ -297,7 +297,7 @@ fn read_text(
     cells: &mut [u8; 512],
     row: &mut [u8; 872],
     arena: &mut [u8; 8704],
-    ends: &mut [u16; 153],
+    ends: &mut [u16; 221],
     store: &mut [u8],
     text_firsts: &mut [u8; 64],
     text_seconds: &mut [u8; 64],
@@ -323,14 +323,13 @@ fn read_text(
     );
     match unread_line(&*store, found, place) {
         Unread::Line(top, next) => {
-            let after = with_stack(status, input::set_place(stack, next));
+            input::set_place(stack, &mut *ends, next);
             if stored < 10000 {
                 let step = deal_stored(
                     top,
                     count,
-                    stack,
                     printer,
-                    after,
+                    status,
                     cells,
                     row,
                     arena,
@@ -347,7 +346,7 @@ fn read_text(
                 );
                 return counted(step, stored + 1);
             }
-            counted(stay(Way::Refused(10), after), stored)
+            counted(stay(Way::Refused(10), status), stored)
         }
         Unread::Nothing => counted(leave(with_stack(status, input::pop(stack))), stored),
     }
@@ -363,7 +362,7 @@ fn resume(
     cells: &mut [u8; 512],
     row: &mut [u8; 872],
     arena: &mut [u8; 8704],
-    ends: &mut [u16; 153],
+    ends: &mut [u16; 221],
     store: &mut [u8],
     text_firsts: &mut [u8; 64],
     text_seconds: &mut [u8; 64],
@@ -508,7 +507,7 @@ fn work_end(
     cells: &[u8; 512],
     row: &mut [u8; 872],
     arena: &mut [u8; 8704],
-    ends: &mut [u16; 153],
+    ends: &mut [u16; 221],
     text_firsts: &[u8; 64],
     text_seconds: &[u8; 64],
 ) -> Outcome
@@ -561,7 +560,7 @@ fn take_item(
     cells: &mut [u8; 512],
     row: &mut [u8; 872],
     arena: &mut [u8; 8704],
-    ends: &mut [u16; 153],
+    ends: &mut [u16; 221],
     store: &mut [u8],
     text_firsts: &mut [u8; 64],
     text_seconds: &mut [u8; 64],
@@ -577,7 +576,7 @@ fn take_item(
 {
     let stack = status.stack;
     let mut line = [0u8; 512];
-    let size = input::load(stack, &*arena, &mut line);
+    let size = input::load(stack, &*arena, &*ends, &mut line);
     let after = with_stack(status, input::pop(stack));
     let step = resume(
         what,
@@ -610,7 +609,7 @@ pub fn work(
     cells: &mut [u8; 512],
     row: &mut [u8; 872],
     arena: &mut [u8; 8704],
-    ends: &mut [u16; 153],
+    ends: &mut [u16; 221],
     store: &mut [u8],
     text_firsts: &mut [u8; 64],
     text_seconds: &mut [u8; 64],
@@ -641,7 +640,7 @@ pub fn work(
         );
         return counted(moved(outcome, status), stored);
     }
-    let entry = input::top(stack);
+    let entry = input::top(stack, &*ends);
     let what = entry.what;
     match what {
         What::Reading(name, place, count) => read_text(

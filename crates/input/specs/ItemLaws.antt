@@ -5,10 +5,8 @@ use mathlib.Core.List.{List, [], _∷_, _++_}
 use mathlib.Core.Option.{Option, some}
 use Prim.Native.Nat.{ℕ, zero, suc, _+_, _-_, _*_, _≤_, _<_}
 use native.Mathlib.Omega.{arith}
-use lib.Dec.{eqb, ltb}
-use lib.ListN.{length, take, drop, getD, set, length-drop, drop-of-length-le, List·getD-eq-default}
-use lib.Seq.{getD-set-same, getD-set-other, set-out, set-getD, drop-drop}
-use borrow.Author.Tests.{eqb-true, eqb-false, ltb-true, ltb-false}
+use lib.ListN.{length, take, drop, length-drop, drop-of-length-le}
+use lib.Seq.{drop-drop}
 use Rattle.rules.specs.declared.Name.{Name}
 use Rattle.rules.specs.declared.Kind.{Kind}
 use Rattle.rules.specs.declared.Kind.the-variants.{Macro, String}
@@ -25,17 +23,18 @@ use Rattle.input.specs.declared.What.{What}
 use Rattle.input.specs.declared.What.the-variants as what
 use Rattle.input.specs.declared.Entry.{Entry}
 use Rattle.input.specs.declared.Stack.{Stack}
-use Rattle.input.specs.Frames.{Frame, frame, entry, noEntry, noFrames, frameAt, framesTo, framesOf, topFrame, topEntry, topBytes, topEnds, Columns, Topped, PushedTo, below, moved, movedEntry, placedAt, isCalled, calledTo}
+use Rattle.input.specs.Frames.{Frame, frame, noFrames, entryAt, frameAt, framesTo, framesOf, topFrame, topEntry, topBytes, topEnds, Columns, Topped, PushedTo, below, moved, movedEntry, placedIn, placedAt, isCalled, calledTo}
+use Rattle.input.specs.FrameLaws.{frames-kept, placed-entry, placed-size, placed-before, placed-behind, placed-length}
 use Rattle.input.specs.Items.{unreadBy, unread, itemBy, itemOf, itemsOf, stackOf, GoodBy, Good, Stacked}
 
-frames-to : (es : List Entry) (bs ps : List ℕ) (d : ℕ) → length (framesTo es bs ps d) ≡ d
+frames-to : (bs ps : List ℕ) (d : ℕ) → length (framesTo bs ps d) ≡ d
 unfolding framesTo
-frames-to es bs ps zero = refl
-frames-to es bs ps (suc d) = ap suc (frames-to es bs ps d)
+frames-to bs ps zero = refl
+frames-to bs ps (suc d) = ap suc (frames-to bs ps d)
 
 -- There are as many frames as the stack is deep.
 pub frames-length : (s : Stack) (arena ends : List ℕ) → length (framesOf s arena ends) ≡ s .depth
-frames-length s bs ps = frames-to (s .entries) bs ps (s .depth)
+frames-length s bs ps = frames-to bs ps (s .depth)
 
 -- There are as many items as frames.
 pub items-length : (ts : List Text) (fs : List Frame) → length (itemsOf ts fs) ≡ length fs
@@ -50,14 +49,14 @@ stack-length ts s bs ps = items-length ts (framesOf s bs ps) ∙ frames-length s
 -- A stack is its top frame and the frames below it.
 pub top-first : (s : Stack) (arena ends : List ℕ) → 0 < s .depth → framesOf s arena ends ≡ topFrame s arena ends ∷ framesOf (below s) arena ends
 unfolding framesTo
-top-first s bs ps h = let e : s .depth ≡ suc (s .depth - 1) = omega arith in ap (framesTo (s .entries) bs ps) e
+top-first s bs ps h = let e : s .depth ≡ suc (s .depth - 1) = omega arith in ap (framesTo bs ps) e
 
 -- The same of its items, where it is known what the one on top is.
-pub top-item : (ts : List Text) (s : Stack) (arena ends : List ℕ) (w : What) → 0 < s .depth → topEntry s .what ≡ w
-    → stackOf ts s arena ends ≡ itemBy ts w (topBytes s arena) (topEnds s ends) ∷ stackOf ts (below s) arena ends
+pub top-item : (ts : List Text) (s : Stack) (arena ends : List ℕ) (w : What) → 0 < s .depth → topEntry s ends .what ≡ w
+    → stackOf ts s arena ends ≡ itemBy ts w (topBytes s arena ends) (topEnds s ends) ∷ stackOf ts (below s) arena ends
 unfolding itemsOf
 top-item ts s bs ps w h e =
-    ap (itemsOf ts) (top-first s bs ps h) ∙ ap (λ (x : What). itemBy ts x (topBytes s bs) (topEnds s ps) ∷ stackOf ts (below s) bs ps) e
+    ap (itemsOf ts) (top-first s bs ps h) ∙ ap (λ (x : What). itemBy ts x (topBytes s bs ps) (topEnds s ps) ∷ stackOf ts (below s) bs ps) e
 
 -- The first of the frames is the one on top, and the others lie below it.
 pub top-known : (s : Stack) (arena ends : List ℕ) (f : Frame) (fs : List Frame) → framesOf s arena ends ≡ f ∷ fs
@@ -65,36 +64,36 @@ pub top-known : (s : Stack) (arena ends : List ℕ) (f : Frame) (fs : List Frame
 top-known s bs ps f fs e = let h = top-first s bs ps (omega (arith, frames-length s bs ps, ap length e)) in (cc, cc)
 
 -- The frame on top of a stack is good.
-pub top-good : (ts : List Text) (s : Stack) (arena ends : List ℕ) (w : What) → 0 < s .depth → topEntry s .what ≡ w
-    → Stacked ts s arena ends → GoodBy ts w (topBytes s arena) (topEnds s ends)
+pub top-good : (ts : List Text) (s : Stack) (arena ends : List ℕ) (w : What) → 0 < s .depth → topEntry s ends .what ≡ w
+    → Stacked ts s arena ends → GoodBy ts w (topBytes s arena ends) (topEnds s ends)
 top-good ts s bs ps w h e k =
-    subst (λ (x : What). GoodBy ts x (topBytes s bs) (topEnds s ps)) e (subst (Good ts) (top-first s bs ps h) (k .good) .0)
+    subst (λ (x : What). GoodBy ts x (topBytes s bs ps) (topEnds s ps)) e (subst (Good ts) (top-first s bs ps h) (k .good) .0)
 
 -- Nothing lies on a stack that is not deep.
 pub none-there : (ts : List Text) (s : Stack) (arena ends : List ℕ) → s .depth ≡ 0 → stackOf ts s arena ends ≡ []
 unfolding itemsOf framesTo
-none-there ts s bs ps e = ap (λ (d : ℕ). itemsOf ts (framesTo (s .entries) bs ps d)) e
+none-there ts s bs ps e = ap (λ (d : ℕ). itemsOf ts (framesTo bs ps d)) e
 
 -- There is a frame on top of a stack that is deep.
-pub topped : (s : Stack) (arena ends : List ℕ) → Columns s arena ends → 0 < s .depth → Topped s
+pub topped : (s : Stack) (arena ends : List ℕ) → Columns s arena ends → 0 < s .depth → Topped s ends
 topped s bs ps k h = record { some = h; few = k .few; size = k .sizes (s .depth - 1) (omega arith) }
 
 -- What lies below keeps to the limits.
 pub below-columns : (s : Stack) (arena ends : List ℕ) → Columns s arena ends → Columns (below s) arena ends
 below-columns s bs ps k = record { few = omega (arith, k .few); long = k .long; ends-long = k .ends-long; sizes = λ i h. k .sizes i (omega arith) }
 
-good-down : (ts : List Text) (es : List Entry) (bs ps : List ℕ) (d : ℕ) → Good ts (framesTo es bs ps d) → Good ts (framesTo es bs ps (d - 1))
+good-down : (ts : List Text) (bs ps : List ℕ) (d : ℕ) → Good ts (framesTo bs ps d) → Good ts (framesTo bs ps (d - 1))
 unfolding framesTo
-good-down ts es bs ps zero g = g
-good-down ts es bs ps (suc d) g = let e : d ≡ suc d - 1 = omega arith in subst (λ (k : ℕ). Good ts (framesTo es bs ps k)) e (g .1)
+good-down ts bs ps zero g = g
+good-down ts bs ps (suc d) g = let e : d ≡ suc d - 1 = omega arith in subst (λ (k : ℕ). Good ts (framesTo bs ps k)) e (g .1)
 
 -- What lies below is a stack.
 pub below-stacked : (ts : List Text) (s : Stack) (arena ends : List ℕ) → Stacked ts s arena ends → Stacked ts (below s) arena ends
 below-stacked ts s bs ps k =
-    record { columns = below-columns s bs ps (k .columns); good = good-down ts (s .entries) bs ps (s .depth) (k .good) }
+    record { columns = below-columns s bs ps (k .columns); good = good-down ts bs ps (s .depth) (k .good) }
 
 -- A stack with nothing on it is one, over any texts.
-pub empty-stacked : (ts : List Text) (arena ends : List ℕ) → length arena ≡ 8704 → length ends ≡ 153 → Stacked ts noFrames arena ends
+pub empty-stacked : (ts : List Text) (arena ends : List ℕ) → length arena ≡ 8704 → length ends ≡ 221 → Stacked ts noFrames arena ends
 unfolding framesTo
 empty-stacked ts bs ps a b = record { columns = record { few = omega arith; long = a; ends-long = b; sizes = λ i h. absurd (omega arith) }; good = tt }
 
@@ -122,44 +121,6 @@ abbrev pub movedFirst : (place : ℕ) → List Frame → List Frame
 movedFirst p [] = []
 movedFirst p (f ∷ fs) = movedFrame p f ∷ fs
 
--- the frames below a depth, where the entries below it are the same
-frames-same : (es es' : List Entry) (bs ps : List ℕ) (d : ℕ) → ((i : ℕ) → i < d → getD es' i noEntry ≡ getD es i noEntry) → framesTo es' bs ps d ≡ framesTo es bs ps d
-unfolding framesTo
-frames-same es es' bs ps zero h = refl
-frames-same es es' bs ps (suc d) h =
-    ap (λ (e : Entry). frame e (take (e .size) (drop (d * 512) bs)) (take 9 (drop (d * 9) ps)) ∷ framesTo es' bs ps d) (h d (omega arith))
-    ∙ ap (λ x. frameAt es bs ps d ∷ x) (frames-same es es' bs ps d (λ i k. h i (omega arith)))
-
-module _ (es : List Entry) (p d : ℕ) where
-  -- the entries with another place in that of a row
-  abbrev es' : List Entry
-  es' = set es d (movedEntry p (getD es d noEntry))
-
-  -- that entry; there is none to move behind the last
-  moved-here : getD es' d noEntry ≡ movedEntry p (getD es d noEntry)
-  moved-here = go (ltb d (length es)) refl
-    where
-      go : (t : Bool) → ltb d (length es) ≡ t → getD es' d noEntry ≡ movedEntry p (getD es d noEntry)
-      go true q = getD-set-same es d (movedEntry p (getD es d noEntry)) noEntry (ltb-true d (length es) q)
-      go false q =
-          let z = ltb-false d (length es) q in
-          let e : getD es d noEntry ≡ noEntry = List·getD-eq-default es noEntry z in
-          ap (λ x. getD x d noEntry) (set-out es d (movedEntry p (getD es d noEntry)) z) ∙ e ∙ sym (ap (movedEntry p) e)
-
-  moved-size : (i : ℕ) → getD es' i noEntry .size ≡ getD es i noEntry .size
-  moved-size i = go (eqb i d) refl
-    where
-      go : (t : Bool) → eqb i d ≡ t → getD es' i noEntry .size ≡ getD es i noEntry .size
-      go true q = let z = eqb-true i d q in subst (λ (k : ℕ). getD es' k noEntry .size ≡ getD es k noEntry .size) (sym z) (ap (λ (e : Entry). e .size) moved-here)
-      go false q = ap (λ (e : Entry). e .size) (getD-set-other es d i (movedEntry p (getD es d noEntry)) noEntry (eqb-false i d q))
-
-  moved-frames : (bs ps : List ℕ) → framesTo es' bs ps (suc d) ≡ movedFirst p (framesTo es bs ps (suc d))
-  unfolding framesTo
-  moved-frames bs ps =
-      ap (λ (e : Entry). frame e (take (e .size) (drop (d * 512) bs)) (take 9 (drop (d * 9) ps)) ∷ framesTo es' bs ps d) moved-here
-      ∙ ap (λ x. movedFrame p (frameAt es bs ps d) ∷ x)
-      (frames-same es es' bs ps d (λ i k. getD-set-other es d i (movedEntry p (getD es d noEntry)) noEntry (λ q. absurd (omega arith))))
-
 good-moved : (ts : List Text) (p : ℕ) (w : What) (l es : List ℕ) → GoodBy ts w l es → GoodBy ts (moved p w) l es
 good-moved ts p (what.Reading n k c) l es g = g
 good-moved ts p what.Text l es g = g
@@ -173,43 +134,65 @@ first-moved : (ts : List Text) (p : ℕ) (fs : List Frame) → Good ts fs → Go
 first-moved ts p [] g = g
 first-moved ts p (f ∷ fs) g = (good-moved ts p (f .entry .what) (f .bytes) (f .ends) (g .0), g .1)
 
-module _ (s : Stack) (p : ℕ) where
+moved-frames : (bs ps : List ℕ) (d p : ℕ) → d * 13 + 4 ≤ length ps → ((i : ℕ) → i < d → entryAt ps i .size ≤ 512)
+    → framesTo bs (placedIn ps d p) (suc d) ≡ movedFirst p (framesTo bs ps (suc d))
+unfolding framesTo
+moved-frames bs ps d p l z =
+    ap (λ (e : Entry). frame e (take (e .size) (drop (d * 512) bs)) (take 9 (drop (d * 13 + 4) (placedIn ps d p))) ∷ framesTo bs (placedIn ps d p) d) (placed-entry ps d p l)
+    ∙ ap (λ (x : List ℕ). frame (movedEntry p (entryAt ps d)) (frameAt bs ps d .bytes) (take 9 x) ∷ framesTo bs (placedIn ps d p) d) (placed-behind ps d p)
+    ∙ ap (λ x. movedFrame p (frameAt bs ps d) ∷ x) (frames-kept bs bs ps (placedIn ps d p) d refl (placed-before ps d p) z d (omega arith))
+
+-- another place in the frame on top
+module _ (s : Stack) (p : ℕ) (arena ends : List ℕ) (k : Columns s arena ends) (deep : 0 < s .depth) where
+  abbrev ends' : List ℕ
+  ends' = placedAt s ends p
+
   -- The frames are those with another place in the first one.
-  pub placed-frames : (arena ends : List ℕ) → framesOf (placedAt s p) arena ends ≡ movedFirst p (framesOf s arena ends)
-  unfolding framesTo
-  placed-frames bs ps = go (s .depth)
-    where
-      go : (d : ℕ) → framesTo (set (s .entries) (d - 1) (movedEntry p (getD (s .entries) (d - 1) noEntry))) bs ps d ≡ movedFirst p (framesTo (s .entries) bs ps d)
-      go zero = refl
-      go (suc d) =
-          let e : suc d - 1 ≡ d = omega arith in
-          ap (λ (k : ℕ). framesTo (set (s .entries) k (movedEntry p (getD (s .entries) k noEntry))) bs ps (suc d)) e ∙ moved-frames (s .entries) p d bs ps
+  pub placed-frames : framesOf s arena ends' ≡ movedFirst p (framesOf s arena ends)
+  unfolding placedAt
+  placed-frames =
+      let e : s .depth ≡ suc (s .depth - 1) = omega arith in
+      ap (framesTo arena (placedIn ends (s .depth - 1) p)) e
+      ∙ moved-frames arena ends (s .depth - 1) p (omega (arith, k .few, k .ends-long)) (λ i h. k .sizes i (omega arith))
+      ∙ ap (λ (d : ℕ). movedFirst p (framesTo arena ends d)) (sym e)
+
+  -- The entry of the first one has that place.
+  pub placed-top : topEntry s ends' ≡ movedEntry p (topEntry s ends)
+  unfolding placedAt
+  placed-top = placed-entry ends (s .depth - 1) p (omega (arith, k .few, k .ends-long))
+
+  -- Its bytes and its arguments are as they were.
+  pub placed-bytes : topBytes s arena ends' ≡ topBytes s arena ends
+  placed-bytes = ap (λ (e : Entry). take (e .size) (drop ((s .depth - 1) * 512) arena)) placed-top
+
+  pub placed-ends : topEnds s ends' ≡ topEnds s ends
+  unfolding placedAt
+  placed-ends = ap (take 9) (placed-behind ends (s .depth - 1) p)
 
   -- A text is then read from that place on.
-  pub placed-item : (ts : List Text) (arena ends : List ℕ) (n : Name) (k c : ℕ) → 0 < s .depth → topEntry s .what ≡ what.Reading n k c
-      → stackOf ts (placedAt s p) arena ends ≡ itemBy ts (what.Reading n p c) (topBytes s arena) (topEnds s ends) ∷ stackOf ts (below s) arena ends
+  pub placed-item : (ts : List Text) (n : Name) (m c : ℕ) → topEntry s ends .what ≡ what.Reading n m c
+      → stackOf ts s arena ends' ≡ itemBy ts (what.Reading n p c) (topBytes s arena ends) (topEnds s ends) ∷ stackOf ts (below s) arena ends
   unfolding itemsOf
-  placed-item ts bs ps n k c h e =
-      ap (itemsOf ts) (placed-frames bs ps ∙ ap (movedFirst p) (top-first s bs ps h))
-      ∙ ap (λ (x : What). itemBy ts (moved p x) (topBytes s bs) (topEnds s ps) ∷ stackOf ts (below s) bs ps) e
+  placed-item ts n m c e =
+      ap (itemsOf ts) (placed-frames ∙ ap (movedFirst p) (top-first s arena ends deep))
+      ∙ ap (λ (x : What). itemBy ts (moved p x) (topBytes s arena ends) (topEnds s ends) ∷ stackOf ts (below s) arena ends) e
 
-  -- It keeps to its limits.
-  pub placed-columns : (arena ends : List ℕ) → Columns s arena ends → Columns (placedAt s p) arena ends
-  placed-columns bs ps k =
-      record { few = k .few; long = k .long; ends-long = k .ends-long; sizes = λ i h. rw (moved-size (s .entries) p (s .depth - 1) i) (k .sizes i h) }
+  -- They keep to their limits.
+  pub placed-columns : Columns s arena ends'
+  unfolding placedAt
+  placed-columns = record {
+    few = k .few;
+    long = k .long;
+    ends-long = placed-length ends (s .depth - 1) p ∙ k .ends-long;
+    sizes = λ i h. subst (λ (n : ℕ). n ≤ 512) (sym (placed-sizes i h)) (k .sizes i h);
+  }
+    where
+      placed-sizes : (i : ℕ) → i < s .depth → entryAt (placedIn ends (s .depth - 1) p) i .size ≡ entryAt ends i .size
+      placed-sizes i h = placed-size ends (s .depth - 1) p i (omega (arith, k .few, k .ends-long)) (omega arith)
 
   -- It is a stack.
-  pub placed-stacked : (ts : List Text) (arena ends : List ℕ) → Stacked ts s arena ends → Stacked ts (placedAt s p) arena ends
-  placed-stacked ts bs ps k = record {
-    columns = placed-columns bs ps (k .columns);
-    good = subst (Good ts) (sym (placed-frames bs ps)) (first-moved ts p (framesOf s bs ps) (k .good));
-  }
-
-  -- What is no text stays as it is.
-  pub placed-other : moved p (topEntry s .what) ≡ topEntry s .what → placedAt s p ≡ s
-  placed-other e =
-      ap (λ (w : What). record { entries = set (s .entries) (s .depth - 1) (entry w (topEntry s .size)); depth = s .depth }) e
-      ∙ ap (λ (l : List Entry). record { entries = l; depth = s .depth }) (set-getD (s .entries) (s .depth - 1) noEntry)
+  pub placed-stacked : (ts : List Text) → Stacked ts s arena ends → Stacked ts s arena ends'
+  placed-stacked ts g = record { columns = placed-columns; good = subst (Good ts) (sym placed-frames) (first-moved ts p (framesOf s arena ends) (g .good)) }
 
 called-item : (ts : List Text) (n : Name) (w : What) (l es : List ℕ) → isCalled n w ≡ isReading n (itemBy ts w l es)
 called-item ts n (what.Reading m k c) l es = refl
@@ -220,16 +203,16 @@ called-item ts n (what.Others g) l es = refl
 called-item ts n (what.Acts r) l es = refl
 called-item ts n (what.Ejects p) l es = refl
 
-called-below : (ts : List Text) (n : Name) (es : List Entry) (bs ps : List ℕ) (d : ℕ) → calledTo n es d ≡ onStack n (itemsOf ts (framesTo es bs ps d))
+called-below : (ts : List Text) (n : Name) (bs ps : List ℕ) (d : ℕ) → calledTo n ps d ≡ onStack n (itemsOf ts (framesTo bs ps d))
 unfolding calledTo onStack itemsOf framesTo
-called-below ts n es bs ps zero = refl
-called-below ts n es bs ps (suc d) =
-    ap (λ (b : Bool). b || calledTo n es d) (called-item ts n (getD es d noEntry .what) (frameAt es bs ps d .bytes) (frameAt es bs ps d .ends))
-    ∙ ap (λ (b : Bool). isReading n (itemOf ts (frameAt es bs ps d)) || b) (called-below ts n es bs ps d)
+called-below ts n bs ps zero = refl
+called-below ts n bs ps (suc d) =
+    ap (λ (b : Bool). b || calledTo n ps d) (called-item ts n (entryAt ps d .what) (frameAt bs ps d .bytes) (frameAt bs ps d .ends))
+    ∙ ap (λ (b : Bool). isReading n (itemOf ts (frameAt bs ps d)) || b) (called-below ts n bs ps d)
 
--- Whether a text lies on the stack is told by the entries alone.
-pub on-stack : (ts : List Text) (n : Name) (s : Stack) (arena ends : List ℕ) → calledTo n (s .entries) (s .depth) ≡ onStack n (stackOf ts s arena ends)
-on-stack ts n s bs ps = called-below ts n (s .entries) bs ps (s .depth)
+-- Whether a text lies on the stack is told without the bytes.
+pub on-stack : (ts : List Text) (n : Name) (s : Stack) (arena ends : List ℕ) → calledTo n ends (s .depth) ≡ onStack n (stackOf ts s arena ends)
+on-stack ts n s bs ps = called-below ts n bs ps (s .depth)
 
 neither : (a b : Bool) → (a || b) ≡ false → (a ≡ false) × (b ≡ false)
 neither true b h = absurd (false≢true (sym h))

@@ -1,3 +1,5 @@
+pub mod Words
 pub mod Frames
+pub mod FrameLaws
 pub mod Items
 pub mod ItemLaws

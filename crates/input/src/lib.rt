@@ -1,11 +1,12 @@
-// The input stack: frames, each an entry, some bytes, and the places where arguments among the bytes end.
+// The input stack: frames, each four words that say what it is, some bytes, and the places where arguments among the bytes end.
 use rules::Breaking;
 use rules::Name;
 ghost use mathlib.Core.Path.{_≡_};
 ghost use Prim.Native.Nat.{_+_, _-_, _*_, _≤_, _<_};
 ghost use lib.ListN.{length};
 ghost use lib.Seq.{paste};
-ghost use Rattle.input.specs.Frames.{noFrames, Columns, Topped, PushedTo, LoadedTo, topEntry, topBytes, topEnds, below, moved, placedAt, isCalled, calledTo};
+ghost use Rattle.input.specs.Words.{numberOf, requestOf, nameWord, nameIn, periodOf, words, wordsOf, whatIn, whatOf};
+ghost use Rattle.input.specs.Frames.{noFrames, entryAt, entered, Columns, Topped, PushedTo, LoadedTo, topEntry, topBytes, topEnds, below, placedAt, isCalled, calledTo};
 
 // What an item of the input stack is, beside its bytes.
 pub enum What {
@@ -31,23 +32,139 @@ pub struct Entry {
     pub size: u16,
 }
 
-// The frames that lie on the stack, the last on top: at most 16 items, and one that is held for a moment on top of them.
+// How many frames lie on the stack, the last on top: at most 16 items, and one that is held for a moment on top of them.
 pub struct Stack {
-    pub entries: [Entry; 17],
     pub depth: usize,
+}
+
+// The words of a frame that say what it is: its kind with a small number, and two for a name, a place or a page.
+pub struct Words {
+    pub first: u16,
+    pub second: u16,
+    pub third: u16,
 }
 
 // A stack with nothing on it.
 pub fn empty() -> Stack
     ensures { λ r. ⌜ r ≡ noFrames ⌝ }
 {
-    let blank = Entry {
-        what: What::Ignored,
-        size: 0,
-    };
-    Stack {
-        entries: [blank; 17],
-        depth: 0,
+    Stack { depth: 0 }
+}
+
+// The number by which a request is held.
+fn number_of(request: Breaking) -> u8
+    ensures { λ r. ⌜ r ≡ numberOf request ⌝ }
+{
+    match request {
+        Breaking::Br => 0,
+        Breaking::Sp => 1,
+        Breaking::Bp => 2,
+        Breaking::Fi => 3,
+        Breaking::Nf => 4,
+        Breaking::Ce => 5,
+        Breaking::In => 6,
+        Breaking::Ti => 7,
+    }
+}
+
+// The request of a number; a number that is none of theirs counts as the last.
+fn request_of(number: u8) -> Breaking
+    ensures { λ r. ⌜ r ≡ requestOf number ⌝ }
+{
+    match number {
+        0 => Breaking::Br,
+        1 => Breaking::Sp,
+        2 => Breaking::Bp,
+        3 => Breaking::Fi,
+        4 => Breaking::Nf,
+        5 => Breaking::Ce,
+        6 => Breaking::In,
+        _ => Breaking::Ti,
+    }
+}
+
+fn name_word(name: Name) -> u16
+    ensures { λ r. ⌜ r ≡ nameWord name ⌝ }
+{
+    name.first as u16 * 256 + name.second as u16
+}
+
+fn name_in(word: u16) -> Name
+    ensures { λ r. ⌜ r ≡ nameIn word ⌝ }
+{
+    Name {
+        first: (word / 256) as u8,
+        second: (word % 256) as u8,
+    }
+}
+
+// A kind and a small number in one word.
+fn first_word(kind: u16, small: u8) -> u16
+    requires { ⌜ kind < 256 ⌝ }
+    ensures { λ r. ⌜ r ≡ kind + 256 * small ⌝ }
+{
+    kind + 256 * (small as u16)
+}
+
+// The kind of a control line, with 1 for a period.
+fn period_word(period: bool) -> u16
+    ensures { λ r. ⌜ r ≡ periodOf period ⌝ }
+{
+    if period { 258 } else { 2 }
+}
+
+// The words of an item that has no name, place or page.
+fn alone(first: u16) -> Words
+    ensures { λ r. ⌜ r ≡ words first 0 0 ⌝ }
+{
+    Words {
+        first,
+        second: 0,
+        third: 0,
+    }
+}
+
+// The words of an item.
+fn words_of(what: What) -> Words
+    ensures { λ r. ⌜ (r ≡ wordsOf what) × (whatIn r ≡ what) ⌝ }
+{
+    match what {
+        What::Reading(name, place, count) => Words {
+            first: first_word(0, count),
+            second: name_word(name),
+            third: place,
+        },
+        What::Text => alone(1),
+        What::Control(period, name) => Words {
+            first: period_word(period),
+            second: name_word(name),
+            third: 0,
+        },
+        What::Ignored => alone(3),
+        What::Others(gap) => alone(first_word(4, gap)),
+        What::Acts(request) => alone(first_word(5, number_of(request))),
+        What::Ejects(page) => Words {
+            first: 6,
+            second: (page % 65536) as u16,
+            third: (page / 65536) as u16,
+        },
+    }
+}
+
+// The item of three words; a kind that is none of theirs is an ignored line.
+fn what_of(first: u16, second: u16, third: u16) -> What
+    ensures { λ r. ⌜ r ≡ whatOf first second third ⌝ }
+{
+    let kind = first % 256;
+    let small = (first / 256) as u8;
+    match kind {
+        0 => What::Reading(name_in(second), third, small),
+        1 => What::Text,
+        2 => What::Control(small != 0, name_in(second)),
+        4 => What::Others(small),
+        5 => What::Acts(request_of(small)),
+        6 => What::Ejects(second as u32 + 65536 * (third as u32)),
+        _ => What::Ignored,
     }
 }
 
@@ -63,8 +180,8 @@ fn put_bytes(arena: &mut [u8; 8704], at: usize, bytes: &[u8])
     }
 }
 
-fn put_ends(all: &mut [u16; 153], at: usize, ends: &[u16; 9])
-    requires { ⌜ (at + 9 ≤ 153) × (length (now all) ≡ 153) × (length (now ends) ≡ 9) ⌝ }
+fn put_ends(all: &mut [u16; 221], at: usize, ends: &[u16; 9])
+    requires { ⌜ (at + 9 ≤ 221) × (length (now all) ≡ 221) × (length (now ends) ≡ 9) ⌝ }
     ensures { λ _. ⌜ now (all .exit) ≡ paste (now (all .entry)) at (now (ends .entry)) 9 ⌝ }
 {
     let mut j: usize = 0;
@@ -75,11 +192,23 @@ fn put_ends(all: &mut [u16; 153], at: usize, ends: &[u16; 9])
     }
 }
 
+// What a frame is, and how many bytes it has, in its first four words.
+fn put_entry(all: &mut [u16; 221], at: usize, what: What, size: u16)
+    requires { ⌜ at + 4 ≤ 221 ⌝ }
+    ensures { λ _. ⌜ (now (all .exit) ≡ entered (now (all .entry)) at (wordsOf what) size) × (whatIn (wordsOf what) ≡ what) ⌝ }
+{
+    let words = words_of(what);
+    all[at] = words.first;
+    all[at + 1] = words.second;
+    all[at + 2] = words.third;
+    all[at + 3] = size;
+}
+
 // A frame goes on top of the stack; the callers count the items.
 pub fn push(
     stack: Stack,
     arena: &mut [u8; 8704],
-    ends: &mut [u16; 153],
+    ends: &mut [u16; 221],
     what: What,
     bytes: &[u8],
     given: &[u16; 9],
@@ -89,43 +218,50 @@ pub fn push(
 {
     let depth = stack.depth;
     put_bytes(&mut *arena, depth * 512, bytes);
-    put_ends(&mut *ends, depth * 9, given);
-    let mut entries = stack.entries;
-    let size = bytes.len() as u16;
-    let top = Entry { what, size };
-    entries[depth] = top;
-    Stack {
-        entries,
-        depth: depth + 1,
-    }
+    put_entry(&mut *ends, depth * 13, what, bytes.len() as u16);
+    put_ends(&mut *ends, depth * 13 + 4, given);
+    Stack { depth: depth + 1 }
+}
+
+// The entry of a frame.
+pub fn entry_at(ends: &[u16; 221], frame: usize) -> Entry
+    requires { ⌜ frame < 17 ⌝ }
+    ensures { λ r. ⌜ r ≡ entryAt (now (ends .entry)) frame ⌝ }
+{
+    let at = frame * 13;
+    let first = ends[at];
+    let second = ends[at + 1];
+    let third = ends[at + 2];
+    let size = ends[at + 3];
+    let what = what_of(first, second, third);
+    Entry { what, size }
 }
 
 // The entry of the frame on top.
-pub fn top(stack: Stack) -> Entry
+pub fn top(stack: Stack, ends: &[u16; 221]) -> Entry
     requires { ⌜ (0 < stack .depth) × (stack .depth ≤ 17) ⌝ }
-    ensures { λ r. ⌜ r ≡ topEntry stack ⌝ }
+    ensures { λ r. ⌜ r ≡ topEntry stack (now (ends .entry)) ⌝ }
 {
-    let entries = stack.entries;
-    entries[stack.depth - 1]
+    entry_at(ends, stack.depth - 1)
 }
 
 // The bytes of the frame on top, where they lie.
-pub fn top_bytes(stack: Stack, arena: &[u8]) -> &[u8]
-    requires { ⌜ Topped stack × (length (now arena) ≡ 8704) ⌝ }
-    ensures { λ r. ⌜ now r ≡ topBytes stack (now (arena .entry)) ⌝ }
+pub fn top_bytes<'a>(stack: Stack, arena: &'a [u8], ends: &[u16; 221]) -> &'a [u8]
+    requires { ⌜ Topped stack (now ends) × (length (now arena) ≡ 8704) ⌝ }
+    ensures { λ r. ⌜ now r ≡ topBytes stack (now (arena .entry)) (now (ends .entry)) ⌝ }
 {
-    let entry = top(stack);
+    let entry = top(stack, ends);
     let from = (stack.depth - 1) * 512;
     let to = from + entry.size as usize;
     &arena[from..to]
 }
 
 // The bytes of the frame on top are copied to the front of `out`; how many there are.
-pub fn load(stack: Stack, arena: &[u8; 8704], out: &mut [u8; 512]) -> usize
-    requires { ⌜ Topped stack × (length (now arena) ≡ 8704) × (length (now out) ≡ 512) ⌝ }
-    ensures { λ r. ⌜ LoadedTo stack (now (arena .entry)) r (now (out .exit)) ⌝ }
+pub fn load(stack: Stack, arena: &[u8; 8704], ends: &[u16; 221], out: &mut [u8; 512]) -> usize
+    requires { ⌜ Topped stack (now ends) × (length (now arena) ≡ 8704) × (length (now out) ≡ 512) ⌝ }
+    ensures { λ r. ⌜ LoadedTo stack (now (arena .entry)) (now (ends .entry)) r (now (out .exit)) ⌝ }
 {
-    let entry = top(stack);
+    let entry = top(stack, ends);
     let size = entry.size as usize;
     let at = (stack.depth - 1) * 512;
     let mut j: usize = 0;
@@ -138,11 +274,11 @@ pub fn load(stack: Stack, arena: &[u8; 8704], out: &mut [u8; 512]) -> usize
 }
 
 // The places where the arguments of the frame on top end.
-pub fn load_ends(stack: Stack, ends: &[u16; 153], out: &mut [u16; 9])
-    requires { ⌜ (0 < stack .depth) × (stack .depth ≤ 17) × (length (now ends) ≡ 153) × (length (now out) ≡ 9) ⌝ }
+pub fn load_ends(stack: Stack, ends: &[u16; 221], out: &mut [u16; 9])
+    requires { ⌜ (0 < stack .depth) × (stack .depth ≤ 17) × (length (now ends) ≡ 221) × (length (now out) ≡ 9) ⌝ }
     ensures { λ _. ⌜ now (out .exit) ≡ topEnds stack (now (ends .entry)) ⌝ }
 {
-    let from = (stack.depth - 1) * 9;
+    let from = (stack.depth - 1) * 13 + 4;
     let mut j: usize = 0;
     while j < 9 {
         let end = ends[from + j];
@@ -156,41 +292,20 @@ pub fn pop(stack: Stack) -> Stack
     requires { ⌜ 0 < stack .depth ⌝ }
     ensures { λ r. ⌜ r ≡ below stack ⌝ }
 {
-    let entries = stack.entries;
     Stack {
-        entries,
         depth: stack.depth - 1,
     }
 }
 
-// A text that is read up to another place; any other item as it is.
-fn moved_to(what: What, place: u16) -> What
-    ensures { λ r. ⌜ r ≡ moved place what ⌝ }
-{
-    match what {
-        What::Reading(name, _, count) => What::Reading(name, place, count),
-        _ => what,
-    }
-}
-
-// The stack with another place in the frame on top, if that is a text.
-pub fn set_place(stack: Stack, place: u16) -> Stack
+// Another place in the frame on top, if that is a text.
+pub fn set_place(stack: Stack, ends: &mut [u16; 221], place: u16)
     requires { ⌜ (0 < stack .depth) × (stack .depth ≤ 17) ⌝ }
-    ensures { λ r. ⌜ r ≡ placedAt stack place ⌝ }
+    ensures { λ _. ⌜ now (ends .exit) ≡ placedAt stack (now (ends .entry)) place ⌝ }
 {
-    let at = stack.depth - 1;
-    let mut entries = stack.entries;
-    let entry = entries[at];
-    let old = entry.what;
-    let what = moved_to(old, place);
-    let placed = Entry {
-        what,
-        size: entry.size,
-    };
-    entries[at] = placed;
-    Stack {
-        entries,
-        depth: stack.depth,
+    let at = (stack.depth - 1) * 13;
+    let first = ends[at];
+    if first % 256 == 0 {
+        ends[at + 2] = place;
     }
 }
 
@@ -210,15 +325,14 @@ fn is_called(what: What, name: Name) -> bool
 }
 
 // Whether a text of this name lies on the stack.
-pub fn is_on_stack(stack: Stack, name: Name) -> bool
+pub fn is_on_stack(stack: Stack, ends: &[u16; 221], name: Name) -> bool
     requires { ⌜ stack .depth ≤ 17 ⌝ }
-    ensures { λ r. ⌜ r ≡ calledTo name (stack .entries) (stack .depth) ⌝ }
+    ensures { λ r. ⌜ r ≡ calledTo name (now (ends .entry)) (stack .depth) ⌝ }
 {
-    let entries = stack.entries;
     let mut i = stack.depth;
     while 0 < i {
         i -= 1;
-        let entry = entries[i];
+        let entry = entry_at(ends, i);
         let what = entry.what;
         if is_called(what, name) {
             return true;

@@ -137,7 +137,7 @@ followed-some (b ∷ l) k h = refl
 module _ (rest : List ℕ) (s : Stack) (arena ends : List ℕ) (d : s .depth ≤ 16) where
   -- nothing follows
   pub followed-none : length rest ≡ 0 → Columns s arena ends → Followed rest s arena ends s arena ends
-  followed-none e k = record { is = λ ts. followed-none-items rest (stackOf ts s arena ends) e; good = λ ts g. g; columns = k; fits = fits-few s d }
+  followed-none e k = record { is = λ ts. followed-none-items rest (stackOf ts s arena ends) e; good = λ ts g. g; columns = k; fits = fits-few s ends d }
 
   -- a line follows
   pub followed-line : (w : What) (bytes : List ℕ) (r : Stack) (arena' ends' : List ℕ) → HeldTo (held.Item w) bytes s arena ends r arena' ends' → PlainItem w → 0 < length rest
@@ -183,7 +183,7 @@ module _ (fs ss : List ℕ) (n : ℕ) (planted : Planted) (y : Layout) (g : Page
     is = λ st ks ls i x. set-law p q line (Is z) t e (textsOf st fs ss ks ls n) x;
     good = λ st ks ls i h. h;
     sound = record { limits = of-new (Is z) z (t .limits) refl; above = of-new (Is z) z (t .above (s .above)) refl; numbered = s .numbered; few = s .few; line = s .line; indent = s .indent; next = s .next; columns = s .columns };
-    fits = fits-few k few;
+    fits = fits-few k ends few;
     few = omega arith;
     long = long;
   }
@@ -191,7 +191,7 @@ module _ (fs ss : List ℕ) (n : ℕ) (planted : Planted) (y : Layout) (g : Page
     is = λ st ks ls i x. set-law p q line Malformed t e (textsOf st fs ss ks ls n) x;
     good = λ st ks ls i h. h;
     sound = s;
-    fits = fits-few k few;
+    fits = fits-few k ends few;
     few = omega arith;
     long = long;
   }
@@ -199,7 +199,7 @@ module _ (fs ss : List ℕ) (n : ℕ) (planted : Planted) (y : Layout) (g : Page
     is = λ st ks ls i x. set-law p q line OutOfRange t e (textsOf st fs ss ks ls n) x;
     good = λ st ks ls i h. h;
     sound = s;
-    fits = fits-few k few;
+    fits = fits-few k ends few;
     few = omega arith;
     long = long;
   }
@@ -231,7 +231,7 @@ module _ (fs ss : List ℕ) (n : ℕ) (planted : Planted) (y : Layout) (g : Page
         ∙ sym (ap (λ (o : Option Text). goes (calledText o line v)) (u .1));
     good = λ st ks ls i q. let u = known-text m st fs ss ks ls n h i in t .good (textsOf st fs ss ks ls n) (u .0) (u .1) q;
     sound = record { limits = s .limits; above = s .above; numbered = s .numbered; few = s .few; line = s .line; indent = s .indent; next = s .next; columns = t .columns };
-    fits = fits-few (r .stack) (t .few);
+    fits = fits-few (r .stack) ends' (t .few);
     few = omega arith;
     long = long;
   }

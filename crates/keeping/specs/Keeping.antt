@@ -76,7 +76,7 @@ pub record Followed (rest : List ℕ) (s : Stack) (arena ends : List ℕ) (r : S
   pub is : (ts : List Text) → stackOf ts r arena' ends' ≡ followed rest (stackOf ts s arena ends)
   pub good : (ts : List Text) → KeepsGood ts s arena ends r arena' ends'
   pub columns : Columns r arena' ends'
-  pub fits : Fits r
+  pub fits : Fits r ends'
 
 -- a text that is called goes on the stack, or "10: input stack past 16 items"
 abbrev pub calledTo : Called → Layout → Page → Collected → Outcome

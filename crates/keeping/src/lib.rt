@@ -74,7 +74,7 @@ fn change(new: NewLayout, layout: Layout, page: Page, collected: Collected, stac
 }
 
 // if: "What follows its spaces, if anything, is dealt with as a line without second expansion"
-fn follow(rest: &[u8], stack: Stack, arena: &mut [u8; 8704], ends: &mut [u16; 153]) -> Stack
+fn follow(rest: &[u8], stack: Stack, arena: &mut [u8; 8704], ends: &mut [u16; 221]) -> Stack
     requires { ⌜ springs.Ready stack (now arena) (now ends) (now rest) ⌝ }
     ensures { λ r. ⌜ Followed (now (rest .entry)) stack (now (arena .entry)) (now (ends .entry)) r (now (arena .exit)) (now (ends .exit)) ⌝ }
 {
@@ -106,7 +106,7 @@ fn keep_if(
     row: &[u8; 872],
     stack: Stack,
     arena: &mut [u8; 8704],
-    ends: &mut [u16; 153],
+    ends: &mut [u16; 221],
     firsts: &[u8; 64],
     seconds: &[u8; 64],
     texts: usize,
@@ -163,7 +163,7 @@ pub fn keep(
     row: &[u8; 872],
     stack: Stack,
     arena: &mut [u8; 8704],
-    ends: &mut [u16; 153],
+    ends: &mut [u16; 221],
     firsts: &[u8; 64],
     seconds: &[u8; 64],
     texts: usize,
@@ -217,7 +217,7 @@ pub fn call(
     row: &[u8; 872],
     stack: Stack,
     arena: &mut [u8; 8704],
-    ends: &mut [u16; 153],
+    ends: &mut [u16; 221],
     firsts: &[u8; 64],
     seconds: &[u8; 64],
     texts: usize,

@@ -32,49 +32,49 @@ use Rattle.requests.specs.declared.Changed.{Changed}
 use Rattle.requests.specs.declared.Changed.the-variants.{Count, Same, Refused}
 use Rattle.requests.specs.Texts.{inTexts, over, alone, ChangesAs, OpensAs, DefinesAs, openedAs, removes, opensText, definesAs, definesBy}
 
-module _ (st fs ss ks ls : List ℕ) (c : ℕ) (k : Stack) (t : Lies st fs ss ks ls c) where
+module _ (st fs ss ks ls : List ℕ) (c : ℕ) (k : Stack) (ps : List ℕ) (t : Lies st fs ss ks ls c) where
   -- nothing is done, or it is refused
   pub same : (done : State → State) (act : State → Judged State)
-      → ((bs ps : List ℕ) (x : State) → value (over k bs ps (textsOf st fs ss ks ls c) x) ≡ act (over k bs ps (textsOf st fs ss ks ls c) x))
-      → ChangesAs st fs ss ks ls c k done act Same st fs ss ks ls
-  same done act h = record { is = h; good = λ bs ps g. g; lies = t; long = refl; kept = (refl, refl, refl, refl, refl) }
+      → ((bs : List ℕ) (x : State) → value (over k bs ps (textsOf st fs ss ks ls c) x) ≡ act (over k bs ps (textsOf st fs ss ks ls c) x))
+      → ChangesAs st fs ss ks ls c k ps done act Same st fs ss ks ls
+  same done act h = record { is = h; good = λ bs g. g; lies = t; long = refl; kept = (refl, refl, refl, refl, refl) }
 
   pub refuses : (done : State → State) (act : State → Judged State) (n : ℕ)
-      → ((bs ps : List ℕ) (x : State) → bad n ≡ act (over k bs ps (textsOf st fs ss ks ls c) x))
-      → ChangesAs st fs ss ks ls c k done act (Refused n) st fs ss ks ls
-  refuses done act n h = record { is = h; good = λ bs ps g. g; lies = t; long = refl; kept = (refl, refl, refl, refl, refl) }
+      → ((bs : List ℕ) (x : State) → bad n ≡ act (over k bs ps (textsOf st fs ss ks ls c) x))
+      → ChangesAs st fs ss ks ls c k ps done act (Refused n) st fs ss ks ls
+  refuses done act n h = record { is = h; good = λ bs g. g; lies = t; long = refl; kept = (refl, refl, refl, refl, refl) }
 
 -- "9: a text on the input stack redefined or removed"
-module _ (ts : List Text) (k : Stack) (n : Name) (bs ps : List ℕ) (x : State) where
-  pub held : true ≡ calledTo n (k .entries) (k .depth) → bad 9 ≡ free (over k bs ps ts x) n
+module _ (ts : List Text) (k : Stack) (ps : List ℕ) (n : Name) (bs : List ℕ) (x : State) where
+  pub held : true ≡ calledTo n ps (k .depth) → bad 9 ≡ free (over k bs ps ts x) n
   held e = ap (λ (b : Bool). judge (not b) 9 n) (e ∙ on-stack ts n k bs ps)
 
-  freed : false ≡ calledTo n (k .entries) (k .depth) → value n ≡ free (over k bs ps ts x) n
+  freed : false ≡ calledTo n ps (k .depth) → value n ≡ free (over k bs ps ts x) n
   freed e = ap (λ (b : Bool). judge (not b) 9 n) (e ∙ on-stack ts n k bs ps)
 
-module _ (st fs ss ks ls : List ℕ) (c : ℕ) (k : Stack) (n : Name) (st' fs' ss' ks' ls' : List ℕ) (f : false ≡ calledTo n (k .entries) (k .depth)) where
+module _ (st fs ss ks ls : List ℕ) (c : ℕ) (k : Stack) (ps : List ℕ) (n : Name) (st' fs' ss' ks' ls' : List ℕ) (f : false ≡ calledTo n ps (k .depth)) where
   -- the texts before
   abbrev ts : List Text
   ts = textsOf st fs ss ks ls c
 
-  off : (bs ps : List ℕ) → onStack n (stackOf ts k bs ps) ≡ false
-  off bs ps = sym (f ∙ on-stack ts n k bs ps)
+  off : (bs : List ℕ) → onStack n (stackOf ts k bs ps) ≡ false
+  off bs = sym (f ∙ on-stack ts n k bs ps)
 
   -- the items stay what they are
-  moved : (ts' : List Text) → ((j : Name) → sameName j n ≡ false → textOf j ts' ≡ textOf j ts) → (bs ps : List ℕ) (x : State)
+  moved : (ts' : List Text) → ((j : Name) → sameName j n ≡ false → textOf j ts' ≡ textOf j ts) → (bs : List ℕ) (x : State)
       → over k bs ps ts' x ≡ withTexts ts' (over k bs ps ts x)
-  moved ts' h bs ps x = ap (λ (is : List Item). inTexts ts' is x) (items-kept ts ts' n (framesOf k bs ps) (off bs ps) h)
+  moved ts' h bs x = ap (λ (is : List Item). inTexts ts' is x) (items-kept ts ts' n (framesOf k bs ps) (off bs) h)
 
   pub removed : (r : ℕ) → true ≡ isThere (textOf n ts) → RemovedTo st fs ss ks ls c n r st' fs' ss' ks' ls'
-      → ChangesAs st fs ss ks ls c k alone (λ s. removeText s n) (Count r) st' fs' ss' ks' ls'
+      → ChangesAs st fs ss ks ls c k ps alone (λ s. removeText s n) (Count r) st' fs' ss' ks' ls'
   removed r e m = record {
-    is = λ bs ps x.
+    is = λ bs x.
         let s = over k bs ps ts x in
-        ap value (moved (textsOf st' fs' ss' ks' ls' r) kept bs ps x)
+        ap value (moved (textsOf st' fs' ss' ks' ls' r) kept bs x)
         ∙ ap (λ (u : List Text). value (withTexts u s)) (m .is)
-        ∙ ap (λ (j : Judged Name). j >>= λ q. value (withTexts (texts.remove q ts) s)) (freed ts k n bs ps x f)
+        ∙ ap (λ (j : Judged Name). j >>= λ q. value (withTexts (texts.remove q ts) s)) (freed ts k ps n bs x f)
         ∙ ap (λ (b : Bool). removeIf b s n) e;
-    good = λ bs ps g. good-kept ts (textsOf st' fs' ss' ks' ls' r) n (framesOf k bs ps) (off bs ps) kept g;
+    good = λ bs g. good-kept ts (textsOf st' fs' ss' ks' ls' r) n (framesOf k bs ps) (off bs) kept g;
     lies = m .lies;
     long = m .long;
     kept = tt;
@@ -88,15 +88,15 @@ module _ (st fs ss ks ls : List ℕ) (c : ℕ) (k : Stack) (n : Name) (st' fs' s
   begun s = openedAs (one n) s
 
   pub opened : (r : ℕ) → OpenedTo st fs ss ks ls c n (Set r) st' fs' ss' ks' ls'
-      → OpensAs st fs ss ks ls c k (one n) (λ s. openText s n) (Count r) st' fs' ss' ks' ls'
+      → OpensAs st fs ss ks ls c k ps (one n) (λ s. openText s n) (Count r) st' fs' ss' ks' ls'
   opened r m = record {
     changes = record {
-      is = λ bs ps x.
+      is = λ bs x.
           let s = over k bs ps ts x in
-          ap (λ (u : State). value (begun u)) (moved (textsOf st' fs' ss' ks' ls' r) kept bs ps x)
+          ap (λ (u : State). value (begun u)) (moved (textsOf st' fs' ss' ks' ls' r) kept bs x)
           ∙ ap (λ (j : Judged (List Text)). j >>= λ u. value (begun (withTexts u s))) (m .is)
-          ∙ ap (λ (j : Judged Name). j >>= λ q. openMacro q ts >>= λ u. value (openedAs (one q) (withTexts u s))) (freed ts k n bs ps x f);
-      good = λ bs ps g. good-kept ts (textsOf st' fs' ss' ks' ls' r) n (framesOf k bs ps) (off bs ps) kept g;
+          ∙ ap (λ (j : Judged Name). j >>= λ q. openMacro q ts >>= λ u. value (openedAs (one q) (withTexts u s))) (freed ts k ps n bs x f);
+      good = λ bs g. good-kept ts (textsOf st' fs' ss' ks' ls' r) n (framesOf k bs ps) (off bs) kept g;
       lies = m .lies;
       long = m .long;
       kept = tt;
@@ -108,14 +108,14 @@ module _ (st fs ss ks ls : List ℕ) (c : ℕ) (k : Stack) (n : Name) (st' fs' s
       kept j q = kept-opened st fs ss ks ls c n st' fs' ss' ks' ls' j q (Set r) m
 
   pub open-full : OpenedTo st fs ss ks ls c n Full st' fs' ss' ks' ls'
-      → OpensAs st fs ss ks ls c k (one n) (λ s. openText s n) (Refused 11) st' fs' ss' ks' ls'
+      → OpensAs st fs ss ks ls c k ps (one n) (λ s. openText s n) (Refused 11) st' fs' ss' ks' ls'
   open-full m = record {
     changes = record {
-      is = λ bs ps x.
+      is = λ bs x.
           let s = over k bs ps ts x in
           ap (λ (j : Judged (List Text)). j >>= λ u. value (begun (withTexts u s))) (m .is)
-          ∙ ap (λ (j : Judged Name). j >>= λ q. openMacro q ts >>= λ u. value (openedAs (one q) (withTexts u s))) (freed ts k n bs ps x f);
-      good = λ bs ps g. let h = m .kept in rw (h .0, h .1, h .2, h .3, h .4) g;
+          ∙ ap (λ (j : Judged Name). j >>= λ q. openMacro q ts >>= λ u. value (openedAs (one q) (withTexts u s))) (freed ts k ps n bs x f);
+      good = λ bs g. let h = m .kept in rw (h .0, h .1, h .2, h .3, h .4) g;
       lies = m .lies;
       long = m .long;
       kept = m .kept;
@@ -128,14 +128,14 @@ module _ (st fs ss ks ls : List ℕ) (c : ℕ) (k : Stack) (n : Name) (st' fs' s
     room = ap (λ (d : ℕ). defineStringIn (roomOf d) n l ts) w
 
     pub defined : (r : ℕ) → DefinedTo st fs ss ks ls c n l (Set r) st' fs' ss' ks' ls'
-        → ChangesAs st fs ss ks ls c k alone (definesAs n l) (Count r) st' fs' ss' ks' ls'
+        → ChangesAs st fs ss ks ls c k ps alone (definesAs n l) (Count r) st' fs' ss' ks' ls'
     defined r m = record {
-      is = λ bs ps x.
+      is = λ bs x.
           let s = over k bs ps ts x in
-          ap value (moved (textsOf st' fs' ss' ks' ls' r) kept bs ps x)
+          ap value (moved (textsOf st' fs' ss' ks' ls' r) kept bs x)
           ∙ ap (λ (j : Judged (List Text)). j >>= λ u. value (withTexts u s)) (m .is ∙ room)
-          ∙ ap (λ (j : Judged Name). j >>= λ q. defineStringIn 8192 q l ts >>= λ u. value (withTexts u s)) (freed ts k n bs ps x f);
-      good = λ bs ps g. good-kept ts (textsOf st' fs' ss' ks' ls' r) n (framesOf k bs ps) (off bs ps) kept g;
+          ∙ ap (λ (j : Judged Name). j >>= λ q. defineStringIn 8192 q l ts >>= λ u. value (withTexts u s)) (freed ts k ps n bs x f);
+      good = λ bs g. good-kept ts (textsOf st' fs' ss' ks' ls' r) n (framesOf k bs ps) (off bs) kept g;
       lies = m .lies;
       long = m .long;
       kept = tt;
@@ -145,80 +145,80 @@ module _ (st fs ss ks ls : List ℕ) (c : ℕ) (k : Stack) (n : Name) (st' fs' s
         kept j q = kept-defined st fs ss ks ls c n st' fs' ss' ks' ls' j q l (Set r) m
 
     pub define-full : DefinedTo st fs ss ks ls c n l Full st' fs' ss' ks' ls'
-        → ChangesAs st fs ss ks ls c k alone (definesAs n l) (Refused 11) st' fs' ss' ks' ls'
+        → ChangesAs st fs ss ks ls c k ps alone (definesAs n l) (Refused 11) st' fs' ss' ks' ls'
     define-full m = record {
-      is = λ bs ps x.
+      is = λ bs x.
           let s = over k bs ps ts x in
           ap (λ (j : Judged (List Text)). j >>= λ u. value (withTexts u s)) (m .is ∙ room)
-          ∙ ap (λ (j : Judged Name). j >>= λ q. defineStringIn 8192 q l ts >>= λ u. value (withTexts u s)) (freed ts k n bs ps x f);
-      good = λ bs ps g. let h = m .kept in rw (h .0, h .1, h .2, h .3, h .4) g;
+          ∙ ap (λ (j : Judged Name). j >>= λ q. defineStringIn 8192 q l ts >>= λ u. value (withTexts u s)) (freed ts k ps n bs x f);
+      good = λ bs g. let h = m .kept in rw (h .0, h .1, h .2, h .3, h .4) g;
       lies = m .lies;
       long = m .long;
       kept = m .kept;
     }
 
 -- what is on the stack is neither removed, nor opened, nor defined
-module _ (ts : List Text) (k : Stack) (n : Name) (e : true ≡ calledTo n (k .entries) (k .depth)) (bs ps : List ℕ) (x : State) where
+module _ (ts : List Text) (k : Stack) (ps : List ℕ) (n : Name) (e : true ≡ calledTo n ps (k .depth)) (bs : List ℕ) (x : State) where
   pub remove-held : true ≡ isThere (textOf n ts) → bad 9 ≡ removeText (over k bs ps ts x) n
   remove-held h =
       let s = over k bs ps ts x in
-      ap (λ (j : Judged Name). j >>= λ q. value (withTexts (texts.remove q ts) s)) (held ts k n bs ps x e) ∙ ap (λ (b : Bool). removeIf b s n) h
+      ap (λ (j : Judged Name). j >>= λ q. value (withTexts (texts.remove q ts) s)) (held ts k ps n bs x e) ∙ ap (λ (b : Bool). removeIf b s n) h
 
   pub open-held : bad 9 ≡ openText (over k bs ps ts x) n
   open-held =
       let s = over k bs ps ts x in
-      ap (λ (j : Judged Name). j >>= λ q. openMacro q ts >>= λ u. value (openedAs (one q) (withTexts u s))) (held ts k n bs ps x e)
+      ap (λ (j : Judged Name). j >>= λ q. openMacro q ts >>= λ u. value (openedAs (one q) (withTexts u s))) (held ts k ps n bs x e)
 
   pub define-held : (l : List ℕ) → bad 9 ≡ definesAs n l (over k bs ps ts x)
   define-held l =
       let s = over k bs ps ts x in
-      ap (λ (j : Judged Name). j >>= λ q. defineStringIn 8192 q l ts >>= λ u. value (withTexts u s)) (held ts k n bs ps x e)
+      ap (λ (j : Judged Name). j >>= λ q. defineStringIn 8192 q l ts >>= λ u. value (withTexts u s)) (held ts k ps n bs x e)
 
 -- "rm of a name with no user text does nothing"
-pub remove-none : (ts : List Text) (k : Stack) (n : Name) (bs ps : List ℕ) (x : State) → false ≡ isThere (textOf n ts)
+pub remove-none : (ts : List Text) (k : Stack) (ps : List ℕ) (n : Name) (bs : List ℕ) (x : State) → false ≡ isThere (textOf n ts)
     → value (over k bs ps ts x) ≡ removeText (over k bs ps ts x) n
-remove-none ts k n bs ps x h = ap (λ (b : Bool). removeIf b (over k bs ps ts x) n) h
+remove-none ts k ps n bs x h = ap (λ (b : Bool). removeIf b (over k bs ps ts x) n) h
 
 -- by what the bytes of a name are
-module _ (st fs ss ks ls : List ℕ) (c : ℕ) (k : Stack) (l : List ℕ) where
+module _ (st fs ss ks ls : List ℕ) (c : ℕ) (k : Stack) (ps : List ℕ) (l : List ℕ) where
   module _ (r : Changed) (st' fs' ss' ks' ls' : List ℕ) (n : Name) (e : one n ≡ nameOf l) where
-    pub remove-by : ChangesAs st fs ss ks ls c k alone (λ s. removeText s n) r st' fs' ss' ks' ls' → ChangesAs st fs ss ks ls c k alone (removes l) r st' fs' ss' ks' ls'
-    remove-by h = subst (λ (m : Named). ChangesAs st fs ss ks ls c k alone (λ s. onName m s (removeText s)) r st' fs' ss' ks' ls') e h
+    pub remove-by : ChangesAs st fs ss ks ls c k ps alone (λ s. removeText s n) r st' fs' ss' ks' ls' → ChangesAs st fs ss ks ls c k ps alone (removes l) r st' fs' ss' ks' ls'
+    remove-by h = subst (λ (m : Named). ChangesAs st fs ss ks ls c k ps alone (λ s. onName m s (removeText s)) r st' fs' ss' ks' ls') e h
 
-    pub open-by : OpensAs st fs ss ks ls c k (one n) (λ s. openText s n) r st' fs' ss' ks' ls' → OpensAs st fs ss ks ls c k (nameOf l) (opensText l) r st' fs' ss' ks' ls'
-    open-by h = subst (λ (m : Named). OpensAs st fs ss ks ls c k m (λ s. onName m s (openText s)) r st' fs' ss' ks' ls') e h
+    pub open-by : OpensAs st fs ss ks ls c k ps (one n) (λ s. openText s n) r st' fs' ss' ks' ls' → OpensAs st fs ss ks ls c k ps (nameOf l) (opensText l) r st' fs' ss' ks' ls'
+    open-by h = subst (λ (m : Named). OpensAs st fs ss ks ls c k ps m (λ s. onName m s (openText s)) r st' fs' ss' ks' ls') e h
 
-    pub define-by : (i : Bool) (b : List ℕ) → ChangesAs st fs ss ks ls c k alone (definesAs n (writtenBack i b)) r st' fs' ss' ks' ls'
-        → ChangesAs st fs ss ks ls c k alone (definesBy i (nameOf l) b) r st' fs' ss' ks' ls'
-    define-by i b h = subst (λ (m : Named). ChangesAs st fs ss ks ls c k alone (definesBy i m b) r st' fs' ss' ks' ls') e h
+    pub define-by : (i : Bool) (b : List ℕ) → ChangesAs st fs ss ks ls c k ps alone (definesAs n (writtenBack i b)) r st' fs' ss' ks' ls'
+        → ChangesAs st fs ss ks ls c k ps alone (definesBy i (nameOf l) b) r st' fs' ss' ks' ls'
+    define-by i b h = subst (λ (m : Named). ChangesAs st fs ss ks ls c k ps alone (definesBy i m b) r st' fs' ss' ks' ls') e h
 
   module _ (t : Lies st fs ss ks ls c) (e : names.none ≡ nameOf l) where
-    pub remove-unnamed : ChangesAs st fs ss ks ls c k alone (removes l) Same st fs ss ks ls
-    remove-unnamed = same st fs ss ks ls c k t alone (removes l) (λ bs ps x. let s = over k bs ps (textsOf st fs ss ks ls c) x in ap (λ (m : Named). onName m s (removeText s)) e)
+    pub remove-unnamed : ChangesAs st fs ss ks ls c k ps alone (removes l) Same st fs ss ks ls
+    remove-unnamed = same st fs ss ks ls c k ps t alone (removes l) (λ bs x. let s = over k bs ps (textsOf st fs ss ks ls c) x in ap (λ (m : Named). onName m s (removeText s)) e)
 
-    pub open-unnamed : OpensAs st fs ss ks ls c k (nameOf l) (opensText l) Same st fs ss ks ls
+    pub open-unnamed : OpensAs st fs ss ks ls c k ps (nameOf l) (opensText l) Same st fs ss ks ls
     open-unnamed = record {
-      changes = same st fs ss ks ls c k t (openedAs (nameOf l)) (opensText l) (λ bs ps x. let s = over k bs ps (textsOf st fs ss ks ls c) x in ap (λ (m : Named). onName m s (openText s)) e);
+      changes = same st fs ss ks ls c k ps t (openedAs (nameOf l)) (opensText l) (λ bs x. let s = over k bs ps (textsOf st fs ss ks ls c) x in ap (λ (m : Named). onName m s (openText s)) e);
       opens = tt;
     }
 
-    pub define-unnamed : (i : Bool) (b : List ℕ) → ChangesAs st fs ss ks ls c k alone (definesBy i (nameOf l) b) Same st fs ss ks ls
+    pub define-unnamed : (i : Bool) (b : List ℕ) → ChangesAs st fs ss ks ls c k ps alone (definesBy i (nameOf l) b) Same st fs ss ks ls
     define-unnamed i b =
-        same st fs ss ks ls c k t alone (definesBy i (nameOf l) b) (λ bs ps x. let s = over k bs ps (textsOf st fs ss ks ls c) x in ap (λ (m : Named). definesBy i m b s) e)
+        same st fs ss ks ls c k ps t alone (definesBy i (nameOf l) b) (λ bs x. let s = over k bs ps (textsOf st fs ss ks ls c) x in ap (λ (m : Named). definesBy i m b s) e)
 
   module _ (t : Lies st fs ss ks ls c) (e : tooLong ≡ nameOf l) where
-    pub remove-long : ChangesAs st fs ss ks ls c k alone (removes l) (Refused 7) st fs ss ks ls
-    remove-long = refuses st fs ss ks ls c k t alone (removes l) 7 (λ bs ps x. let s = over k bs ps (textsOf st fs ss ks ls c) x in ap (λ (m : Named). onName m s (removeText s)) e)
+    pub remove-long : ChangesAs st fs ss ks ls c k ps alone (removes l) (Refused 7) st fs ss ks ls
+    remove-long = refuses st fs ss ks ls c k ps t alone (removes l) 7 (λ bs x. let s = over k bs ps (textsOf st fs ss ks ls c) x in ap (λ (m : Named). onName m s (removeText s)) e)
 
-    pub open-long : OpensAs st fs ss ks ls c k (nameOf l) (opensText l) (Refused 7) st fs ss ks ls
+    pub open-long : OpensAs st fs ss ks ls c k ps (nameOf l) (opensText l) (Refused 7) st fs ss ks ls
     open-long = record {
-      changes = refuses st fs ss ks ls c k t (openedAs (nameOf l)) (opensText l) 7 (λ bs ps x. let s = over k bs ps (textsOf st fs ss ks ls c) x in ap (λ (m : Named). onName m s (openText s)) e);
+      changes = refuses st fs ss ks ls c k ps t (openedAs (nameOf l)) (opensText l) 7 (λ bs x. let s = over k bs ps (textsOf st fs ss ks ls c) x in ap (λ (m : Named). onName m s (openText s)) e);
       opens = tt;
     }
 
-    pub define-long : (i : Bool) (b : List ℕ) → ChangesAs st fs ss ks ls c k alone (definesBy i (nameOf l) b) (Refused 7) st fs ss ks ls
+    pub define-long : (i : Bool) (b : List ℕ) → ChangesAs st fs ss ks ls c k ps alone (definesBy i (nameOf l) b) (Refused 7) st fs ss ks ls
     define-long i b =
-        refuses st fs ss ks ls c k t alone (definesBy i (nameOf l) b) 7 (λ bs ps x. let s = over k bs ps (textsOf st fs ss ks ls c) x in ap (λ (m : Named). definesBy i m b s) e)
+        refuses st fs ss ks ls c k ps t alone (definesBy i (nameOf l) b) 7 (λ bs x. let s = over k bs ps (textsOf st fs ss ks ls c) x in ap (λ (m : Named). definesBy i m b s) e)
 
 -- the first argument of a line, and the text behind it
 module _ (line parts : List ℕ) (w : length line ≤ 512) (p : length parts ≡ 512) (cut : Cut) (parts' : List ℕ) (t : Took line 0 parts 0 cut parts') where
@@ -249,19 +249,19 @@ module _ (line parts : List ℕ) (w : length line ≤ 512) (p : length parts ≡
         ∙ ap (λ (b : List ℕ). definesBy i (nameOf (t .argument)) b s) text-there
         ∙ ap (λ (o : Option Part). defineFrom o i s) (sym (t .is))
 
-    pub defines-there : (st fs ss ks ls : List ℕ) (c : ℕ) (k : Stack) (r : Changed) (st' fs' ss' ks' ls' : List ℕ)
-        → ChangesAs st fs ss ks ls c k alone (definesBy i (nameOf (take (cut .written) parts')) (take (length line - at) (drop at line))) r st' fs' ss' ks' ls'
-        → DefinesAs st fs ss ks ls c k (defines i line) r st' fs' ss' ks' ls' parts'
-    defines-there st fs ss ks ls c k r st' fs' ss' ks' ls' m = record {
-      changes = record { is = λ bs ps x. m .is bs ps x ∙ defines-it (over k bs ps (textsOf st fs ss ks ls c) x); good = m .good; lies = m .lies; long = m .long; kept = m .kept };
+    pub defines-there : (st fs ss ks ls : List ℕ) (c : ℕ) (k : Stack) (ps : List ℕ) (r : Changed) (st' fs' ss' ks' ls' : List ℕ)
+        → ChangesAs st fs ss ks ls c k ps alone (definesBy i (nameOf (take (cut .written) parts')) (take (length line - at) (drop at line))) r st' fs' ss' ks' ls'
+        → DefinesAs st fs ss ks ls c k ps (defines i line) r st' fs' ss' ks' ls' parts'
+    defines-there st fs ss ks ls c k ps r st' fs' ss' ks' ls' m = record {
+      changes = record { is = λ bs x. m .is bs x ∙ defines-it (over k bs ps (textsOf st fs ss ks ls c) x); good = m .good; lies = m .lies; long = m .long; kept = m .kept };
       parts-long = parts-long;
     }
 
 -- without a name nothing is done
-pub defines-none : (st fs ss ks ls : List ℕ) (c : ℕ) (k : Stack) (t : Lies st fs ss ks ls c) (i : Bool) (line parts parts' : List ℕ) → length parts ≡ 512
-    → (first line ≡ none) × (parts' ≡ parts) → DefinesAs st fs ss ks ls c k (defines i line) Same st fs ss ks ls parts'
+pub defines-none : (st fs ss ks ls : List ℕ) (c : ℕ) (k : Stack) (ps : List ℕ) (t : Lies st fs ss ks ls c) (i : Bool) (line parts parts' : List ℕ) → length parts ≡ 512
+    → (first line ≡ none) × (parts' ≡ parts) → DefinesAs st fs ss ks ls c k ps (defines i line) Same st fs ss ks ls parts'
 unfolding defines
-defines-none st fs ss ks ls c k t i line parts parts' p h = record {
-  changes = same st fs ss ks ls c k t alone (defines i line) (λ bs ps x. ap (λ (o : Option Part). defineFrom o i (over k bs ps (textsOf st fs ss ks ls c) x)) (sym (h .0)));
+defines-none st fs ss ks ls c k ps t i line parts parts' p h = record {
+  changes = same st fs ss ks ls c k ps t alone (defines i line) (λ bs x. ap (λ (o : Option Part). defineFrom o i (over k bs ps (textsOf st fs ss ks ls c) x)) (sym (h .0)));
   parts-long = ap length (h .1) ∙ p;
 }

@@ -177,34 +177,34 @@ beside-open names.none s = refl
 beside-open tooLong s = refl
 beside-open (one n) s = refl
 
-module _ (st fs ss ks ls : List ℕ) (c : ℕ) (k : Stack) (st' fs' ss' ks' ls' : List ℕ) (d : Distinct (textsOf st fs ss ks ls c)) where
+module _ (st fs ss ks ls : List ℕ) (c : ℕ) (k : Stack) (ps : List ℕ) (st' fs' ss' ks' ls' : List ℕ) (d : Distinct (textsOf st fs ss ks ls c)) where
   -- a state to look at
   abbrev here-in : State
-  here-in = over k [] [] (textsOf st fs ss ks ls c) (start tenToTheInch)
+  here-in = over k [] ps (textsOf st fs ss ks ls c) (start tenToTheInch)
 
   changed-distinct : (done : State → State) (act : State → Judged State) → Beside done → Every DistinctIn (act here-in) → (r : Changed)
-      → ChangesAs st fs ss ks ls c k done act r st' fs' ss' ks' ls' → Distinct (textsOf st' fs' ss' ks' ls' (in-texts.countIn r c))
+      → ChangesAs st fs ss ks ls c k ps done act r st' fs' ss' ks' ls' → Distinct (textsOf st' fs' ss' ks' ls' (in-texts.countIn r c))
   changed-distinct done act b h (changed.Count n) a =
-      subst Distinct (b (over k [] [] (textsOf st' fs' ss' ks' ls' n) (start tenToTheInch))) (of-value h (sym (a .is [] [] (start tenToTheInch))))
+      subst Distinct (b (over k [] ps (textsOf st' fs' ss' ks' ls' n) (start tenToTheInch))) (of-value h (sym (a .is [] (start tenToTheInch))))
   changed-distinct done act b h changed.Same a = let q = a .kept in rw (q .0, q .1, q .2, q .3, q .4) d
   changed-distinct done act b h (changed.Refused n) a = let q = a .kept in rw (q .0, q .1, q .2, q .3, q .4) d
 
   -- So do `remove`, `open` and `define`.
-  pub removed-distinct : (m : List ℕ) (r : Changed) → ChangesAs st fs ss ks ls c k alone (removes m) r st' fs' ss' ks' ls'
+  pub removed-distinct : (m : List ℕ) (r : Changed) → ChangesAs st fs ss ks ls c k ps alone (removes m) r st' fs' ss' ks' ls'
       → Distinct (textsOf st' fs' ss' ks' ls' (in-texts.countIn r c))
   removed-distinct m r a = changed-distinct alone (removes m) (λ s. refl) (removes-distinct here-in d m) r a
 
-  pub opened-distinct : (m : List ℕ) (r : Changed) → OpensAs st fs ss ks ls c k (nameOf m) (opensText m) r st' fs' ss' ks' ls'
+  pub opened-distinct : (m : List ℕ) (r : Changed) → OpensAs st fs ss ks ls c k ps (nameOf m) (opensText m) r st' fs' ss' ks' ls'
       → Distinct (textsOf st' fs' ss' ks' ls' (in-texts.countIn r c))
   opened-distinct m r a = changed-distinct (openedAs (nameOf m)) (opensText m) (beside-open (nameOf m)) (opens-distinct here-in d m) r (a .changes)
 
-  pub defined-distinct : (i : Bool) (l parts' : List ℕ) (r : Changed) → DefinesAs st fs ss ks ls c k (defines i l) r st' fs' ss' ks' ls' parts'
+  pub defined-distinct : (i : Bool) (l parts' : List ℕ) (r : Changed) → DefinesAs st fs ss ks ls c k ps (defines i l) r st' fs' ss' ks' ls' parts'
       → Distinct (textsOf st' fs' ss' ks' ls' (in-texts.countIn r c))
   defined-distinct i l parts' r a = changed-distinct alone (defines i l) (λ s. refl) (defines-distinct here-in d i l) r (a .changes)
 
   -- A name that is opened has no text.
-  pub opened-gone : (m : List ℕ) (n : Name) (q : ℕ) → nameOf m ≡ one n → OpensAs st fs ss ks ls c k (nameOf m) (opensText m) (changed.Count q) st' fs' ss' ks' ls'
+  pub opened-gone : (m : List ℕ) (n : Name) (q : ℕ) → nameOf m ≡ one n → OpensAs st fs ss ks ls c k ps (nameOf m) (opensText m) (changed.Count q) st' fs' ss' ks' ls'
       → textOf n (textsOf st' fs' ss' ks' ls' q) ≡ none
   opened-gone m n q e a =
-      subst (λ (us : List Text). textOf n us ≡ none) (beside-open (nameOf m) (over k [] [] (textsOf st' fs' ss' ks' ls' q) (start tenToTheInch)))
-      (of-value (opens-gone here-in d n) (sym (a .changes .is [] [] (start tenToTheInch) ∙ ap (λ (o : Named). onName o here-in (openText here-in)) e)))
+      subst (λ (us : List Text). textOf n us ≡ none) (beside-open (nameOf m) (over k [] ps (textsOf st' fs' ss' ks' ls' q) (start tenToTheInch)))
+      (of-value (opens-gone here-in d n) (sym (a .changes .is [] (start tenToTheInch) ∙ ap (λ (o : Named). onName o here-in (openText here-in)) e)))

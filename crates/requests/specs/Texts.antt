@@ -53,11 +53,11 @@ pub record Ready (st fs ss ks ls : List ℕ) (count : ℕ) (k : Stack) : Type 0 
   pub lies : Lies st fs ss ks ls count
   pub few : k .depth ≤ 17
 
--- in any state these texts become what the rules say, under the same items of the stack; their frames stay good
-pub record ChangesAs (st fs ss ks ls : List ℕ) (count : ℕ) (k : Stack) (done : State → State) (act : State → Judged State) (r : Changed) (st' fs' ss' ks' ls' : List ℕ) : Type 0 where
-  pub is : (arena ends : List ℕ) (x : State)
+-- in any state these texts become what the rules say, under the same items of the stack, whatever their bytes; their frames stay good
+pub record ChangesAs (st fs ss ks ls : List ℕ) (count : ℕ) (k : Stack) (ends : List ℕ) (done : State → State) (act : State → Judged State) (r : Changed) (st' fs' ss' ks' ls' : List ℕ) : Type 0 where
+  pub is : (arena : List ℕ) (x : State)
       → changedOf r count done (λ n. over k arena ends (textsOf st' fs' ss' ks' ls' n) x) ≡ act (over k arena ends (textsOf st fs ss ks ls count) x)
-  pub good : (arena ends : List ℕ) → Good (textsOf st fs ss ks ls count) (framesOf k arena ends)
+  pub good : (arena : List ℕ) → Good (textsOf st fs ss ks ls count) (framesOf k arena ends)
       → Good (textsOf st' fs' ss' ks' ls' (countIn r count)) (framesOf k arena ends)
   pub lies : Lies st' fs' ss' ks' ls' (countIn r count)
   pub long : length st' ≡ length st
@@ -88,8 +88,8 @@ OpensIf Same st ls = Unit
 OpensIf (Refused k) st ls = Unit
 
 -- de of what this name is; the open definition itself is the caller's
-pub record OpensAs (st fs ss ks ls : List ℕ) (count : ℕ) (k : Stack) (m : Named) (act : State → Judged State) (r : Changed) (st' fs' ss' ks' ls' : List ℕ) : Type 0 where
-  pub changes : ChangesAs st fs ss ks ls count k (openedAs m) act r st' fs' ss' ks' ls'
+pub record OpensAs (st fs ss ks ls : List ℕ) (count : ℕ) (k : Stack) (ends : List ℕ) (m : Named) (act : State → Judged State) (r : Changed) (st' fs' ss' ks' ls' : List ℕ) : Type 0 where
+  pub changes : ChangesAs st fs ss ks ls count k ends (openedAs m) act r st' fs' ss' ks' ls'
   pub opens : OpensIf r st' ls'
 
 -- ds finds a store of 8,192 bytes, too
@@ -106,8 +106,8 @@ abbrev pub definesBy : (afterIf : Bool) → Named → (bytes : List ℕ) → Sta
 definesBy i m l s = onName m s (defineText s (writtenBack i l))
 
 -- ds, and the place that its name was written to
-pub record DefinesAs (st fs ss ks ls : List ℕ) (count : ℕ) (k : Stack) (act : State → Judged State) (r : Changed) (st' fs' ss' ks' ls' parts' : List ℕ) : Type 0 where
-  pub changes : ChangesAs st fs ss ks ls count k alone act r st' fs' ss' ks' ls'
+pub record DefinesAs (st fs ss ks ls : List ℕ) (count : ℕ) (k : Stack) (ends : List ℕ) (act : State → Judged State) (r : Changed) (st' fs' ss' ks' ls' parts' : List ℕ) : Type 0 where
+  pub changes : ChangesAs st fs ss ks ls count k ends alone act r st' fs' ss' ks' ls'
   pub parts-long : length parts' ≡ 512
 
 -- These are the rules' rm and de.

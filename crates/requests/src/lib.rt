@@ -288,6 +288,7 @@ fn is_text(
 fn remove_name(
     name: Name,
     stack: Stack,
+    ends: &[u16; 221],
     store: &mut [u8],
     firsts: &mut [u8; 64],
     seconds: &mut [u8; 64],
@@ -296,7 +297,7 @@ fn remove_name(
     count: usize,
 ) -> Changed
     requires { ⌜ ReadyTexts (now store) (now firsts) (now seconds) (now kinds) (now lengths) count stack ⌝ }
-    ensures { λ r. ⌜ ChangesAs (now (store .entry)) (now (firsts .entry)) (now (seconds .entry)) (now (kinds .entry)) (now (lengths .entry)) count stack alone (λ s. removeText s name) r (now (store .exit)) (now (firsts .exit)) (now (seconds .exit)) (now (kinds .exit)) (now (lengths .exit)) ⌝ }
+    ensures { λ r. ⌜ ChangesAs (now (store .entry)) (now (firsts .entry)) (now (seconds .entry)) (now (kinds .entry)) (now (lengths .entry)) count stack (now (ends .entry)) alone (λ s. removeText s name) r (now (store .exit)) (now (firsts .exit)) (now (seconds .exit)) (now (kinds .exit)) (now (lengths .exit)) ⌝ }
 {
     let there = is_text(
         &*store,
@@ -310,7 +311,7 @@ fn remove_name(
     if !there {
         return Changed::Same;
     }
-    if input::is_on_stack(stack, name) {
+    if input::is_on_stack(stack, ends, name) {
         return Changed::Refused(9);
     }
     Changed::Count(texts::remove(
@@ -328,6 +329,7 @@ fn remove_name(
 pub fn remove(
     name: &[u8],
     stack: Stack,
+    ends: &[u16; 221],
     store: &mut [u8],
     firsts: &mut [u8; 64],
     seconds: &mut [u8; 64],
@@ -336,12 +338,13 @@ pub fn remove(
     count: usize,
 ) -> Changed
     requires { ⌜ ReadyTexts (now store) (now firsts) (now seconds) (now kinds) (now lengths) count stack ⌝ }
-    ensures { λ r. ⌜ ChangesAs (now (store .entry)) (now (firsts .entry)) (now (seconds .entry)) (now (kinds .entry)) (now (lengths .entry)) count stack alone (removes (now (name .entry))) r (now (store .exit)) (now (firsts .exit)) (now (seconds .exit)) (now (kinds .exit)) (now (lengths .exit)) ⌝ }
+    ensures { λ r. ⌜ ChangesAs (now (store .entry)) (now (firsts .entry)) (now (seconds .entry)) (now (kinds .entry)) (now (lengths .entry)) count stack (now (ends .entry)) alone (removes (now (name .entry))) r (now (store .exit)) (now (firsts .exit)) (now (seconds .exit)) (now (kinds .exit)) (now (lengths .exit)) ⌝ }
 {
     match lines::name_of(name) {
         Named::One(n) => remove_name(
             n,
             stack,
+            ends,
             store,
             &mut *firsts,
             &mut *seconds,
@@ -358,6 +361,7 @@ pub fn remove(
 fn open_name(
     name: Name,
     stack: Stack,
+    ends: &[u16; 221],
     store: &mut [u8],
     firsts: &mut [u8; 64],
     seconds: &mut [u8; 64],
@@ -366,9 +370,9 @@ fn open_name(
     count: usize,
 ) -> Changed
     requires { ⌜ ReadyTexts (now store) (now firsts) (now seconds) (now kinds) (now lengths) count stack ⌝ }
-    ensures { λ r. ⌜ OpensAs (now (store .entry)) (now (firsts .entry)) (now (seconds .entry)) (now (kinds .entry)) (now (lengths .entry)) count stack (one name) (λ s. openText s name) r (now (store .exit)) (now (firsts .exit)) (now (seconds .exit)) (now (kinds .exit)) (now (lengths .exit)) ⌝ }
+    ensures { λ r. ⌜ OpensAs (now (store .entry)) (now (firsts .entry)) (now (seconds .entry)) (now (kinds .entry)) (now (lengths .entry)) count stack (now (ends .entry)) (one name) (λ s. openText s name) r (now (store .exit)) (now (firsts .exit)) (now (seconds .exit)) (now (kinds .exit)) (now (lengths .exit)) ⌝ }
 {
-    if input::is_on_stack(stack, name) {
+    if input::is_on_stack(stack, ends, name) {
         return Changed::Refused(9);
     }
     match texts::open_macro(
@@ -389,6 +393,7 @@ fn open_name(
 pub fn open(
     name: &[u8],
     stack: Stack,
+    ends: &[u16; 221],
     store: &mut [u8],
     firsts: &mut [u8; 64],
     seconds: &mut [u8; 64],
@@ -397,12 +402,13 @@ pub fn open(
     count: usize,
 ) -> Changed
     requires { ⌜ ReadyTexts (now store) (now firsts) (now seconds) (now kinds) (now lengths) count stack ⌝ }
-    ensures { λ r. ⌜ OpensAs (now (store .entry)) (now (firsts .entry)) (now (seconds .entry)) (now (kinds .entry)) (now (lengths .entry)) count stack (nameOf (now (name .entry))) (opensText (now (name .entry))) r (now (store .exit)) (now (firsts .exit)) (now (seconds .exit)) (now (kinds .exit)) (now (lengths .exit)) ⌝ }
+    ensures { λ r. ⌜ OpensAs (now (store .entry)) (now (firsts .entry)) (now (seconds .entry)) (now (kinds .entry)) (now (lengths .entry)) count stack (now (ends .entry)) (nameOf (now (name .entry))) (opensText (now (name .entry))) r (now (store .exit)) (now (firsts .exit)) (now (seconds .exit)) (now (kinds .exit)) (now (lengths .exit)) ⌝ }
 {
     match lines::name_of(name) {
         Named::One(n) => open_name(
             n,
             stack,
+            ends,
             store,
             &mut *firsts,
             &mut *seconds,
@@ -420,6 +426,7 @@ fn define_text(
     name: Name,
     text: &[u8],
     stack: Stack,
+    ends: &[u16; 221],
     store: &mut [u8],
     firsts: &mut [u8; 64],
     seconds: &mut [u8; 64],
@@ -428,9 +435,9 @@ fn define_text(
     count: usize,
 ) -> Changed
     requires { ⌜ ReadyToDefine (now store) (now firsts) (now seconds) (now kinds) (now lengths) count stack ⌝ }
-    ensures { λ r. ⌜ ChangesAs (now (store .entry)) (now (firsts .entry)) (now (seconds .entry)) (now (kinds .entry)) (now (lengths .entry)) count stack alone (definesAs name (now (text .entry))) r (now (store .exit)) (now (firsts .exit)) (now (seconds .exit)) (now (kinds .exit)) (now (lengths .exit)) ⌝ }
+    ensures { λ r. ⌜ ChangesAs (now (store .entry)) (now (firsts .entry)) (now (seconds .entry)) (now (kinds .entry)) (now (lengths .entry)) count stack (now (ends .entry)) alone (definesAs name (now (text .entry))) r (now (store .exit)) (now (firsts .exit)) (now (seconds .exit)) (now (kinds .exit)) (now (lengths .exit)) ⌝ }
 {
-    if input::is_on_stack(stack, name) {
+    if input::is_on_stack(stack, ends, name) {
         return Changed::Refused(9);
     }
     match texts::define_string(
@@ -453,6 +460,7 @@ fn define_back(
     name: Name,
     text: &[u8],
     stack: Stack,
+    ends: &[u16; 221],
     store: &mut [u8],
     firsts: &mut [u8; 64],
     seconds: &mut [u8; 64],
@@ -461,7 +469,7 @@ fn define_back(
     count: usize,
 ) -> Changed
     requires { ⌜ ReadyToDefine (now store) (now firsts) (now seconds) (now kinds) (now lengths) count stack × (length (now text) ≤ 512) ⌝ }
-    ensures { λ r. ⌜ ChangesAs (now (store .entry)) (now (firsts .entry)) (now (seconds .entry)) (now (kinds .entry)) (now (lengths .entry)) count stack alone (definesAs name (escaped (now (text .entry)))) r (now (store .exit)) (now (firsts .exit)) (now (seconds .exit)) (now (kinds .exit)) (now (lengths .exit)) ⌝ }
+    ensures { λ r. ⌜ ChangesAs (now (store .entry)) (now (firsts .entry)) (now (seconds .entry)) (now (kinds .entry)) (now (lengths .entry)) count stack (now (ends .entry)) alone (definesAs name (escaped (now (text .entry)))) r (now (store .exit)) (now (firsts .exit)) (now (seconds .exit)) (now (kinds .exit)) (now (lengths .exit)) ⌝ }
 {
     let mut out = [0u8; 1024];
     let end = lines::write_back(text, &mut out);
@@ -469,6 +477,7 @@ fn define_back(
         name,
         &out[..end],
         stack,
+        ends,
         store,
         &mut *firsts,
         &mut *seconds,
@@ -485,6 +494,7 @@ fn define_by(
     text: &[u8],
     after_if: bool,
     stack: Stack,
+    ends: &[u16; 221],
     store: &mut [u8],
     firsts: &mut [u8; 64],
     seconds: &mut [u8; 64],
@@ -493,7 +503,7 @@ fn define_by(
     count: usize,
 ) -> Changed
     requires { ⌜ ReadyToDefine (now store) (now firsts) (now seconds) (now kinds) (now lengths) count stack × (length (now text) ≤ 512) × (end ≤ length (now parts)) ⌝ }
-    ensures { λ r. ⌜ ChangesAs (now (store .entry)) (now (firsts .entry)) (now (seconds .entry)) (now (kinds .entry)) (now (lengths .entry)) count stack alone (definesBy «after_if» (nameOf (take end (now (parts .entry)))) (now (text .entry))) r (now (store .exit)) (now (firsts .exit)) (now (seconds .exit)) (now (kinds .exit)) (now (lengths .exit)) ⌝ }
+    ensures { λ r. ⌜ ChangesAs (now (store .entry)) (now (firsts .entry)) (now (seconds .entry)) (now (kinds .entry)) (now (lengths .entry)) count stack (now (ends .entry)) alone (definesBy «after_if» (nameOf (take end (now (parts .entry)))) (now (text .entry))) r (now (store .exit)) (now (firsts .exit)) (now (seconds .exit)) (now (kinds .exit)) (now (lengths .exit)) ⌝ }
 {
     match lines::name_of(&parts[..end]) {
         Named::One(n) => {
@@ -502,6 +512,7 @@ fn define_by(
                     n,
                     text,
                     stack,
+                    ends,
                     store,
                     &mut *firsts,
                     &mut *seconds,
@@ -514,6 +525,7 @@ fn define_by(
                 n,
                 text,
                 stack,
+                ends,
                 store,
                 &mut *firsts,
                 &mut *seconds,
@@ -532,6 +544,7 @@ pub fn define(
     line: &[u8],
     after_if: bool,
     stack: Stack,
+    ends: &[u16; 221],
     store: &mut [u8],
     firsts: &mut [u8; 64],
     seconds: &mut [u8; 64],
@@ -541,7 +554,7 @@ pub fn define(
     parts: &mut [u8; 512],
 ) -> Changed
     requires { ⌜ ReadyToDefine (now store) (now firsts) (now seconds) (now kinds) (now lengths) count stack × (length (now line) ≤ 512) × (length (now parts) ≡ 512) ⌝ }
-    ensures { λ r. ⌜ DefinesAs (now (store .entry)) (now (firsts .entry)) (now (seconds .entry)) (now (kinds .entry)) (now (lengths .entry)) count stack (defines «after_if» (now (line .entry))) r (now (store .exit)) (now (firsts .exit)) (now (seconds .exit)) (now (kinds .exit)) (now (lengths .exit)) (now (parts .exit)) ⌝ }
+    ensures { λ r. ⌜ DefinesAs (now (store .entry)) (now (firsts .entry)) (now (seconds .entry)) (now (kinds .entry)) (now (lengths .entry)) count stack (now (ends .entry)) (defines «after_if» (now (line .entry))) r (now (store .exit)) (now (firsts .exit)) (now (seconds .exit)) (now (kinds .exit)) (now (lengths .exit)) (now (parts .exit)) ⌝ }
 {
     match scan::next_argument(line, 0, &mut *parts, 0) {
         Argument::There(cut) => {
@@ -553,6 +566,7 @@ pub fn define(
                 &line[at..],
                 after_if,
                 stack,
+                ends,
                 store,
                 &mut *firsts,
                 &mut *seconds,

@@ -85,7 +85,7 @@ module _ (fs ss : List ℕ) (n : ℕ) (planted : Planted) (d : Desk) (rule : Lis
     is = λ st ks ls i x. law (textsOf st fs ss ks ls n) x;
     good = λ st ks ls i k. k;
     sound = s;
-    fits = fits-few (d .stack) few;
+    fits = fits-few (d .stack) (d .ends) few;
     few = omega arith;
     long = long;
   }

@@ -102,7 +102,7 @@ pub record Worked (rule : List Text → State → Next) (fs ss : List ℕ) (n : 
       ≡ rule (textsOf st fs ss ks ls n) (stateAt (textsOf st fs ss ks ls n) (plantedOf planted) d x)
   pub good : (st ks ls : List ℕ) → Lies st fs ss ks ls n → KeepsGood (textsOf st fs ss ks ls n) (d .stack) (d .arena) (d .ends) (d' .stack) (d' .arena) (d' .ends)
   pub sound : Sound planted d'
-  pub fits : Fits (d' .stack)
+  pub fits : Fits (d' .stack) (d' .ends)
   pub few : written ≤ 872
   pub long : length row' ≡ 872
 

@@ -105,8 +105,8 @@ limit-least : (b : Bool) → 16 ≤ limitBy b
 limit-least true = omega arith
 limit-least false = omega arith
 
-pub fits-few : (s : Stack) → s .depth ≤ 16 → Fits s
-fits-few s h = omega (arith, limit-least (isText (topEntry s .what)))
+pub fits-few : (s : Stack) (ends : List ℕ) → s .depth ≤ 16 → Fits s ends
+fits-few s ps h = omega (arith, limit-least (isText (topEntry s ps .what)))
 
 module _ (h : Held) (bytes : List ℕ) (s : Stack) (arena ends : List ℕ) (r : Stack) (arena' ends' : List ℕ) (t : HeldTo h bytes s arena ends r arena' ends') where
   pub over-items : (ts : List Text) → stackOf ts r arena' ends' ≡ heldOf ts h bytes ++ stackOf ts s arena ends
@@ -116,11 +116,11 @@ module _ (h : Held) (bytes : List ℕ) (s : Stack) (arena ends : List ℕ) (r : 
   over-good ts e g = subst (Good ts) (sym (t .frames)) (held-good ts h bytes (framesOf s arena ends) e g)
 
 pub over-fits : (h : Held) (bytes : List ℕ) (s : Stack) (arena ends : List ℕ) (r : Stack) (arena' ends' : List ℕ) → HeldTo h bytes s arena ends r arena' ends'
-    → Plain h → s .depth ≤ 16 → Fits r
-over-fits held.Nothing bytes s arena ends r arena' ends' t e d = fits-few r (omega (arith, t .depth))
+    → Plain h → s .depth ≤ 16 → Fits r ends'
+over-fits held.Nothing bytes s arena ends r arena' ends' t e d = fits-few r ends' (omega (arith, t .depth))
 over-fits (held.Item w) bytes s arena ends r arena' ends' t e d =
     let k = top-known r arena' ends' (frame (entry w (length bytes)) bytes noEnds) (framesOf s arena ends) (t .frames) .0 in
-    let l : topEntry r .what ≡ w = ap (λ (f : Frame). f .entry .what) k in
+    let l : topEntry r ends' .what ≡ w = ap (λ (f : Frame). f .entry .what) k in
     rw (l, no-text w e) (omega (arith, t .depth))
 
 -- what is put on top is the text with all its lines
@@ -193,7 +193,7 @@ sprung-called m last args given h bytes s arena ends fs ss n r arena' ends' c th
       c .is ts (t .0) (t .1) x l ∙ sym (ap (λ (o : Option Text). springText o (heldOf ts h bytes) (withStack (stackOf ts s arena ends) x)) (t .1));
   good = λ st ks ls i g. let t = there st ks ls i in c .good (textsOf st fs ss ks ls n) (t .0) (t .1) g;
   columns = c .columns;
-  fits = fits-few (r .stack) (c .few);
+  fits = fits-few (r .stack) ends' (c .few);
 }
 
 -- no arguments lie anywhere
@@ -216,11 +216,11 @@ module _ (page : Page) (h : Held) (bytes : List ℕ) (s : Stack) (arena ends fs 
   module _ (k : Columns s arena ends) (d : s .depth ≤ 16) where
     -- the end is done
     pub landed-done : LandedTo landing.done page h bytes s arena ends fs ss n (record { way = Done; page = page; stack = s }) arena ends
-    landed-done = record { is = λ st ks ls i ps pl x. refl; good = λ st ks ls i g. g; columns = k; fits = fits-few s d; within = λ pl a b. a; numbered = λ a b. a }
+    landed-done = record { is = λ st ks ls i ps pl x. refl; good = λ st ks ls i g. g; columns = k; fits = fits-few s ends d; within = λ pl a b. a; numbered = λ a b. a }
 
     -- a page too many
     pub landed-past : LandedTo landing.tooMany page h bytes s arena ends fs ss n (record { way = Refused 12; page = page; stack = s }) arena ends
-    landed-past = record { is = λ st ks ls i ps pl x. refl; good = λ st ks ls i g. g; columns = k; fits = fits-few s d; within = λ pl a b. a; numbered = λ a b. a }
+    landed-past = record { is = λ st ks ls i ps pl x. refl; good = λ st ks ls i g. g; columns = k; fits = fits-few s ends d; within = λ pl a b. a; numbered = λ a b. a }
 
 -- a move that leads where a landing says is the rules' move
 pub moved : (l : Landing) (move : List Item → State → State) (page : Page) (length : Rows) (planted : Planted) (h : Held) (bytes : List ℕ) (s : Stack) (arena ends fs ss : List ℕ) (n : ℕ) (r : Landed) (arena' ends' : List ℕ)

@@ -63,7 +63,7 @@ pub record SprungTo (found : Option Name) (last : Bool) (h : Held) (bytes : List
       ≡ springText (userText found (textsOf st fs ss ks ls n)) (heldOf (textsOf st fs ss ks ls n) h bytes) (withStack (stackOf (textsOf st fs ss ks ls n) s arena ends) x)
   pub good : (st ks ls : List ℕ) → Lies st fs ss ks ls n → KeepsGood (textsOf st fs ss ks ls n) s arena ends (r .stack) arena' ends'
   pub columns : Columns (r .stack) arena' ends'
-  pub fits : Fits (r .stack)
+  pub fits : Fits (r .stack) ends'
 
 -- a state with these texts, traps, page and stack, and pages of so many rows
 abbrev pub standing : List Text → List Trap → (rows : ℕ) → traps.Page → List Item → State → State
@@ -99,7 +99,7 @@ pub record LandedTo (l : Landing) (page : Page) (h : Held) (bytes : List ℕ) (s
       ≡ landed l (heldOf (textsOf st fs ss ks ls n) h bytes) (standing (textsOf st fs ss ks ls n) ps pl (pageOf page) (stackOf (textsOf st fs ss ks ls n) s arena ends) x)
   pub good : (st ks ls : List ℕ) → Lies st fs ss ks ls n → KeepsGood (textsOf st fs ss ks ls n) s arena ends (r .stack) arena' ends'
   pub columns : Columns (r .stack) arena' ends'
-  pub fits : Fits (r .stack)
+  pub fits : Fits (r .stack) ends'
   pub within : (pl : ℕ) → downOf (page .used) < pl → LandsWithin pl l → downOf (r .page .used) < pl
   pub numbered : page .number ≤ 1000000 → LandsNumbered l → r .page .number ≤ 1000000
 
@@ -110,6 +110,6 @@ pub record MovedTo (move : List Item → State → State) (page : Page) (length 
       ≡ move (heldOf (textsOf st fs ss ks ls n) h bytes) (standing (textsOf st fs ss ks ls n) (plantedOf planted) (downOf length) (pageOf page) (stackOf (textsOf st fs ss ks ls n) s arena ends) x)
   pub good : (st ks ls : List ℕ) → Lies st fs ss ks ls n → KeepsGood (textsOf st fs ss ks ls n) s arena ends (r .stack) arena' ends'
   pub columns : Columns (r .stack) arena' ends'
-  pub fits : Fits (r .stack)
+  pub fits : Fits (r .stack) ends'
   pub within : downOf (r .page .used) < downOf length
   pub numbered : page .number ≤ 1000000 → r .page .number ≤ 1000000

@@ -68,8 +68,8 @@ limitBy true = 16
 limitBy false = 17
 
 -- "10: input stack past 16 items"
-abbrev pub Fits : Stack → Type 0
-Fits s = s .depth ≤ limitBy (isText (topEntry s .what))
+abbrev pub Fits : Stack → (ends : List ℕ) → Type 0
+Fits s ps = s .depth ≤ limitBy (isText (topEntry s ps .what))
 
 -- a stack onto which work may put something, and bytes that may be held
 pub record Ready (s : Stack) (arena ends bytes : List ℕ) : Type 0 where

@@ -70,7 +70,7 @@ pub fn hold(
     bytes: &[u8],
     stack: Stack,
     arena: &mut [u8; 8704],
-    ends: &mut [u16; 153],
+    ends: &mut [u16; 221],
 ) -> Stack
     requires { ⌜ Ready stack (now arena) (now ends) (now bytes) ⌝ }
     ensures { λ r. ⌜ HeldTo held (now (bytes .entry)) stack (now (arena .entry)) (now (ends .entry)) r (now (arena .exit)) (now (ends .exit)) ⌝ }
@@ -93,7 +93,7 @@ pub fn call(
     last: bool,
     stack: Stack,
     arena: &mut [u8; 8704],
-    ends: &mut [u16; 153],
+    ends: &mut [u16; 221],
 ) -> Called
     requires { ⌜ Ready stack (now arena) (now ends) (now bytes) × Plain held × (length (now arguments) ≤ 512) × Arguments (now arguments) (now given) count ⌝ }
     ensures { λ r. ⌜ CalledTo name count (now (arguments .entry)) (now (given .entry)) held (now (bytes .entry)) last stack (now (arena .entry)) (now (ends .entry)) r (now (arena .exit)) (now (ends .exit)) ⌝ }
@@ -122,7 +122,7 @@ fn held_alone(
     bytes: &[u8],
     stack: Stack,
     arena: &mut [u8; 8704],
-    ends: &mut [u16; 153],
+    ends: &mut [u16; 221],
 ) -> Called
     requires { ⌜ Ready stack (now arena) (now ends) (now bytes) ⌝ }
     ensures { λ r. ⌜ (r .full ≡ false) × HeldTo held (now (bytes .entry)) stack (now (arena .entry)) (now (ends .entry)) (r .stack) (now (arena .exit)) (now (ends .exit)) ⌝ }
@@ -142,7 +142,7 @@ pub fn spring(
     bytes: &[u8],
     stack: Stack,
     arena: &mut [u8; 8704],
-    ends: &mut [u16; 153],
+    ends: &mut [u16; 221],
     firsts: &[u8; 64],
     seconds: &[u8; 64],
     texts: usize,
@@ -200,7 +200,7 @@ fn land(
     bytes: &[u8],
     stack: Stack,
     arena: &mut [u8; 8704],
-    ends: &mut [u16; 153],
+    ends: &mut [u16; 221],
     firsts: &[u8; 64],
     seconds: &[u8; 64],
     texts: usize,
@@ -247,7 +247,7 @@ pub fn down(
     bytes: &[u8],
     stack: Stack,
     arena: &mut [u8; 8704],
-    ends: &mut [u16; 153],
+    ends: &mut [u16; 221],
     firsts: &[u8; 64],
     seconds: &[u8; 64],
     texts: usize,
@@ -279,7 +279,7 @@ pub fn start_page(
     bytes: &[u8],
     stack: Stack,
     arena: &mut [u8; 8704],
-    ends: &mut [u16; 153],
+    ends: &mut [u16; 221],
     firsts: &[u8; 64],
     seconds: &[u8; 64],
     texts: usize,

@@ -12,7 +12,7 @@ use Rattle.checks.proofs.are_arguments.Tie as tie
 
 abbrev Inv-loop : tie.InvT-loop
 Inv-loop ends frame count size given at from₀ i₀ from i =
-    (i ≤ count) × (areArguments (take 9 (drop (frame * 9) ends)) count size ≡ inOrder from size (drop i (take count (take 9 (drop (frame * 9) ends)))))
+    (i ≤ count) × (areArguments (take 9 (drop (frame * 13 + 4) ends)) count size ≡ inOrder from size (drop i (take count (take 9 (drop (frame * 13 + 4) ends)))))
 
 abbrev μ-loop : tie.MeasureT-loop
 μ-loop ends frame count size given at from₀ i₀ from i = count - i
@@ -24,7 +24,7 @@ places s = given (now (s .args .ends)) (s .args .frame) (s .args .count)
 places-long : (s : tie.Start Inv-loop μ-loop) → s .args .count ≤ 9 → length (places s) ≡ s .args .count
 places-long s h = given-long (now (s .args .ends)) (s .args .frame) (s .args .count) (s .pre .0) (s .pre .1) h
 
-place-at : (s : tie.Start Inv-loop μ-loop) (i : ℕ) → s .args .count ≤ 9 → i < s .args .count → getD (places s) i 0 ≡ getD (now (s .args .ends)) (s .args .frame * 9 + i) 0
+place-at : (s : tie.Start Inv-loop μ-loop) (i : ℕ) → s .args .count ≤ 9 → i < s .args .count → getD (places s) i 0 ≡ getD (now (s .args .ends)) (s .args .frame * 13 + 4 + i) 0
 place-at s i h k = given-at (now (s .args .ends)) (s .args .frame) (s .args .count) (s .pre .0) (s .pre .1) h i k
 
 returns : tie.Need-returns Inv-loop μ-loop
@@ -32,6 +32,9 @@ returns c = sym (arguments-many _ _ _ (c .if1 .taken))
 
 mul-at : tie.Need-mul-at Inv-loop μ-loop
 mul-at c = omega arith
+
+add-at : tie.Need-add-at Inv-loop μ-loop
+add-at c = omega arith
 
 loop-holds : tie.Need-loop-holds Inv-loop μ-loop
 loop-holds c = (omega arith, arguments-few _ _ _ (c .if1 .left))
@@ -79,6 +82,7 @@ are-arguments-spec =
     μ-loop
     returns
     mul-at
+    add-at
     loop-holds
     add-end
     mul-end

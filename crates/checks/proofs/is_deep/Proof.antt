@@ -4,6 +4,7 @@ use mathlib.Core.Bool.{Bool, true, false, not}
 use Prim.Native.Nat.{ℕ, _+_, _≤_, _<_}
 use native.Mathlib.Omega.{arith}
 use lib.Dec.{leb}
+use denote.Ref.{now}
 use borrow.Author.Needs.{needs}
 use borrow.Author.Tests.{le-leb, lt-leb}
 use Rattle.rules.specs.Rows.{theEnd}
@@ -31,7 +32,7 @@ over n true e = rw e
 over n false e = rw e
 
 returns : tie.Need-returns
-returns c = let a = c .before .args in many (a .stack .depth + theEnd (a .last)) (isText (topEntry (a .stack) .what)) (omega arith)
+returns c = let a = c .before .args in many (a .stack .depth + theEnd (a .last)) (isText (topEntry (a .stack) (now (a .ends)) .what)) (omega arith)
 
 the-end-requires : tie.Need-the-end-requires
 the-end-requires c κs = search needs
@@ -42,12 +43,12 @@ add-items c = omega (arith, c .the-end .ensures, end-most (c .before .before .ar
 returns-2 : tie.Need-returns-2
 returns-2 c =
     let x = c .before in let a = x .before .before .args in
-    few (a .stack .depth + theEnd (a .last)) (isText (topEntry (a .stack) .what)) (omega (arith, x .the-end .ensures))
+    few (a .stack .depth + theEnd (a .last)) (isText (topEntry (a .stack) (now (a .ends)) .what)) (omega (arith, x .the-end .ensures))
 
 returns-3 : tie.Need-returns-3
 returns-3 c =
     let x = c .before .before in let a = x .before .before .args in
-    many (a .stack .depth + theEnd (a .last)) (isText (topEntry (a .stack) .what)) (omega (arith, x .the-end .ensures))
+    many (a .stack .depth + theEnd (a .last)) (isText (topEntry (a .stack) (now (a .ends)) .what)) (omega (arith, x .the-end .ensures))
 
 top-requires : tie.Need-top-requires
 top-requires c κs =
@@ -61,7 +62,7 @@ returns-4 : tie.Need-returns-4
 returns-4 c =
     let b = c .before .before in let x = b .before .before in let a = x .before .before .args in
     ap not (c .is-text .ensures ∙ ap (λ (e : Entry). isText (e .what)) (c .before .top .ensures))
-    ∙ over (a .stack .depth + theEnd (a .last)) (isText (topEntry (a .stack) .what)) (omega (arith, x .the-end .ensures))
+    ∙ over (a .stack .depth + theEnd (a .last)) (isText (topEntry (a .stack) (now (a .ends)) .what)) (omega (arith, x .the-end .ensures))
 
 pub is-deep-spec : {M : Type 1} → statement M
 is-deep-spec =

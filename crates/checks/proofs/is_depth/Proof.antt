@@ -4,6 +4,7 @@ use mathlib.Core.Bool.{Bool, true, false, not, _&&_}
 use Prim.Native.Nat.{ℕ, _≤_, _<_}
 use native.Mathlib.Omega.{arith}
 use lib.Dec.{leb}
+use denote.Ref.{now}
 use borrow.Author.Needs.{needs}
 use borrow.Author.Tests.{le-leb, lt-leb}
 use Rattle.input.specs.declared.Entry.{Entry}
@@ -25,10 +26,10 @@ over d true e = rw e
 over d false e = rw e
 
 returns : tie.Need-returns
-returns c = let s = c .before .args .stack in few (s .depth) (isText (topEntry s .what)) (c .if1 .taken)
+returns c = let a = c .before .args in let s = a .stack in few (s .depth) (isText (topEntry s (now (a .ends)) .what)) (c .if1 .taken)
 
 returns-2 : tie.Need-returns-2
-returns-2 c = let s = c .before .before .args .stack in many (s .depth) (isText (topEntry s .what)) (c .if2 .taken)
+returns-2 c = let a = c .before .before .args in let s = a .stack in many (s .depth) (isText (topEntry s (now (a .ends)) .what)) (c .if2 .taken)
 
 top-requires : tie.Need-top-requires
 top-requires c κs = search needs
@@ -38,8 +39,8 @@ is-text-requires c κs = search needs
 
 returns-3 : tie.Need-returns-3
 returns-3 c =
-    let s = c .before .before .before .before .args .stack in
-    ap not (c .is-text .ensures ∙ ap (λ (e : Entry). isText (e .what)) (c .before .top .ensures)) ∙ over (s .depth) (isText (topEntry s .what)) (omega arith)
+    let a = c .before .before .before .before .args in let s = a .stack in
+    ap not (c .is-text .ensures ∙ ap (λ (e : Entry). isText (e .what)) (c .before .top .ensures)) ∙ over (s .depth) (isText (topEntry s (now (a .ends)) .what)) (omega arith)
 
 pub is-depth-spec : {M : Type 1} → statement M
 is-depth-spec = tie.close (tie.spec returns returns-2 top-requires is-text-requires returns-3)

@@ -23,7 +23,7 @@ returns-2 c =
     rw (passes (a .before .is-layered .ensures) (a .if1 .left), fails (c .before .is-deep .ensures) (c .if2 .taken))
 
 is-open-over-requires : tie.Need-is-open-over-requires
-is-open-over-requires c κs = let a = c .before .before in layered-most _ (passes (a .before .is-layered .ensures) (a .if1 .left))
+is-open-over-requires c κs = let a = c .before .before in layered-most _ _ (passes (a .before .is-layered .ensures) (a .if1 .left))
 
 returns-3 : tie.Need-returns-3
 unfolding isPile

@@ -1,5 +1,5 @@
 -- `checks::is_stack` meets its contract. The invariant: all frames keep to their limits if those below i do. Assumes nothing.
-use Prim.Native.Nat.{_≤_, _-_, _*_}
+use Prim.Native.Nat.{_≤_, _+_, _-_, _*_}
 use mathlib.Core.Path.{_≡_, refl, sym, ap, _∙_}
 use mathlib.Core.Bool.{Bool, true, false, _&&_}
 use native.Mathlib.Omega.{arith}
@@ -9,8 +9,6 @@ use borrow.Author.Needs.{needs}
 use borrow.Author.Tests.{not-true, not-false}
 use Rattle.texts.specs.Table.{namesOf}
 use Rattle.input.specs.declared.Entry.{Entry}
-use Rattle.input.specs.Frames.{noEntry}
-use Rattle.input.proofs.Laws.{held, behind, array-length}
 use Rattle.checks.specs.Checks.{isFrame, areFrames, isDepth, isStack}
 use Rattle.checks.proofs.Tests.{fails, passes}
 use Rattle.checks.proofs.Walks.{depth-most, frames-step, frames-none, stack-by}
@@ -18,11 +16,11 @@ use Rattle.checks.proofs.is_stack.Statement.{statement}
 use Rattle.checks.proofs.is_stack.Tie as tie
 
 abbrev Inv-loop : tie.InvT-loop
-Inv-loop ends firsts seconds count entries i₀ i =
-    (i ≤ i₀) × (areFrames (namesOf firsts seconds count) entries ends i₀ ≡ areFrames (namesOf firsts seconds count) entries ends i)
+Inv-loop ends firsts seconds count i₀ i =
+    (i ≤ i₀) × (areFrames (namesOf firsts seconds count) ends i₀ ≡ areFrames (namesOf firsts seconds count) ends i)
 
 abbrev μ-loop : tie.MeasureT-loop
-μ-loop ends firsts seconds count entries i₀ i = i
+μ-loop ends firsts seconds count i₀ i = i
 
 is-depth-requires : tie.Need-is-depth-requires Inv-loop μ-loop
 is-depth-requires c κs = search needs
@@ -32,11 +30,11 @@ unfolding isStack
 returns c = rw (fails (c .before .is-depth .ensures) (c .if1 .taken))
 
 -- the depth passed its test
-deep : (c : tie.Else1 Inv-loop μ-loop) → let s = c .before .before .args .stack in isDepth s ≡ true
+deep : (c : tie.Else1 Inv-loop μ-loop) → let a = c .before .before .args in isDepth (a .stack) (now (a .ends)) ≡ true
 deep c = passes (c .before .is-depth .ensures) (c .if1 .left)
 
 most : (c : tie.Else1 Inv-loop μ-loop) → c .before .before .args .stack .depth ≤ 17
-most c = depth-most (c .before .before .args .stack) (deep c)
+most c = depth-most (c .before .before .args .stack) (now (c .before .before .args .ends)) (deep c)
 
 loop-holds : tie.Need-loop-holds Inv-loop μ-loop
 loop-holds c = (omega arith, refl)
@@ -44,31 +42,28 @@ loop-holds c = (omega arith, refl)
 sub-i : tie.Need-sub-i Inv-loop μ-loop
 sub-i c = search needs
 
-mul-entry : tie.Need-mul-entry Inv-loop μ-loop
-mul-entry c = let h = most (c .before .before .before) in omega arith
-
-array-copy-out-entry : tie.Need-array-copy-out-entry Inv-loop μ-loop
-array-copy-out-entry c = let h = most (c .before .before .before) in omega arith
+entry-at-requires : tie.Need-entry-at-requires Inv-loop μ-loop
+entry-at-requires c κs = let h = most (c .before .before) in omega arith
 
 is-frame-requires : tie.Need-is-frame-requires Inv-loop μ-loop
 is-frame-requires c κs =
-    let e = c .before .before .before .before in let h = most e in let p = e .before .before .pre in (p .0, p .1, omega arith)
+    let e = c .before .before .before in let h = most e in let p = e .before .before .pre in (p .0, p .1, omega arith)
 
 -- where the test of the frame gave v, all keep to their limits if v is true and those below it do
-step : (c : tie.After-is-frame Inv-loop μ-loop) (v : Bool) → c .is-frame .result ≡ v → let l = c .before .before .before in let a = l .before .before .before .before .args in
-    areFrames (namesOf (now (a .firsts)) (now (a .seconds)) (a .count)) (a .stack .entries) (now (a .ends)) (a .stack .depth)
-    ≡ (v && areFrames (namesOf (now (a .firsts)) (now (a .seconds)) (a .count)) (a .stack .entries) (now (a .ends)) (l .loop .i - 1))
+step : (c : tie.After-is-frame Inv-loop μ-loop) (v : Bool) → c .is-frame .result ≡ v → let l = c .before .before .before in let a = l .before .before .before .args in
+    areFrames (namesOf (now (a .firsts)) (now (a .seconds)) (a .count)) (now (a .ends)) (a .stack .depth)
+    ≡ (v && areFrames (namesOf (now (a .firsts)) (now (a .seconds)) (a .count)) (now (a .ends)) (l .loop .i - 1))
 step c v e =
-    let l = c .before .before .before in let s = l .before .before .before .before in let a = s .args in
-    let ns = namesOf (now (a .firsts)) (now (a .seconds)) (a .count) in let es = a .stack .entries in let ps = now (a .ends) in
-    let n = array-length _ es 17 (s .good .0 .1 .1 .0 .1 .0 .1) in let h = most (l .before .before) in
-    l .loop .inv .1 ∙ frames-step ns es ps (l .loop .i) (omega arith)
-    ∙ ap (λ (b : Bool). b && areFrames ns es ps (l .loop .i - 1))
-    (ap (λ (x : Entry). isFrame ns x (take 9 (drop ((l .loop .i - 1) * 9) ps))) (held es (l .loop .i - 1) noEntry behind (omega arith)) ∙ sym (c .is-frame .ensures) ∙ e)
+    let l = c .before .before .before in let a = l .before .before .before .args in
+    let ns = namesOf (now (a .firsts)) (now (a .seconds)) (a .count) in let ps = now (a .ends) in
+    let h = most (l .before) in
+    l .loop .inv .1 ∙ frames-step ns ps (l .loop .i) (omega arith)
+    ∙ ap (λ (b : Bool). b && areFrames ns ps (l .loop .i - 1))
+    (ap (λ (x : Entry). isFrame ns x (take 9 (drop ((l .loop .i - 1) * 13 + 4) ps))) (sym (c .before .entry-at .ensures)) ∙ sym (c .is-frame .ensures) ∙ e)
 
 returns-2 : tie.Need-returns-2 Inv-loop μ-loop
 returns-2 c =
-    let e = c .before .before .before .before .before .before in
+    let e = c .before .before .before .before .before in
     stack-by _ (e .before .before .args .stack) _ false (deep e) (step (c .before) false (not-true _ (c .if2 .taken)))
 
 loop-less : tie.Need-loop-less Inv-loop μ-loop
@@ -79,8 +74,8 @@ loop-again c = (omega arith, step (c .before) true (not-false _ (c .if2 .left)))
 
 returns-3 : tie.Need-returns-3 Inv-loop μ-loop
 returns-3 c =
-    let l = c .before in let e = l .before .before in let a = e .before .before .args in
-    stack-by _ (a .stack) _ true (deep e) (l .loop .inv .1 ∙ frames-none _ (a .stack .entries) (now (a .ends)) (l .loop .i) (omega arith))
+    let l = c .before in let e = l .before in let a = e .before .before .args in
+    stack-by _ (a .stack) _ true (deep e) (l .loop .inv .1 ∙ frames-none _ (now (a .ends)) (l .loop .i) (omega arith))
 
 pub is-stack-spec : {M : Type 1} → statement M
 is-stack-spec =
@@ -92,8 +87,7 @@ is-stack-spec =
     returns
     loop-holds
     sub-i
-    mul-entry
-    array-copy-out-entry
+    entry-at-requires
     is-frame-requires
     returns-2
     loop-less

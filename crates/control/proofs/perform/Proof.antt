@@ -46,7 +46,7 @@ enum-told-4 : tie.Need-enum-told-4
 enum-told-4 c = search needs
 
 remove-requires : tie.Need-remove-requires
-remove-requires c κs = let y = (c .before .before .before .before .before .before .before .before .before .before .before .before .before .before .before .before .before) in let a = y .args in let b = y .pre .0 in (record { lies = b .sound .lies; few = omega (arith, b .items) }, search needs)
+remove-requires c κs = let y = (c .before .before .before .before .before .before .before .before .before .before .before .before .before .before .before .before .before .before) in let a = y .args in let b = y .pre .0 in (record { lies = b .sound .lies; few = omega (arith, b .items) }, search needs)
 
 changed-requires : tie.Need-changed-requires
 changed-requires c κs = search needs
@@ -55,7 +55,7 @@ enum-told-5 : tie.Need-enum-told-5
 enum-told-5 c = search needs
 
 open-requires : tie.Need-open-requires
-open-requires c κs = let y = (c .before .before .before .before .before .before .before .before .before .before .before .before .before .before .before .before .before) in let a = y .args in let b = y .pre .0 in (record { lies = b .sound .lies; few = omega (arith, b .items) }, search needs)
+open-requires c κs = let y = (c .before .before .before .before .before .before .before .before .before .before .before .before .before .before .before .before .before .before) in let a = y .args in let b = y .pre .0 in (record { lies = b .sound .lies; few = omega (arith, b .items) }, search needs)
 
 opened-requires : tie.Need-opened-requires
 opened-requires c κs = search needs
@@ -73,13 +73,13 @@ same-length : tie.Need-same-length
 same-length c = search needs
 
 returns-4 : tie.Need-returns-4
-returns-4 c = let y = (c .before .before .before .before .before .before .before .before .before .before .before .before .before .before .before .before .before .before .before .before .before) in let a = y .args in let b = y .pre .0 in rw (c .changed .ensures) (performed (printerOf (a .printer)) (now (a .line)) (a .request) Rm (removes-one (a .request) (sym (c .before .before .before .before .before .before .before .before .before .before .before .before .group-of .ensures) ∙ c .before .before .before .before .before .before .before .before .before .before .enum-told4 .given .1)) (changed-did (a .status) (now (a .cells)) (now (a .arena)) (now (a .ends)) (now (a .store)) (now (a .text-firsts)) (now (a .text-seconds)) (now (a .kinds)) (now (a .lengths)) (now (a .firsts)) (now (a .seconds)) (now (a .values)) (now (a .steps)) (now (a .line)) (now (a .row)) (a .printer) b (y .pre .1) _ _ _ _ _ (λ s. perform (printerOf (a .printer)) Rm (now (a .line)) s) _ (c .before .before .before .remove .ensures)))
+returns-4 c = let y = (c .before .before .before .before .before .before .before .before .before .before .before .before .before .before .before .before .before .before .before .before .before .before) in let a = y .args in let b = y .pre .0 in rw (c .changed .ensures) (performed (printerOf (a .printer)) (now (a .line)) (a .request) Rm (removes-one (a .request) (sym (c .before .before .before .before .before .before .before .before .before .before .before .before .before .group-of .ensures) ∙ c .before .before .before .before .before .before .before .before .before .before .before .enum-told4 .given .1)) (changed-did (a .status) (now (a .cells)) (now (a .arena)) (now (a .ends)) (now (a .store)) (now (a .text-firsts)) (now (a .text-seconds)) (now (a .kinds)) (now (a .lengths)) (now (a .firsts)) (now (a .seconds)) (now (a .values)) (now (a .steps)) (now (a .line)) (now (a .row)) (a .printer) b (y .pre .1) _ _ _ _ _ (λ s. perform (printerOf (a .printer)) Rm (now (a .line)) s) _ (c .before .before .before .remove .ensures)))
 
 same-length-2 : tie.Need-same-length-2
 same-length-2 c = search needs
 
 returns-5 : tie.Need-returns-5
-returns-5 c = let y = (c .before .before .before .before .before .before .before .before .before .before .before .before .before .before .before .before .before .before .before .before .before) in let a = y .args in let b = y .pre .0 in rw (c .opened .ensures) (performed (printerOf (a .printer)) (now (a .line)) (a .request) De (opens-one (a .request) (sym (c .before .before .before .before .before .before .before .before .before .before .before .before .group-of .ensures) ∙ c .before .before .before .before .before .before .before .before .before .before .enum-told5 .given .1)) (opened-did (a .status) (now (a .cells)) (now (a .arena)) (now (a .ends)) (now (a .store)) (now (a .text-firsts)) (now (a .text-seconds)) (now (a .kinds)) (now (a .lengths)) (now (a .firsts)) (now (a .seconds)) (now (a .values)) (now (a .steps)) (now (a .line)) (now (a .row)) (a .printer) b (y .pre .1) _ _ _ _ _ (λ s. perform (printerOf (a .printer)) De (now (a .line)) s) _ _ _ (c .before .before .before .«open» .ensures .0) (c .before .before .before .«open» .ensures .1)))
+returns-5 c = let y = (c .before .before .before .before .before .before .before .before .before .before .before .before .before .before .before .before .before .before .before .before .before .before) in let a = y .args in let b = y .pre .0 in rw (c .opened .ensures) (performed (printerOf (a .printer)) (now (a .line)) (a .request) De (opens-one (a .request) (sym (c .before .before .before .before .before .before .before .before .before .before .before .before .before .group-of .ensures) ∙ c .before .before .before .before .before .before .before .before .before .before .before .enum-told5 .given .1)) (opened-did (a .status) (now (a .cells)) (now (a .arena)) (now (a .ends)) (now (a .store)) (now (a .text-firsts)) (now (a .text-seconds)) (now (a .kinds)) (now (a .lengths)) (now (a .firsts)) (now (a .seconds)) (now (a .values)) (now (a .steps)) (now (a .line)) (now (a .row)) (a .printer) b (y .pre .1) _ _ _ _ _ (λ s. perform (printerOf (a .printer)) De (now (a .line)) s) _ _ _ (c .before .before .before .«open» .ensures .0) (c .before .before .before .«open» .ensures .1)))
 
 pub perform-spec : {M : Type 1} → statement M
 perform-spec =

@@ -30,7 +30,7 @@ enum-told : tie.Need-enum-told
 enum-told c = search needs
 
 define-requires : tie.Need-define-requires
-define-requires c κs = let y = (c .before .before .before .before .before .before .before .before .before .before .before .before .before .before .before) in let a = y .args in let b = y .pre .0 in (record { ready = record { lies = b .sound .lies; few = omega (arith, b .items) }; long = b .sound .store }, b .short, search needs)
+define-requires c κs = let y = (c .before .before .before .before .before .before .before .before .before .before .before .before .before .before .before .before) in let a = y .args in let b = y .pre .0 in (record { ready = record { lies = b .sound .lies; few = omega (arith, b .items) }; long = b .sound .store }, b .short, search needs)
 
 changed-requires : tie.Need-changed-requires
 changed-requires c κs = search needs
@@ -48,7 +48,7 @@ same-length-2 : tie.Need-same-length-2
 same-length-2 c = search needs
 
 returns-3 : tie.Need-returns-3
-returns-3 c = let y = (c .before .before .before .before .before .before .before .before .before .before .before .before .before .before .before .before .before .before .before) in let a = y .args in let b = y .pre .0 in rw (c .before .before .before .before .before .before .before .before .before .before .enum-told .given .1, c .changed .ensures) (changed-did (a .status) (now (a .cells)) (now (a .arena)) (now (a .ends)) (now (a .store)) (now (a .text-firsts)) (now (a .text-seconds)) (now (a .kinds)) (now (a .lengths)) (now (a .firsts)) (now (a .seconds)) (now (a .values)) (now (a .steps)) (now (a .line)) (now (a .row)) (a .printer) b (y .pre .1) _ _ _ _ _ (defines (a .after-if) (now (a .line))) _ (c .before .before .before .define .ensures .changes))
+returns-3 c = let y = (c .before .before .before .before .before .before .before .before .before .before .before .before .before .before .before .before .before .before .before .before) in let a = y .args in let b = y .pre .0 in rw (c .before .before .before .before .before .before .before .before .before .before .before .enum-told .given .1, c .changed .ensures) (changed-did (a .status) (now (a .cells)) (now (a .arena)) (now (a .ends)) (now (a .store)) (now (a .text-firsts)) (now (a .text-seconds)) (now (a .kinds)) (now (a .lengths)) (now (a .firsts)) (now (a .seconds)) (now (a .values)) (now (a .steps)) (now (a .line)) (now (a .row)) (a .printer) b (y .pre .1) _ _ _ _ _ (defines (a .after-if) (now (a .line))) _ (c .before .before .before .define .ensures .changes))
 
 pub request-spec : {M : Type 1} → statement M
 request-spec =

@@ -43,7 +43,7 @@ returns-2 : tie.Need-returns-2
 returns-2 c =
     let y = c .before .before .before .before .before in let a = y .args in
     let e = sym (c .before .before .name-of .ensures) ∙ ap namedIs (c .enum-told .given .1) in (
-      opens-nothing (now (a .store)) (now (a .firsts)) (now (a .seconds)) (now (a .kinds)) (now (a .lengths)) (a .count) (a .stack) (now (a .name)) (y .pre .lies) e,
+      opens-nothing (now (a .store)) (now (a .firsts)) (now (a .seconds)) (now (a .kinds)) (now (a .lengths)) (a .count) (a .stack) (now (a .frames)) (now (a .name)) (y .pre .lies) e,
       subst (λ (m : Named). OpeningIs m changed.Same (a .opening) (a .opening)) (sym e) refl,
     )
 
@@ -51,7 +51,7 @@ returns-3 : tie.Need-returns-3
 returns-3 c =
     let y = c .before .before .before .before .before in let a = y .args in
     let e = sym (c .before .before .name-of .ensures) ∙ ap namedIs (c .enum-told2 .given .1) in (
-      opens-long (now (a .store)) (now (a .firsts)) (now (a .seconds)) (now (a .kinds)) (now (a .lengths)) (a .count) (a .stack) (now (a .name)) (y .pre .lies) e,
+      opens-long (now (a .store)) (now (a .firsts)) (now (a .seconds)) (now (a .kinds)) (now (a .lengths)) (a .count) (a .stack) (now (a .frames)) (now (a .name)) (y .pre .lies) e,
       subst (λ (m : Named). OpeningIs m (changed.Refused 7) (a .opening) (a .opening)) (sym e) refl,
     )
 

@@ -37,16 +37,16 @@ returns-2 : tie.Need-returns-2
 returns-2 c = let y = (c .before .before .before .before .before .before .before .before .before .before .before .before .before .before .before) in let a = y .args in let b = y .pre in rw (c .counted2 .ensures, c .before .moved .ensures) (worked-end (printerOf (a .printer)) (wholeOf (a .status) (now (a .cells)) (now (a .arena)) (now (a .ends)) (now (a .store)) (now (a .text-firsts)) (now (a .text-seconds)) (now (a .kinds)) (now (a .lengths)) (now (a .firsts)) (now (a .seconds)) (now (a .values)) (now (a .steps))) (a .stored) (b .counted) _ _ _ _ (c .before .before .before .before .before .before .before .before .before .before .if1 .taken) (λ s. workEnd (s .page .last) s) (λ x. idle-none (printerOf (a .printer)) (wholeOf (a .status) (now (a .cells)) (now (a .arena)) (now (a .ends)) (now (a .store)) (now (a .text-firsts)) (now (a .text-seconds)) (now (a .kinds)) (now (a .lengths)) (now (a .firsts)) (now (a .seconds)) (now (a .values)) (now (a .steps))) x (c .before .before .before .before .before .before .before .before .before .if2 .left)) (desk-did (λ ts s. workEnd (s .page .last) s) (wholeOf (a .status) (now (a .cells)) (now (a .arena)) (now (a .ends)) (now (a .store)) (now (a .text-firsts)) (now (a .text-seconds)) (now (a .kinds)) (now (a .lengths)) (now (a .firsts)) (now (a .seconds)) (now (a .values)) (now (a .steps))) _ _ _ _ (b .sound) (c .before .before .work-end .ensures)))
 
 top-requires : tie.Need-top-requires
-top-requires c κs = let y = (c .before .before .before .before .before) in let a = y .args in let b = y .pre in (omega (arith, c .if1 .left), b .sound .sheet .columns .few)
+top-requires c κs = let y = (c .before .before .before .before .before .before) in let a = y .args in let b = y .pre in (omega (arith, c .before .if1 .left), b .sound .sheet .columns .few)
 
 enum-known-what : tie.Need-enum-known-what
 enum-known-what c = search needs
 
 read-text-requires : tie.Need-read-text-requires
-read-text-requires c κs = let y = (c .before .before .before .before .before .before .before .before .before .before .before .before .before .before .before .before .before .before .before .before .before .before) in let a = y .args in let b = y .pre in record { ready = b; deep = omega (arith, c .before .before .before .before .before .before .before .before .before .before .before .before .before .before .before .before .before .if1 .left); top = sym (ap (λ (e : Entry). e .what) (c .before .before .before .before .before .before .before .before .before .before .before .before .before .before .before .before .top .ensures)) ∙ c .before .before .before .before .before .before .before .before .before .before .before .before .before .before .what .given .1 }
+read-text-requires c κs = let y = (c .before .before .before .before .before .before .before .before .before .before .before .before .before .before .before .before .before .before .before .before .before .before .before) in let a = y .args in let b = y .pre in record { ready = b; deep = omega (arith, c .before .before .before .before .before .before .before .before .before .before .before .before .before .before .before .before .before .before .if1 .left); top = sym (ap (λ (e : Entry). e .what) (c .before .before .before .before .before .before .before .before .before .before .before .before .before .before .before .before .top .ensures)) ∙ c .before .before .before .before .before .before .before .before .before .before .before .before .before .before .what .given .1 }
 
 take-item-requires : tie.Need-take-item-requires
-take-item-requires c κs = let y = (c .before .before .before .before .before .before .before .before .before .before .before .before .before .before .before .before .before .before .before .before) in let a = y .args in let b = y .pre in record { ready = b; deep = omega (arith, c .before .before .before .before .before .before .before .before .before .before .before .before .before .before .before .if1 .left); top = sym (ap (λ (e : Entry). e .what) (c .before .before .before .before .before .before .before .before .before .before .before .before .before .before .top .ensures)); other = no-text (c .before .before .before .before .before .before .before .before .before .before .before .before .before .before .top .result .what) (c .before .before .before .before .before .before .before .before .before .before .before .before .before .match .keys2) }
+take-item-requires c κs = let y = (c .before .before .before .before .before .before .before .before .before .before .before .before .before .before .before .before .before .before .before .before .before) in let a = y .args in let b = y .pre in record { ready = b; deep = omega (arith, c .before .before .before .before .before .before .before .before .before .before .before .before .before .before .before .before .if1 .left); top = sym (ap (λ (e : Entry). e .what) (c .before .before .before .before .before .before .before .before .before .before .before .before .before .before .top .ensures)); other = no-text (c .before .before .before .before .before .before .before .before .before .before .before .before .before .before .top .result .what) (c .before .before .before .before .before .before .before .before .before .before .before .before .before .match .keys2) }
 
 same-length : tie.Need-same-length
 same-length c = search needs

@@ -13,10 +13,10 @@ use Rattle.input.proofs.load.Statement.{statement}
 use Rattle.input.proofs.load.Tie as tie
 
 abbrev Inv-loop : tie.InvT-loop
-Inv-loop arena out₀ size at j₀ out j = (j ≤ size) × (take j out ≡ take j (drop at arena)) × (length out ≡ 512)
+Inv-loop arena ends out₀ size at j₀ out j = (j ≤ size) × (take j out ≡ take j (drop at arena)) × (length out ≡ 512)
 
 abbrev μ-loop : tie.MeasureT-loop
-μ-loop arena out₀ size at j₀ out j = size - j
+μ-loop arena ends out₀ size at j₀ out j = size - j
 
 top-requires : tie.Need-top-requires Inv-loop μ-loop
 top-requires c κs = search needs
@@ -34,7 +34,7 @@ loop-holds : tie.Need-loop-holds Inv-loop μ-loop
 loop-holds c = (omega arith, refl, c .before .before .before .pre .2)
 
 -- the frame's size
-size-is : (l : tie.At-loop Inv-loop μ-loop) → l .before .before .before .top .result .size ≡ topEntry (l .before .before .before .before .args .stack) .size
+size-is : (l : tie.At-loop Inv-loop μ-loop) → l .before .before .before .top .result .size ≡ topEntry (l .before .before .before .before .args .stack) (now (l .before .before .before .before .args .ends)) .size
 size-is l = ap (λ (e : Entry). e .size) (l .before .before .before .top .ensures)
 
 add-byte : tie.Need-add-byte Inv-loop μ-loop
@@ -63,7 +63,7 @@ returns : tie.Need-returns Inv-loop μ-loop
 returns c =
     let l = c .before in let s = l .before .before .before .before in
     let e = size-is l in
-    let j : l .loop .j ≡ topEntry (s .args .stack) .size = omega arith in
+    let j : l .loop .j ≡ topEntry (s .args .stack) (now (s .args .ends)) .size = omega arith in
     record { size = e; bytes = rw e (rw j at (l .loop .inv .1)); fits = omega arith; long = l .loop .inv .2 }
 
 pub load-spec : {M : Type 1} → statement M

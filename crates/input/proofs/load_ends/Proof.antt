@@ -1,5 +1,5 @@
 -- `input::load_ends` meets its contract. The invariant: j of them are copied. Assumes nothing.
-use Prim.Native.Nat.{_≤_, _-_, _*_}
+use Prim.Native.Nat.{_≤_, _-_, _+_, _*_}
 use mathlib.Core.Path.{_≡_, refl, sym, _∙_}
 use native.Mathlib.Omega.{arith}
 use lib.ListN.{length, take, drop, length-set, length-drop}
@@ -20,6 +20,9 @@ sub-from c = omega arith
 
 mul-from : tie.Need-mul-from Inv-loop μ-loop
 mul-from c = omega arith
+
+add-from : tie.Need-add-from Inv-loop μ-loop
+add-from c = omega arith
 
 loop-holds : tie.Need-loop-holds Inv-loop μ-loop
 loop-holds c = (omega arith, refl, c .before .pre .3)
@@ -48,7 +51,7 @@ loop-less c = omega arith
 loop-again : tie.Need-loop-again Inv-loop μ-loop
 loop-again c =
     let l = c .before .before in let s = l .before .before in
-    let from = (s .args .stack .depth - 1) * 9 in let all = now (s .args .ends) in
+    let from = (s .args .stack .depth - 1) * 13 + 4 in let all = now (s .args .ends) in
     let n = length-drop from all in
     (omega arith, front-step (l .loop .out) (drop from all) (l .loop .j) _ (omega arith) (omega arith) (sym (getD-drop from all (l .loop .j) 0)) (l .loop .inv .1), simp length-set (l .loop .inv .2))
 
@@ -66,6 +69,7 @@ load-ends-spec =
     μ-loop
     sub-from
     mul-from
+    add-from
     loop-holds
     add-end
     mul-end

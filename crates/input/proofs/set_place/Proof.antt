@@ -1,49 +1,58 @@
 -- `input::set_place` meets its contract. Assumes nothing.
-use mathlib.Core.Path.{ap, _∙_}
-use Prim.Native.Nat.{_-_}
-use native.Mathlib.Omega.{arith}
-use lib.ListN.{getD, set}
+use Prim.Native.Nat.{_-_, _*_, _%_}
+use mathlib.Core.Path.{sym, ap}
+use mathlib.Core.Bool.{Bool}
+use lib.ListN.{getD}
+use denote.Ref.{now}
+use borrow.Author.Tests.{eq-eqb, ne-eqb}
 use borrow.Author.Needs.{needs}
-use Rattle.input.specs.declared.What.{What}
-use Rattle.input.specs.declared.Entry.{Entry}
-use Rattle.input.specs.Frames.{entry, noEntry, movedEntry}
-use Rattle.input.proofs.Laws.{held, behind, array-length}
+use Rattle.input.specs.Frames.{placedBy, placedAt}
 use Rattle.input.proofs.set_place.Statement.{statement}
 use Rattle.input.proofs.set_place.Tie as tie
 
 sub-at : tie.Need-sub-at
 sub-at c = search needs
 
-mul-entry : tie.Need-mul-entry
-mul-entry c = search needs
+mul-at : tie.Need-mul-at
+mul-at c = search needs
 
-array-copy-out-entry : tie.Need-array-copy-out-entry
-array-copy-out-entry c = search needs
+mul-first : tie.Need-mul-first
+mul-first c = search needs
 
-moved-to-requires : tie.Need-moved-to-requires
-moved-to-requires c κs = search needs
+element-copy-out-first : tie.Need-element-copy-out-first
+element-copy-out-first c = search needs
 
-mul-entries : tie.Need-mul-entries
-mul-entries c = search needs
+add-ends : tie.Need-add-ends
+add-ends c = search needs
 
-array-set-from-entries : tie.Need-array-set-from-entries
-array-set-from-entries c = search needs
+mul-ends : tie.Need-mul-ends
+mul-ends c = search needs
+
+element-write-ends : tie.Need-element-write-ends
+element-write-ends c = search needs
 
 returns : tie.Need-returns
+unfolding placedAt
 returns c =
-    let s = c .before .before .before .before in let es = s .args .stack .entries in let d = s .args .stack .depth in
-    let n = array-length _ es 17 (s .good .0 .1 .1 .0 .1 .0 .1) in
-    ap (λ (w : What). record { entries = set es (d - 1) (entry w (getD es (d - 1) behind .size)); depth = d }) (c .moved-to .ensures)
-    ∙ ap (λ (e : Entry). record { entries = set es (d - 1) (movedEntry (s .args .place) e); depth = d }) (held es (d - 1) behind noEntry (omega arith))
+    let a = c .before .before .before .args in let at = (a .stack .depth - 1) * 13 in
+    ap (λ (b : Bool). placedBy b (now (a .ends)) at (a .place)) (sym (eq-eqb (getD (now (a .ends)) at 0 % 256) 0 (c .if1 .taken)))
+
+returns-2 : tie.Need-returns-2
+unfolding placedAt
+returns-2 c =
+    let a = c .before .before .before .args in let at = (a .stack .depth - 1) * 13 in
+    ap (λ (b : Bool). placedBy b (now (a .ends)) at (a .place)) (sym (ne-eqb (getD (now (a .ends)) at 0 % 256) 0 (c .if1 .left)))
 
 pub set-place-spec : {M : Type 1} → statement M
 set-place-spec =
     tie.close
     (tie.spec
     sub-at
-    mul-entry
-    array-copy-out-entry
-    moved-to-requires
-    mul-entries
-    array-set-from-entries
-    returns)
+    mul-at
+    mul-first
+    element-copy-out-first
+    add-ends
+    mul-ends
+    element-write-ends
+    returns
+    returns-2)

@@ -44,12 +44,12 @@ returns c =
     let s = c .before .before .before .before .before .before .before .before .before .before .before .before .before .before .before .before .before .before .before in
     defines-there _ _ (s .pre .1) (s .pre .2) _ _ (took (c .before .before .before .before .before .before .before .before .before .before .before .before .before)) _
     (c .before .before .before .before .before .before .before .before .before .before .before .string-at .ensures) (s .args .after-if) (s .args .store .now) (s .args .firsts .now)
-    (s .args .seconds .now) (s .args .kinds .now) (s .args .lengths .now) (s .args .count) (s .args .stack) _ _ _ _ _ _ (c .before .before .define-by .ensures)
+    (s .args .seconds .now) (s .args .kinds .now) (s .args .lengths .now) (s .args .count) (s .args .stack) (s .args .ends .now) _ _ _ _ _ _ (c .before .before .define-by .ensures)
 
 returns-2 : tie.Need-returns-2
 returns-2 c =
     let s = c .before .before .before .before .before .before in
-    defines-none (s .args .store .now) (s .args .firsts .now) (s .args .seconds .now) (s .args .kinds .now) (s .args .lengths .now) (s .args .count) (s .args .stack) (s .pre .0 .ready .lies)
+    defines-none (s .args .store .now) (s .args .firsts .now) (s .args .seconds .now) (s .args .kinds .now) (s .args .lengths .now) (s .args .count) (s .args .stack) (s .args .ends .now) (s .pre .0 .ready .lies)
     (s .args .after-if) (s .args .line .now) (s .args .parts .now) _ (s .pre .2) (rw (c .enum-told .given .1) at (c .before .before .next-argument .ensures))
 
 pub define-spec : {M : Type 1} → statement M

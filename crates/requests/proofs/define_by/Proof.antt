@@ -26,7 +26,7 @@ same-length c = search needs
 returns : tie.Need-returns
 returns c =
     let s = c .before .before .before .before .before .before .before .before .before .before .before .before .before .before .before .before .before in
-    define-by (s .args .store .now) (s .args .firsts .now) (s .args .seconds .now) (s .args .kinds .now) (s .args .lengths .now) (s .args .count) (s .args .stack)
+    define-by (s .args .store .now) (s .args .firsts .now) (s .args .seconds .now) (s .args .kinds .now) (s .args .lengths .now) (s .args .count) (s .args .stack) (s .args .ends .now)
     (take (s .args .end) (s .args .parts .now)) _ _ _ _ _ _ (c .before .before .before .before .before .before .before .before .before .before .n .given .0 .0)
     (ap namedIs (sym (c .before .before .before .before .before .before .before .before .before .before .n .given .1)) ∙ c .before .before .before .before .before .before .before .before .before .before .before .before .name-of .ensures)
     (s .args .after-if) (s .args .text .now) (rw (c .before .before .before .before .before .before .before .before .if1 .taken) (c .before .before .define-back .ensures))
@@ -46,7 +46,7 @@ same-length-2 c = search needs
 returns-2 : tie.Need-returns-2
 returns-2 c =
     let s = c .before .before .before .before .before .before .before .before .before .before .before .before .before .before .before .before .before in
-    define-by (s .args .store .now) (s .args .firsts .now) (s .args .seconds .now) (s .args .kinds .now) (s .args .lengths .now) (s .args .count) (s .args .stack)
+    define-by (s .args .store .now) (s .args .firsts .now) (s .args .seconds .now) (s .args .kinds .now) (s .args .lengths .now) (s .args .count) (s .args .stack) (s .args .ends .now)
     (take (s .args .end) (s .args .parts .now)) _ _ _ _ _ _ (c .before .before .before .before .before .before .before .before .before .before .n .given .0 .0)
     (ap namedIs (sym (c .before .before .before .before .before .before .before .before .before .before .n .given .1)) ∙ c .before .before .before .before .before .before .before .before .before .before .before .before .name-of .ensures)
     (s .args .after-if) (s .args .text .now) (rw (c .before .before .before .before .before .before .before .before .if1 .left) (c .before .before .define-text .ensures))
@@ -54,14 +54,14 @@ returns-2 c =
 returns-3 : tie.Need-returns-3
 returns-3 c =
     let s = c .before .before .before .before .before .before .before in
-    define-unnamed (s .args .store .now) (s .args .firsts .now) (s .args .seconds .now) (s .args .kinds .now) (s .args .lengths .now) (s .args .count) (s .args .stack)
+    define-unnamed (s .args .store .now) (s .args .firsts .now) (s .args .seconds .now) (s .args .kinds .now) (s .args .lengths .now) (s .args .count) (s .args .stack) (s .args .ends .now)
     (take (s .args .end) (s .args .parts .now)) (s .pre .0 .ready .lies) (ap namedIs (sym (c .enum-told .given .1)) ∙ c .before .before .name-of .ensures) (s .args .after-if)
     (s .args .text .now)
 
 returns-4 : tie.Need-returns-4
 returns-4 c =
     let s = c .before .before .before .before .before .before .before in
-    define-long (s .args .store .now) (s .args .firsts .now) (s .args .seconds .now) (s .args .kinds .now) (s .args .lengths .now) (s .args .count) (s .args .stack)
+    define-long (s .args .store .now) (s .args .firsts .now) (s .args .seconds .now) (s .args .kinds .now) (s .args .lengths .now) (s .args .count) (s .args .stack) (s .args .ends .now)
     (take (s .args .end) (s .args .parts .now)) (s .pre .0 .ready .lies) (ap namedIs (sym (c .enum-told2 .given .1)) ∙ c .before .before .name-of .ensures) (s .args .after-if)
     (s .args .text .now)
 

@@ -13,9 +13,9 @@ is-on-stack-requires c κs = search needs
 returns : tie.Need-returns
 returns c =
     let s = c .before .before .before .before in
-    refuses (s .args .store .now) (s .args .firsts .now) (s .args .seconds .now) (s .args .kinds .now) (s .args .lengths .now) (s .args .count) (s .args .stack) (s .pre .ready .lies) alone
+    refuses (s .args .store .now) (s .args .firsts .now) (s .args .seconds .now) (s .args .kinds .now) (s .args .lengths .now) (s .args .count) (s .args .stack) (s .args .ends .now) (s .pre .ready .lies) alone
     (definesAs (s .args .name) (s .args .text .now)) 9
-    (λ bs ps x. define-held (textsOf (s .args .store .now) (s .args .firsts .now) (s .args .seconds .now) (s .args .kinds .now) (s .args .lengths .now) (s .args .count)) (s .args .stack) (s .args .name) (sym (c .if1 .taken) ∙ c .before .is-on-stack .ensures) bs ps x (s .args .text .now))
+    (λ bs x. define-held (textsOf (s .args .store .now) (s .args .firsts .now) (s .args .seconds .now) (s .args .kinds .now) (s .args .lengths .now) (s .args .count)) (s .args .stack) (s .args .ends .now) (s .args .name) (sym (c .if1 .taken) ∙ c .before .is-on-stack .ensures) bs x (s .args .text .now))
 
 define-string-requires : tie.Need-define-string-requires
 define-string-requires c κs = search needs
@@ -32,7 +32,7 @@ same-length c = search needs
 returns-2 : tie.Need-returns-2
 returns-2 c =
     let s = c .before .before .before .before .before .before .before .before .before .before .before .before .before .before .before in
-    defined (s .args .store .now) (s .args .firsts .now) (s .args .seconds .now) (s .args .kinds .now) (s .args .lengths .now) (s .args .count) (s .args .stack) (s .args .name) _ _ _ _ _
+    defined (s .args .store .now) (s .args .firsts .now) (s .args .seconds .now) (s .args .kinds .now) (s .args .lengths .now) (s .args .count) (s .args .stack) (s .args .ends .now) (s .args .name) _ _ _ _ _
     (sym (c .before .before .before .before .before .before .before .before .before .before .before .if1 .left) ∙ c .before .before .before .before .before .before .before .before .before .before .before .before .is-on-stack .ensures)
     (s .args .text .now) (s .pre .long) (c .before .n .given .0 .0) (rw (c .before .n .given .1) at (c .before .before .before .before .before .define-string .ensures))
 
@@ -42,7 +42,7 @@ same-length-2 c = search needs
 returns-3 : tie.Need-returns-3
 returns-3 c =
     let s = c .before .before .before .before .before .before .before .before .before .before .before .before .before .before in
-    define-full (s .args .store .now) (s .args .firsts .now) (s .args .seconds .now) (s .args .kinds .now) (s .args .lengths .now) (s .args .count) (s .args .stack) (s .args .name) _ _ _ _ _
+    define-full (s .args .store .now) (s .args .firsts .now) (s .args .seconds .now) (s .args .kinds .now) (s .args .lengths .now) (s .args .count) (s .args .stack) (s .args .ends .now) (s .args .name) _ _ _ _ _
     (sym (c .before .before .before .before .before .before .before .before .before .before .if1 .left) ∙ c .before .before .before .before .before .before .before .before .before .before .before .is-on-stack .ensures)
     (s .args .text .now) (s .pre .long) (rw (c .enum-told .given .1) at (c .before .before .before .before .define-string .ensures))
 

@@ -27,7 +27,7 @@ same-length c = search needs
 returns : tie.Need-returns
 returns c =
     let s = c .before .before .before .before .before .before .before .before .before .before .before .before .before .before in
-    open-by (s .args .store .now) (s .args .firsts .now) (s .args .seconds .now) (s .args .kinds .now) (s .args .lengths .now) (s .args .count) (s .args .stack) (s .args .name .now) _ _ _ _
+    open-by (s .args .store .now) (s .args .firsts .now) (s .args .seconds .now) (s .args .kinds .now) (s .args .lengths .now) (s .args .count) (s .args .stack) (s .args .ends .now) (s .args .name .now) _ _ _ _
     _ _ (c .before .before .before .before .before .before .before .before .before .n .given .0 .0)
     (ap namedIs (sym (c .before .before .before .before .before .before .before .before .before .n .given .1)) ∙ c .before .before .before .before .before .before .before .before .before .before .before .name-of .ensures)
     (c .before .before .open-name .ensures)
@@ -35,13 +35,13 @@ returns c =
 returns-2 : tie.Need-returns-2
 returns-2 c =
     let s = c .before .before .before .before .before in
-    open-unnamed (s .args .store .now) (s .args .firsts .now) (s .args .seconds .now) (s .args .kinds .now) (s .args .lengths .now) (s .args .count) (s .args .stack) (s .args .name .now)
+    open-unnamed (s .args .store .now) (s .args .firsts .now) (s .args .seconds .now) (s .args .kinds .now) (s .args .lengths .now) (s .args .count) (s .args .stack) (s .args .ends .now) (s .args .name .now)
     (s .pre .lies) (ap namedIs (sym (c .enum-told .given .1)) ∙ c .before .before .name-of .ensures)
 
 returns-3 : tie.Need-returns-3
 returns-3 c =
     let s = c .before .before .before .before .before in
-    open-long (s .args .store .now) (s .args .firsts .now) (s .args .seconds .now) (s .args .kinds .now) (s .args .lengths .now) (s .args .count) (s .args .stack) (s .args .name .now)
+    open-long (s .args .store .now) (s .args .firsts .now) (s .args .seconds .now) (s .args .kinds .now) (s .args .lengths .now) (s .args .count) (s .args .stack) (s .args .ends .now) (s .args .name .now)
     (s .pre .lies) (ap namedIs (sym (c .enum-told2 .given .1)) ∙ c .before .before .name-of .ensures)
 
 pub open-spec : {M : Type 1} → statement M

@@ -16,7 +16,7 @@ returns : tie.Need-returns
 returns c =
     let s = c .before .before .before in
     record
-    { changes = refuses (s .args .store .now) (s .args .firsts .now) (s .args .seconds .now) (s .args .kinds .now) (s .args .lengths .now) (s .args .count) (s .args .stack) (s .pre .lies) (openedAs (one (s .args .name))) (λ q. openText q (s .args .name)) 9 (λ bs ps x. open-held (textsOf (s .args .store .now) (s .args .firsts .now) (s .args .seconds .now) (s .args .kinds .now) (s .args .lengths .now) (s .args .count)) (s .args .stack) (s .args .name) (sym (c .if1 .taken) ∙ c .before .is-on-stack .ensures) bs ps x); opens = tt }
+    { changes = refuses (s .args .store .now) (s .args .firsts .now) (s .args .seconds .now) (s .args .kinds .now) (s .args .lengths .now) (s .args .count) (s .args .stack) (s .args .ends .now) (s .pre .lies) (openedAs (one (s .args .name))) (λ q. openText q (s .args .name)) 9 (λ bs x. open-held (textsOf (s .args .store .now) (s .args .firsts .now) (s .args .seconds .now) (s .args .kinds .now) (s .args .lengths .now) (s .args .count)) (s .args .stack) (s .args .ends .now) (s .args .name) (sym (c .if1 .taken) ∙ c .before .is-on-stack .ensures) bs x); opens = tt }
 
 open-macro-requires : tie.Need-open-macro-requires
 open-macro-requires c κs = search needs
@@ -33,7 +33,7 @@ same-length c = search needs
 returns-2 : tie.Need-returns-2
 returns-2 c =
     let s = c .before .before .before .before .before .before .before .before .before .before .before .before .before .before in
-    opened (s .args .store .now) (s .args .firsts .now) (s .args .seconds .now) (s .args .kinds .now) (s .args .lengths .now) (s .args .count) (s .args .stack) (s .args .name) _ _ _ _ _
+    opened (s .args .store .now) (s .args .firsts .now) (s .args .seconds .now) (s .args .kinds .now) (s .args .lengths .now) (s .args .count) (s .args .stack) (s .args .ends .now) (s .args .name) _ _ _ _ _
     (sym (c .before .before .before .before .before .before .before .before .before .before .before .if1 .left) ∙ c .before .before .before .before .before .before .before .before .before .before .before .before .is-on-stack .ensures)
     (c .before .n .given .0 .0) (rw (c .before .n .given .1) at (c .before .before .before .before .before .open-macro .ensures))
 
@@ -43,7 +43,7 @@ same-length-2 c = search needs
 returns-3 : tie.Need-returns-3
 returns-3 c =
     let s = c .before .before .before .before .before .before .before .before .before .before .before .before .before in
-    open-full (s .args .store .now) (s .args .firsts .now) (s .args .seconds .now) (s .args .kinds .now) (s .args .lengths .now) (s .args .count) (s .args .stack) (s .args .name) _ _ _ _ _
+    open-full (s .args .store .now) (s .args .firsts .now) (s .args .seconds .now) (s .args .kinds .now) (s .args .lengths .now) (s .args .count) (s .args .stack) (s .args .ends .now) (s .args .name) _ _ _ _ _
     (sym (c .before .before .before .before .before .before .before .before .before .before .if1 .left) ∙ c .before .before .before .before .before .before .before .before .before .before .before .is-on-stack .ensures)
     (rw (c .enum-told .given .1) at (c .before .before .before .before .open-macro .ensures))
 

@@ -18,9 +18,9 @@ same-length c = search needs
 returns : tie.Need-returns
 returns c =
     let s = c .before .before .before .before .before .before .before .before in
-    same (s .args .store .now) (s .args .firsts .now) (s .args .seconds .now) (s .args .kinds .now) (s .args .lengths .now) (s .args .count) (s .args .stack) (s .pre .lies) alone
+    same (s .args .store .now) (s .args .firsts .now) (s .args .seconds .now) (s .args .kinds .now) (s .args .lengths .now) (s .args .count) (s .args .stack) (s .args .ends .now) (s .pre .lies) alone
     (λ q. removeText q (s .args .name))
-    (λ bs ps x. remove-none (textsOf (s .args .store .now) (s .args .firsts .now) (s .args .seconds .now) (s .args .kinds .now) (s .args .lengths .now) (s .args .count)) (s .args .stack) (s .args .name) bs ps x (sym (not-true _ (c .if1 .taken)) ∙ c .before .is-text .ensures))
+    (λ bs x. remove-none (textsOf (s .args .store .now) (s .args .firsts .now) (s .args .seconds .now) (s .args .kinds .now) (s .args .lengths .now) (s .args .count)) (s .args .stack) (s .args .ends .now) (s .args .name) bs x (sym (not-true _ (c .if1 .taken)) ∙ c .before .is-text .ensures))
 
 is-on-stack-requires : tie.Need-is-on-stack-requires
 is-on-stack-requires c κs = search needs
@@ -31,9 +31,9 @@ same-length-2 c = search needs
 returns-2 : tie.Need-returns-2
 returns-2 c =
     let s = c .before .before .before .before .before .before .before .before .before .before in
-    refuses (s .args .store .now) (s .args .firsts .now) (s .args .seconds .now) (s .args .kinds .now) (s .args .lengths .now) (s .args .count) (s .args .stack) (s .pre .lies) alone
+    refuses (s .args .store .now) (s .args .firsts .now) (s .args .seconds .now) (s .args .kinds .now) (s .args .lengths .now) (s .args .count) (s .args .stack) (s .args .ends .now) (s .pre .lies) alone
     (λ q. removeText q (s .args .name)) 9
-    (λ bs ps x. remove-held (textsOf (s .args .store .now) (s .args .firsts .now) (s .args .seconds .now) (s .args .kinds .now) (s .args .lengths .now) (s .args .count)) (s .args .stack) (s .args .name) (sym (c .if2 .taken) ∙ c .before .is-on-stack .ensures) bs ps x (sym (not-false _ (c .before .before .if1 .left)) ∙ c .before .before .before .is-text .ensures))
+    (λ bs x. remove-held (textsOf (s .args .store .now) (s .args .firsts .now) (s .args .seconds .now) (s .args .kinds .now) (s .args .lengths .now) (s .args .count)) (s .args .stack) (s .args .ends .now) (s .args .name) (sym (c .if2 .taken) ∙ c .before .is-on-stack .ensures) bs x (sym (not-false _ (c .before .before .if1 .left)) ∙ c .before .before .before .is-text .ensures))
 
 remove-requires : tie.Need-remove-requires
 remove-requires c κs = search needs
@@ -44,7 +44,7 @@ same-length-3 c = search needs
 returns-3 : tie.Need-returns-3
 returns-3 c =
     let s = c .before .before .before .before .before .before .before .before .before .before .before .before .before .before .before .before .before .before in
-    removed (s .args .store .now) (s .args .firsts .now) (s .args .seconds .now) (s .args .kinds .now) (s .args .lengths .now) (s .args .count) (s .args .stack) (s .args .name) _ _ _ _ _
+    removed (s .args .store .now) (s .args .firsts .now) (s .args .seconds .now) (s .args .kinds .now) (s .args .lengths .now) (s .args .count) (s .args .stack) (s .args .ends .now) (s .args .name) _ _ _ _ _
     (sym (c .before .before .before .before .before .before .before .before .if2 .left) ∙ c .before .before .before .before .before .before .before .before .before .is-on-stack .ensures) _
     (sym (not-false _ (c .before .before .before .before .before .before .before .before .before .before .if1 .left)) ∙ c .before .before .before .before .before .before .before .before .before .before .before .is-text .ensures)
     (c .before .before .remove .ensures)

@@ -44,7 +44,7 @@ returns c =
           sym (ap (λ (v : List Word). textWay fills v l (stateAt ts (plantedOf (a .planted)) d x)) e ∙ line-none ts (plantedOf (a .planted)) (a .layout) (a .page) (a .collected) (now (a .cells)) (a .stack) (now (a .arena)) (now (a .ends)) 0 x l);
       good = λ st ks ls i g. g;
       sound = b .sound;
-      fits = fits-few (a .stack) (b .items);
+      fits = fits-few (a .stack) (now (a .ends)) (b .items);
       few = omega arith;
       long = b .long;
     })

@@ -30,7 +30,7 @@ returns c =
       is = λ st ks ls i x. collected-all _ _ (a .layout) (a .page) (a .collected) (now (a .cells)) (now (a .line)) (now (a .row)) (a .stack) (now (a .arena)) (now (a .ends)) (n .0 .0) (a .gap) (a .to) x;
       good = λ st ks ls i g. g;
       sound = record { limits = b .sound .limits; above = b .sound .above; numbered = b .sound .numbered; few = b .sound .few; line = f .0; indent = b .sound .indent; next = f .1; columns = b .sound .columns };
-      fits = fits-few (a .stack) (b .items);
+      fits = fits-few (a .stack) (now (a .ends)) (b .items);
       few = omega arith;
       long = b .long;
     })

@@ -40,7 +40,7 @@ returns c =
       is = λ st ks ls i x. sym (ap (λ (v : List Word). fill v (a .gap) (stateAt (textsOf st (now (a .firsts)) (now (a .seconds)) ks ls (a .texts)) (plantedOf (a .planted)) (desk (a .layout) (a .page) (a .collected) (now (a .cells)) (a .stack) (now (a .arena)) (now (a .ends))) x)) e);
       good = λ st ks ls i g. g;
       sound = b .sound;
-      fits = fits-few (a .stack) (b .items);
+      fits = fits-few (a .stack) (now (a .ends)) (b .items);
       few = omega arith;
       long = b .long;
     })
