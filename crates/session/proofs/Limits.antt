@@ -10,26 +10,25 @@ use Rattle.stream.specs.declared.Answer.the-variants as answer
 use Rattle.stream.specs.Answers.{done, refused}
 use Rattle.rules.specs.State.{State}
 use Rattle.limits.specs.Within.{Within}
-use Rattle.registers.specs.Checks as registers
 use Rattle.springs.specs.Held.{Fits}
 use Rattle.dealing.specs.Whole.{stateIn, SoundWhole}
-use Rattle.checks.specs.Checks.{Lent}
 use Rattle.checks.specs.SoundLaws.{sound-whole, whole-passes}
 use Rattle.checks.specs.LimitLaws.{Kept, within-kept, kept-within, open-within, open-kept, closed-within, closed-kept}
 use Rattle.source.specs.declared.Source.{Source}
-use Rattle.session.specs.declared.Record.{Record}
-use Rattle.session.specs.declared.Reply.{Reply}
-use Rattle.session.specs.declared.Waiting.{Waiting}
-use Rattle.session.specs.declared.Closing.{Closing}
-use Rattle.session.specs.declared.Closing.the-variants.{Open, Done, Refused}
+use Rattle.turns.specs.declared.Record.{Record}
+use Rattle.turns.specs.declared.Reply.{Reply}
+use Rattle.turns.specs.declared.Waiting.{Waiting}
+use Rattle.turns.specs.declared.Closing.{Closing}
+use Rattle.turns.specs.declared.Closing.the-variants.{Open, Done, Refused}
 use Rattle.session.specs.declared.Stop.{Stop}
 use Rattle.session.specs.declared.Stop.the-variants.{Goes}
-use Rattle.session.specs.View.{sourced, closedAs, wholeIn, Legal}
-use Rattle.session.specs.Contract.{callOn, Closes, Does, Called, served, turned}
-use Rattle.session.specs.Turns.{Turns, Stops}
-use Rattle.session.specs.Limits.{EndsWith, isOpen, AnsweredAt, AnsweredJudged, Placed, PlacedJudged, soundIn, withinIn, Judged}
-use Rattle.session.proofs.Leading.{stops-done, stops-refused}
-use Rattle.session.proofs.Going.{go-start, does-stop}
+use Rattle.turns.specs.View.{sourced, closedAs, wholeIn, Legal}
+use Rattle.turns.specs.Contract.{Closes}
+use Rattle.turns.specs.Turns.{Turns, Runs}
+use Rattle.turns.proofs.Leading.{stops-closed}
+use Rattle.turns.proofs.Going.{go-start, does-stop}
+use Rattle.session.specs.Contract.{Called, served, turned}
+use Rattle.session.specs.Limits.{Sized, EndsWith, isOpen, AnsweredAt, AnsweredJudged, Placed, PlacedJudged, soundIn, withinIn, Judged}
 
 -- a false is not a true
 false-true : false ≡ true → ⊥
@@ -48,16 +47,6 @@ answered-yes c l h = record { yes = λ e. h; no = λ e k. true-false e }
 -- the source and the waiting bytes
 pub placed-no : (s : Source) (w : Waiting) (c : Closing) → (Placed s w c → ⊥) → PlacedJudged false s w c
 placed-no s w c f = record { yes = λ e. absurd (false-true e); no = λ e. f }
-
--- the arrays of a record have their lengths
-pub record Sized (r : Record) : Type 0 where
-  pub gathered : length (r .gathered) ≡ 512
-  pub row : length (r .row) ≡ 872
-  pub lent : Lent (r .ends) (r .«text_firsts») (r .«text_seconds») (r .lengths) (r .firsts) (r .seconds)
-  pub cells : length (r .cells) ≡ 512
-  pub arena : length (r .arena) ≡ 8704
-  pub kinds : length (r .kinds) ≡ 64
-  pub numbers : registers.NumberColumns (r .values) (r .steps)
 
 module _ (r : Record) (st : List ℕ) where
   -- the parts of its state
@@ -105,7 +94,7 @@ module _ (r : Record) (st : List ℕ) where
       k : Placed (r .source) (r .waiting) (r .closing)
       k = p .yes e
 
-      whole : SoundWhole (wholeIn r st) × Fits (r .status .stack)
+      whole : SoundWhole (wholeIn r st) × Fits (r .status .stack) (r .ends)
       whole =
           sound-whole (r .status) (r .cells) (r .arena) (r .ends) st (r .«text_firsts») (r .«text_seconds») (r .kinds) (r .lengths) (r .firsts) (r .seconds) (r .values) (r .steps)
           (length st) (h .lent)
@@ -134,30 +123,22 @@ closes-one (Refused n l) a a' h k = h ∙ sym k
 
 module _ (r : Record) (st bl : List ℕ) (last : Bool) (out : List ℕ) (l : Legal r st) where
   -- a call on a closed record for which nothing waits
-  module _ (a : Answer) (h : Closes (r .closing) a) (none : r .waiting .at ≡ r .waiting .end) where
-    at-start : Turns bl r st 0
-    at-start = record { legal = l; none = none; within = omega arith }
-
-    stops : (c : Closing) → r .closing ≡ c → Closes c a → Stops bl last r st 0 a r st 0
-    stops Open e k = absurd k
-    stops Done e k = subst (λ v. Stops bl last r st 0 v r st 0) (sym k) (stops-done bl last r st 0 at-start e)
-    stops (Refused n m) e k = subst (λ v. Stops bl last r st 0 v r st 0) (sym k) (stops-refused bl last r st 0 at-start n m e)
-
-    pub call-ended : Called r st bl last out (record { answer = a; taken = 0; written = 0; next = r }) st out
-    call-ended =
-        served l
-        (does-stop (callOn r st bl last (length out)) bl last out r st 0 0 out (go-start r st bl last out l) at-start a r st 0 (stops (r .closing) refl h))
-        (λ a' e. record {
-          reply = ap (λ v. record { answer = v; taken = 0; written = 0; next = r }) (closes-one (r .closing) a a' h (e .closes));
-          same-store = refl;
-          same-out = refl;
-        })
+  pub call-ended : (a : Answer) → Closes (r .closing) a → r .waiting .at ≡ r .waiting .end → Called r st bl last out (record { answer = a; taken = 0; written = 0; next = r }) st out
+  call-ended a h none =
+      let t : Turns bl r st 0 = record { legal = l; none = none; within = omega arith } in
+      let e = does-stop r st bl last out r st 0 0 out (go-start r st bl last out l) t a r st 0 (stops-closed bl last r st 0 t a h) in
+      served l (e .does) (e .through)
+      (λ a' k. record {
+        reply = ap (λ v. record { answer = v; taken = 0; written = 0; next = r }) (closes-one (r .closing) a a' h (k .closes));
+        same-store = refl;
+        same-out = refl;
+      })
 
   -- a call on any other record within its limits
   pub call-served : (s : Stop) → EndsWith s (r .closing) (r .waiting) → s ≡ Goes → (p : Reply) (st' out' : List ℕ)
-      → Does (callOn r st bl last (length out)) out p st' out' → Called r st bl last out p st' out'
+      → Runs r st bl last out p st' out' → Called r st bl last out p st' out'
   call-served s h e p st' out' d =
-      served l d (λ a k. absurd (subst (λ v. EndsWith v (r .closing) (r .waiting)) e h a (k .closes) (k .none)))
+      served l (d .does) (d .through) (λ a k. absurd (subst (λ v. EndsWith v (r .closing) (r .waiting)) e h a (k .closes) (k .none)))
 
 -- a call on a record that passes a limit
 pub call-turned : (r : Record) (st bl : List ℕ) (last : Bool) (out : List ℕ) → (Legal r st → ⊥)

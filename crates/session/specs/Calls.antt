@@ -19,13 +19,14 @@ use Rattle.rules.specs.Load.{Good, formatter}
 use Rattle.rules.specs.Falls.{falls}
 use Rattle.rules.specs.Pages.{pages}
 use Rattle.rules.specs.Pages as rules
-use Rattle.dealing.specs.Whole.{stateIn, SoundWhole}
-use Rattle.session.specs.declared.Record.{Record}
-use Rattle.session.specs.declared.Reply.{Reply}
-use Rattle.session.specs.declared.Closing.{Closing}
-use Rattle.session.specs.declared.Closing.the-variants.{Open, Done, Refused}
-use Rattle.session.specs.View.{sourced, wholeIn, closedAs, stateOf, waitingOf, Formed, Legal}
-use Rattle.session.specs.Contract.{callOn, Nothing, Ended, EndedBy, Does, Called, served, turned}
+use Rattle.turns.specs.declared.Record.{Record}
+use Rattle.turns.specs.declared.Reply.{Reply}
+use Rattle.turns.specs.declared.Closing.{Closing}
+use Rattle.turns.specs.declared.Closing.the-variants.{Open, Done, Refused}
+use Rattle.turns.specs.View.{stateOf, waitingOf, Legal, formed-good}
+use Rattle.turns.specs.Contract.{callOn, Closes, Ended, EndedBy, Does}
+use Rattle.turns.specs.Refusing.{Closed, IsClosed, closed-keeps}
+use Rattle.session.specs.Contract.{Nothing, Called, served, turned}
 
 -- a call as its caller sees it: what it lent, and what it was answered
 abbrev pub seen : (block : List ℕ) → (last : Bool) → (out : List ℕ) → Reply → (out' : List ℕ) → Call
@@ -39,18 +40,6 @@ pub data Calls : Record → (store d : List ℕ) → List Call → Type 0 where
   more : {r : Record} {st d : List ℕ} {calls : List Call} (block d' : List ℕ) (last : Bool) (out : List ℕ) (p : Reply) (st' out' : List ℕ)
       → d ≡ block ++ d' → (last ≡ true → d' ≡ []) → Called r st block last out p st' out' → Calls (p .next) st' (drop (p .taken) d) calls
       → Calls r st d (seen block last out p out' ∷ calls)
-
--- a record within its limits stands for a state within the machine's
-pub formed-good : (r : Record) (st : List ℕ) → Formed r st → Good (stateOf r st)
-formed-good r st f = go (r .closing)
-  where
-    l : SoundWhole (wholeIn r st)
-    l = f .sound
-
-    go : (c : Closing) → Good (closedAs c (stateIn (wholeIn r st) (sourced (r .source) (r .gathered))))
-    go Open = (l .sheet .above, l .sheet .limits .page-most)
-    go Done = (l .sheet .above, l .sheet .limits .page-most)
-    go (Refused n k) = (l .sheet .above, l .sheet .limits .page-most)
 
 -- what is seen of a call is what the rules do
 seen-is : (o : Outcome State) (bl : List ℕ) (last : Bool) (out : List ℕ) (p : Reply) (st' out' : List ℕ) → Does o out p st' out'
@@ -68,7 +57,7 @@ Runs ws s d calls = machine.Calls (formatter tenToTheInch) ws s d calls
 runs : {r : Record} {st d : List ℕ} {calls : List Call} → Calls r st d calls → Legal r st → Runs (waitingOf r) (stateOf r st) d calls
 runs none l = machine.none
 runs (more block d' last out p st' out' e z (turned f n) cs) l = absurd (f l)
-runs (more {r = r} {st = st} {d = d} {calls = calls} block d' last out p st' out' e z (served k s f) cs) l =
+runs (more {r = r} {st = st} {d = d} {calls = calls} block d' last out p st' out' e z (served k s h f) cs) l =
     let o = callOn r st block last (length out) in
     let rest : drop (p .taken) d ≡ o .rest ++ d' =
     ap (drop (p .taken))
@@ -102,11 +91,28 @@ pub repeats : (r : Record) (st bl : List ℕ) (last : Bool) (out : List ℕ) (p 
     → (bl₂ : List ℕ) (last₂ : Bool) (out₂ : List ℕ) (p₂ : Reply) (st₂ out₂' : List ℕ) → Called (p .next) st' bl₂ last₂ out₂ p₂ st₂ out₂'
     → Nothing (p .answer) (p .next) st' out₂ p₂ st₂ out₂'
 repeats r st bl last out p st' out' (turned f n) h bl₂ last₂ out₂ p₂ st₂ out₂' c = absurd (subst Closing-answer (ap (λ v. v .answer) (n .reply)) h refl)
-repeats r st bl last out p st' out' (served l s f) h bl₂ last₂ out₂ p₂ st₂ out₂' (turned g n) = absurd (g (s .legal))
-repeats r st bl last out p st' out' (served l s f) h bl₂ last₂ out₂ p₂ st₂ out₂' (served m d g) = g (p .answer) (ended-by (p .answer) (p .next) h (s .ended))
+repeats r st bl last out p st' out' (served l s t f) h bl₂ last₂ out₂ p₂ st₂ out₂' (turned g n) = absurd (g (s .legal))
+repeats r st bl last out p st' out' (served l s t f) h bl₂ last₂ out₂ p₂ st₂ out₂' (served m d u g) = g (p .answer) (ended-by (p .answer) (p .next) h (s .ended))
   where
     ended-by : (a : Answer) (q : Record) → Closing-answer a → EndedBy a q → Ended q a
     ended-by answer.NeedsInput q u e = absurd u
     ended-by answer.NeedsRoom q u e = absurd u
     ended-by answer.Done q u e = e
     ended-by (answer.Refused n k) q u e = e
+
+-- "The refused event changes no byte of the store": where a call closes an open session, one of its turns did, and left every byte of the store as it was before that turn.
+pub refused-keeps : (r : Record) (st bl : List ℕ) (last : Bool) (out : List ℕ) (p : Reply) (st' out' : List ℕ) → Called r st bl last out p st' out' → r .closing ≡ Open
+    → Closing-answer (p .answer) → Closed bl last r st (p .next .closing) st'
+refused-keeps r st bl last out p st' out' (turned f n) o h = absurd (subst Closing-answer (ap (λ v. v .answer) (n .reply)) h refl)
+refused-keeps r st bl last out p st' out' (served l s t f) o h = closed-keeps bl last r st (p .next) st' (p .taken) t o (is-closed (p .answer) h (s .ended))
+  where
+    by-closing : (c : Closing) (a : Answer) → Closes c a → IsClosed c
+    by-closing Open a k = k
+    by-closing Done a k = tt
+    by-closing (Refused n m) a k = tt
+
+    is-closed : (a : Answer) → Closing-answer a → EndedBy a (p .next) → IsClosed (p .next .closing)
+    is-closed answer.NeedsInput u e = absurd u
+    is-closed answer.NeedsRoom u e = absurd u
+    is-closed answer.Done u e = by-closing (p .next .closing) answer.Done (e .closes)
+    is-closed (answer.Refused n m) u e = by-closing (p .next .closing) (answer.Refused n m) (e .closes)

@@ -1,31 +1,16 @@
 -- What a call promises. Assumes nothing.
-use mathlib.Core.Path.{_≡_}
+use mathlib.Core.Path.{_≡_, refl, subst}
 use mathlib.Core.Bool.{Bool}
-use mathlib.Core.List.{List, _++_}
+use mathlib.Core.List.{List}
 use Prim.Native.Nat.{ℕ}
-use lib.ListN.{length, drop}
+use lib.ListN.{length}
 use Rattle.stream.specs.declared.Answer.{Answer}
 use Rattle.stream.specs.declared.Answer.the-variants as answer
-use Rattle.stream.specs.Answers.{replyOf}
-use Rattle.stream.specs.Machine.{Outcome, callFrom}
-use Rattle.rules.specs.Printers.{tenToTheInch}
-use Rattle.rules.specs.State.{State}
-use Rattle.rules.specs.Load.{formatter}
-use Rattle.session.specs.declared.Record.{Record}
-use Rattle.session.specs.declared.Reply.{Reply}
-use Rattle.session.specs.declared.Closing.{Closing}
-use Rattle.session.specs.declared.Closing.the-variants.{Open, Done, Refused}
-use Rattle.session.specs.View.{stateOf, waitingOf, Legal}
-
--- what the rules do in a call on a record and a store, with a block and so much room
-abbrev pub callOn : Record → (store block : List ℕ) → (last : Bool) → (room : ℕ) → Outcome State
-callOn r st bl last room = callFrom (formatter tenToTheInch) (waitingOf r) (stateOf r st) bl last room
-
--- the answer of a closed record
-abbrev pub Closes : Closing → Answer → Type 0
-Closes Open a = ⊥
-Closes Done a = a ≡ answer.Done
-Closes (Refused n l) a = a ≡ answer.Refused n l
+use Rattle.turns.specs.declared.Record.{Record}
+use Rattle.turns.specs.declared.Reply.{Reply}
+use Rattle.turns.specs.View.{Legal}
+use Rattle.turns.specs.Contract.{callOn, Ended, Does}
+use Rattle.turns.specs.Turns.{Through}
 
 -- nothing is taken, written or changed
 pub record Nothing (a : Answer) (r : Record) (st out : List ℕ) (p : Reply) (st' out' : List ℕ) : Type 0 where
@@ -33,32 +18,11 @@ pub record Nothing (a : Answer) (r : Record) (st out : List ℕ) (p : Reply) (st
   pub same-store : st' ≡ st
   pub same-out : out' ≡ out
 
--- a record is closed with this answer, and nothing waits
-pub record Ended (r : Record) (a : Answer) : Type 0 where
-  pub closes : Closes (r .closing) a
-  pub none : r .waiting .at ≡ r .waiting .end
-
--- what an answer says of the record
-abbrev pub EndedBy : Answer → Record → Type 0
-EndedBy answer.NeedsInput r = Unit
-EndedBy answer.NeedsRoom r = Unit
-EndedBy answer.Done r = Ended r answer.Done
-EndedBy (answer.Refused n l) r = Ended r (answer.Refused n l)
-
--- a call does what the rules do: o is that, from the record and the store on
-pub record Does (o : Outcome State) (out : List ℕ) (p : Reply) (st' out' : List ℕ) : Type 0 where
-  pub says : replyOf (p .answer) ≡ o .answer
-  pub taken : p .taken ≡ length (o .took)
-  pub written : p .written ≡ length (o .bytes)
-  pub room : out' ≡ o .bytes ++ drop (length (o .bytes)) out
-  pub waiting : waitingOf (p .next) ≡ o .waiting
-  pub state : stateOf (p .next) st' ≡ o .state
-  pub legal : Legal (p .next) st'
-  pub ended : EndedBy (p .answer) (p .next)
-
--- THE PROMISE OF A CALL: on a record within its limits it does what the rules do, and changes nothing at all where that is closed and nothing waits;
+-- THE PROMISE OF A CALL: on a record within its limits it does what the rules do, by turns of which one that closes the session leaves every byte of the store as it was, and
+-- changes nothing at all where the record is closed and nothing waits;
 -- on any other it is "1", which "comes first, gives line 0, takes and writes nothing and changes nothing".
 pub data Called (r : Record) (st block : List ℕ) (last : Bool) (out : List ℕ) (p : Reply) (st' out' : List ℕ) : Type 0 where
-  served : Legal r st → Does (callOn r st block last (length out)) out p st' out' → ((a : Answer) → Ended r a → Nothing a r st out p st' out')
+  served : Legal r st → Does (callOn r st block last (length out)) out p st' out' → Through block last r st (p .next) st' (p .taken)
+      → ((a : Answer) → Ended r a → Nothing a r st out p st' out')
       → Called r st block last out p st' out'
   turned : (Legal r st → ⊥) → Nothing (answer.Refused 1 0) r st out p st' out' → Called r st block last out p st' out'

@@ -3,19 +3,31 @@ use mathlib.Core.Path.{_≡_}
 use mathlib.Core.Bool.{Bool, true, false}
 use mathlib.Core.List.{List}
 use Prim.Native.Nat.{ℕ, _≤_}
+use lib.ListN.{length}
 use Rattle.stream.specs.declared.Answer.{Answer}
 use Rattle.limits.specs.Within.{Refusal}
 use Rattle.source.specs.declared.Source.{Source}
-use Rattle.checks.specs.Checks.{isSound}
+use Rattle.registers.specs.Checks as registers
+use Rattle.checks.specs.Checks.{Lent, isSound}
 use Rattle.checks.specs.LimitChecks.{isWithin}
-use Rattle.session.specs.declared.Record.{Record}
-use Rattle.session.specs.declared.Waiting.{Waiting}
-use Rattle.session.specs.declared.Closing.{Closing}
-use Rattle.session.specs.declared.Closing.the-variants.{Open, Done, Refused}
+use Rattle.turns.specs.declared.Record.{Record}
+use Rattle.turns.specs.declared.Waiting.{Waiting}
+use Rattle.turns.specs.declared.Closing.{Closing}
+use Rattle.turns.specs.declared.Closing.the-variants.{Open, Done, Refused}
 use Rattle.session.specs.declared.Stop.{Stop}
 use Rattle.session.specs.declared.Stop.the-variants.{Goes, With}
-use Rattle.session.specs.View.{lastLine, Legal}
-use Rattle.session.specs.Contract.{Closes}
+use Rattle.turns.specs.View.{lastLine, Legal}
+use Rattle.turns.specs.Contract.{Closes}
+
+-- the arrays of a record have their lengths, which their types say
+pub record Sized (r : Record) : Type 0 where
+  pub gathered : length (r .gathered) ≡ 512
+  pub row : length (r .row) ≡ 872
+  pub lent : Lent (r .ends) (r .«text_firsts») (r .«text_seconds») (r .lengths) (r .firsts) (r .seconds)
+  pub cells : length (r .cells) ≡ 512
+  pub arena : length (r .arena) ≡ 8704
+  pub kinds : length (r .kinds) ≡ 64
+  pub numbers : registers.NumberColumns (r .values) (r .steps)
 
 -- the answer of a session that is closed and for which nothing waits, or that there is none
 abbrev pub EndsWith : Stop → Closing → Waiting → Type 0
@@ -56,7 +68,7 @@ abbrev pub soundIn : Record → (store : ℕ) → Bool
 soundIn r n = isSound (r .status) n (r .ends) (r .«text_firsts») (r .«text_seconds») (r .lengths) (r .firsts) (r .seconds)
 
 abbrev pub withinIn : Record → Bool
-withinIn r = isWithin (r .status) (isOpen (r .closing)) (r .gathered) (r .source .length) (r .«text_firsts») (r .«text_seconds») (r .values) (r .steps)
+withinIn r = isWithin (r .status) (isOpen (r .closing)) (r .ends) (r .gathered) (r .source .length) (r .«text_firsts») (r .«text_seconds») (r .values) (r .steps)
 
 pub record Judged (b : Bool) (r : Record) (st : List ℕ) : Type 0 where
   pub yes : b ≡ true → Legal r st

@@ -23,9 +23,10 @@ use Rattle.texts.specs.Table.{cut, lies-none}
 use Rattle.sheet.specs.Desk.{noLine}
 use Rattle.dealing.specs.declared.Status.{Status}
 use Rattle.source.specs.declared.Source.{Source}
-use Rattle.session.specs.declared.Record.{Record}
-use Rattle.session.specs.declared.Closing.the-variants.{Open}
-use Rattle.session.specs.View.{stateOf, Legal, Formed}
+use Rattle.turns.specs.declared.Record.{Record}
+use Rattle.turns.specs.declared.Place.{Place}
+use Rattle.turns.specs.View.{stateOf, Legal, Formed}
+use Rattle.turns.specs.Turns.{recordOf, resting}
 use Rattle.session.specs.Calls.{Calls, condition-3-from}
 
 -- a setting of so many cells
@@ -52,14 +53,17 @@ firstStatus = record {
 abbrev pub firstSource : Source
 firstSource = record { line = 0; length = 0; ended = false; stored = 0 }
 
+-- what is no array of the starting record
+abbrev pub startPlace : Place
+startPlace = resting firstStatus firstSource
+
 -- the record of a session that begins, with these arrays
 abbrev pub startWith : (g cs row bs ps tf ts ks ls fs ss : List ℕ) → (vs us : List ℤ) → Record
-startWith g cs row bs ps tf ts ks ls fs ss vs us =
-    record { status = firstStatus; source = firstSource; waiting = record { at = 0; end = 0 }; closing = Open; gathered = g; cells = cs; row = row; arena = bs; ends = ps; «text_firsts» = tf; «text_seconds» = ts; kinds = ks; lengths = ls; firsts = fs; seconds = ss; values = vs; steps = us }
+startWith g cs row bs ps tf ts ks ls fs ss vs us = recordOf startPlace g cs row bs ps tf ts ks ls fs ss vs us
 
 -- THE STARTING RECORD
 abbrev pub startRecord : Record
-startRecord = startWith (replicate 512 0) (replicate 512 0) (replicate 872 0) (replicate 8704 0) (replicate 153 0) (replicate 64 0) (replicate 64 0) (replicate 64 0) (replicate 64 0) (replicate 64 0) (replicate 64 0) (replicate 64 (pos 0)) (replicate 64 (pos 0))
+startRecord = startWith (replicate 512 0) (replicate 512 0) (replicate 872 0) (replicate 8704 0) (replicate 221 0) (replicate 64 0) (replicate 64 0) (replicate 64 0) (replicate 64 0) (replicate 64 0) (replicate 64 0) (replicate 64 (pos 0)) (replicate 64 (pos 0))
 
 -- the arrays have their lengths
 pub record Long (g cs row bs ps tf ts ks ls fs ss : List ℕ) (vs us : List ℤ) : Type 0 where
@@ -67,7 +71,7 @@ pub record Long (g cs row bs ps tf ts ks ls fs ss : List ℕ) (vs us : List ℤ)
   pub cells-long : length cs ≡ 512
   pub row-long : length row ≡ 872
   pub arena-long : length bs ≡ 8704
-  pub ends-long : length ps ≡ 153
+  pub ends-long : length ps ≡ 221
   pub text-firsts-long : length tf ≡ 64
   pub text-seconds-long : length ts ≡ 64
   pub kinds-long : length ks ≡ 64
@@ -91,7 +95,7 @@ limits = record {
 }
 
 -- it is within its limits, and stands for the rules' start
-formed-with : (g cs row bs ps tf ts ks ls fs ss : List ℕ) (vs us : List ℤ) → Long g cs row bs ps tf ts ks ls fs ss vs us → (st : List ℕ) → length st ≡ 8192
+pub formed-with : (g cs row bs ps tf ts ks ls fs ss : List ℕ) (vs us : List ℤ) → Long g cs row bs ps tf ts ks ls fs ss vs us → (st : List ℕ) → length st ≡ 8192
     → Formed (startWith g cs row bs ps tf ts ks ls fs ss vs us) st
 unfolding framesTo itemsOf cut
 formed-with g cs row bs ps tf ts ks ls fs ss vs us h st e = record {
@@ -126,16 +130,16 @@ state-with : (g cs row bs ps tf ts ks ls fs ss : List ℕ) (vs us : List ℤ) (s
 unfolding framesTo itemsOf cut
 state-with g cs row bs ps tf ts ks ls fs ss vs us st = refl
 
-long : Long (replicate 512 0) (replicate 512 0) (replicate 872 0) (replicate 8704 0) (replicate 153 0) (replicate 64 0) (replicate 64 0) (replicate 64 0) (replicate 64 0) (replicate 64 0) (replicate 64 0) (replicate 64 (pos 0)) (replicate 64 (pos 0))
-long = record { gathered-long = length-replicate {A = ℕ} 512 0; cells-long = length-replicate {A = ℕ} 512 0; row-long = length-replicate {A = ℕ} 872 0; arena-long = length-replicate {A = ℕ} 8704 0; ends-long = length-replicate {A = ℕ} 153 0; text-firsts-long = length-replicate {A = ℕ} 64 0; text-seconds-long = length-replicate {A = ℕ} 64 0; kinds-long = length-replicate {A = ℕ} 64 0; lengths-long = length-replicate {A = ℕ} 64 0; firsts-long = length-replicate {A = ℕ} 64 0; seconds-long = length-replicate {A = ℕ} 64 0; values-long = length-replicate {A = ℤ} 64 (pos 0); steps-long = length-replicate {A = ℤ} 64 (pos 0) }
+long : Long (replicate 512 0) (replicate 512 0) (replicate 872 0) (replicate 8704 0) (replicate 221 0) (replicate 64 0) (replicate 64 0) (replicate 64 0) (replicate 64 0) (replicate 64 0) (replicate 64 0) (replicate 64 (pos 0)) (replicate 64 (pos 0))
+long = record { gathered-long = length-replicate {A = ℕ} 512 0; cells-long = length-replicate {A = ℕ} 512 0; row-long = length-replicate {A = ℕ} 872 0; arena-long = length-replicate {A = ℕ} 8704 0; ends-long = length-replicate {A = ℕ} 221 0; text-firsts-long = length-replicate {A = ℕ} 64 0; text-seconds-long = length-replicate {A = ℕ} 64 0; kinds-long = length-replicate {A = ℕ} 64 0; lengths-long = length-replicate {A = ℕ} 64 0; firsts-long = length-replicate {A = ℕ} 64 0; seconds-long = length-replicate {A = ℕ} 64 0; values-long = length-replicate {A = ℤ} 64 (pos 0); steps-long = length-replicate {A = ℤ} 64 (pos 0) }
 
 -- It stands for the rules' start.
 pub start-state : (st : List ℕ) → stateOf startRecord st ≡ start tenToTheInch
-start-state st = state-with (replicate 512 0) (replicate 512 0) (replicate 872 0) (replicate 8704 0) (replicate 153 0) (replicate 64 0) (replicate 64 0) (replicate 64 0) (replicate 64 0) (replicate 64 0) (replicate 64 0) (replicate 64 (pos 0)) (replicate 64 (pos 0)) st
+start-state st = state-with (replicate 512 0) (replicate 512 0) (replicate 872 0) (replicate 8704 0) (replicate 221 0) (replicate 64 0) (replicate 64 0) (replicate 64 0) (replicate 64 0) (replicate 64 0) (replicate 64 0) (replicate 64 (pos 0)) (replicate 64 (pos 0)) st
 
 -- The starting record is within its limits, over any store of 8,192 bytes.
 pub start-legal : (st : List ℕ) → length st ≡ 8192 → Legal startRecord st
-start-legal st e = record { formed = formed-with (replicate 512 0) (replicate 512 0) (replicate 872 0) (replicate 8704 0) (replicate 153 0) (replicate 64 0) (replicate 64 0) (replicate 64 0) (replicate 64 0) (replicate 64 0) (replicate 64 0) (replicate 64 (pos 0)) (replicate 64 (pos 0)) long st e; within = subst Within (sym (start-state st)) ten-within }
+start-legal st e = record { formed = formed-with (replicate 512 0) (replicate 512 0) (replicate 872 0) (replicate 8704 0) (replicate 221 0) (replicate 64 0) (replicate 64 0) (replicate 64 0) (replicate 64 0) (replicate 64 0) (replicate 64 0) (replicate 64 (pos 0)) (replicate 64 (pos 0)) long st e; within = subst Within (sym (start-state st)) ten-within }
 
 -- CONDITION 3: for every document, every store of 8,192 bytes and every list of calls from the starting record on.
 pub condition-3 : (doc store : List ℕ) (calls : List Call) → length store ≡ 8192 → Calls startRecord store doc calls → Condition3 (pages tenToTheInch doc) calls

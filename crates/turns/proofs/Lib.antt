@@ -1,0 +1,5 @@
+pub mod Quiet
+pub mod Turns
+pub mod Taking
+pub mod Leading
+pub mod Going

@@ -1,0 +1,8 @@
+-- how a record and its store stand for a state of the rules
+pub mod View
+-- what a call does, over records
+pub mod Contract
+-- the turns of a call
+pub mod Turns
+-- a refused event changes no byte of the store
+pub mod Refusing
