@@ -1,0 +1,145 @@
+-- A call on the record of words and arrays, with the words written after it. Assumes nothing.
+use mathlib.Core.Path.{_≡_, refl, sym, ap, _∙_, subst}
+use mathlib.Core.Bool.{Bool, true, false}
+use mathlib.Core.List.{List}
+use Prim.Native.Nat.{ℕ}
+use native.Mathlib.Omega.{arith}
+use lib.Dec.{eqb}
+use lib.IntN.{ℤ}
+use borrow.Author.Tests.{eqb-true}
+use Rattle.stream.specs.declared.Answer.{Answer}
+use Rattle.stream.specs.declared.Answer.the-variants as answer
+use Rattle.limits.specs.Within.{Within}
+use Rattle.rules.specs.State.{State}
+use Rattle.turns.specs.declared.Record.{Record}
+use Rattle.turns.specs.declared.Reply.{Reply}
+use Rattle.turns.specs.declared.Place.{Place}
+use Rattle.turns.specs.declared.Closing.{Closing}
+use Rattle.turns.specs.declared.Closing.the-variants.{Open, Done, Refused}
+use Rattle.turns.specs.View.{closedAs, Legal}
+use Rattle.turns.specs.Contract.{Closes, Ended, EndedBy, Does}
+use Rattle.turns.specs.declared.Ran.{Ran}
+use Rattle.turns.specs.Turns.{recordOf, replyFrom, stays}
+use Rattle.session.specs.Contract.{Nothing, Called, served, turned}
+use Rattle.codes.specs.Words.{Short, placeIn, PlaceWritten}
+use Rattle.codes.specs.Kept.{recordIn, wordsIn, again, Typed, Kept, kept, kept-same}
+use Rattle.cabinet.specs.Calls.{codeOf, numberOf, lineOf, isTurned, isLast, CalledFrom}
+
+true-false : true ≡ false → ⊥
+true-false e = let z : _≡_ {A = ℕ} 0 1 = cc (e) in omega arith
+
+-- a reply with the record that its words stand for
+abbrev replyAgain : Reply → Reply
+replyAgain p = record { answer = p .answer; taken = p .taken; written = p .written; next = again (p .next) }
+
+-- a closed record is closed after it is written
+ended-again : (a : Answer) (r : Record) (st : List ℕ) → Kept r st → EndedBy a r → EndedBy a (again r)
+ended-again answer.NeedsInput r st k e = tt
+ended-again answer.NeedsRoom r st k e = tt
+ended-again answer.Done r st k e =
+    record { closes = subst (λ c. Closes c answer.Done) (sym (k .closing)) (e .closes); none = subst (λ w. w .at ≡ w .end) (sym (k .places)) (e .none) }
+ended-again (answer.Refused n l) r st k e =
+    record { closes = subst (λ c. Closes c (answer.Refused n l)) (sym (k .closing)) (e .closes); none = subst (λ w. w .at ≡ w .end) (sym (k .places)) (e .none) }
+
+-- a call that is served, with the words written after it
+pub called-again : (r : Record) (st bl : List ℕ) (last : Bool) (out : List ℕ) (p : Reply) (st' out' : List ℕ) → Called r st bl last out p st' out' → isTurned (p .answer) ≡ false
+    → Typed (p .next) → Short (r .status .opening .length) → Called r st bl last out (replyAgain p) st' out'
+called-again r st bl last out p st' out' (turned f n) h t s = absurd (true-false (sym (ap (λ (v : Reply). isTurned (v .answer)) (n .reply)) ∙ h))
+called-again r st bl last out p st' out' (served l d u f) h t s =
+    let k = kept (p .next) st' (d .legal) t in
+    served l
+    (record {
+      says = d .says;
+      taken = d .taken;
+      written = d .written;
+      room = d .room;
+      waiting = k .waiting ∙ d .waiting;
+      state = k .state ∙ d .state;
+      legal = k .legal;
+      ended = ended-again (p .answer) (p .next) st' k (d .ended);
+    })
+    (stays u (k .state) (k .closing)) nothing
+  where
+    nothing : (a : Answer) → Ended r a → Nothing a r st out (replyAgain p) st' out'
+    nothing a e =
+        let n = f a e in
+        let y = subst Typed (ap (λ (v : Reply). v .next) (n .reply)) t in
+        record {
+          reply = ap replyAgain (n .reply) ∙ ap (λ (x : Record). record { answer = a; taken = 0; written = 0; next = x }) (kept-same r st l y s);
+          same-store = n .same-store;
+          same-out = n .same-out;
+        }
+
+-- no session is closed by refusal 1
+not-one : (c : Closing) (s : State) (n l : ℕ) → Within (closedAs c s) → Closes c (answer.Refused n l) → eqb n 1 ≡ true → ⊥
+not-one Open s n l w k e = k
+not-one Done s n l w k e = let z : _≡_ {A = ℕ} 0 1 = cc (k) in omega arith
+not-one (Refused m j) s n l w k e =
+    let z : n ≡ m = cc (k) in
+    let o = eqb-true n 1 e in
+    omega (arith, w .closing .0 .least)
+
+-- a record with another place
+abbrev withPlace : Place → Record → Record
+withPlace p r =
+    recordOf p (r .gathered) (r .cells) (r .row) (r .arena) (r .ends) (r .«text_firsts») (r .«text_seconds») (r .kinds) (r .lengths) (r .firsts) (r .seconds) (r .values) (r .steps)
+
+-- a call that is not: its words are as they were
+module _ (ws : List ℤ) (g cs row bs ps tf ts ks ls fs ss : List ℕ) (vs us : List ℤ) (st bl : List ℕ) (last : Bool) (out : List ℕ) (p : Reply) (st' out' : List ℕ) where
+  abbrev r : Record
+  r = recordIn ws g cs row bs ps tf ts ks ls fs ss vs us
+
+  pub called-turned : Called r st bl last out p st' out' → isTurned (p .answer) ≡ true
+      → Called r st bl last out (record { answer = p .answer; taken = p .taken; written = p .written; next = withPlace (placeIn ws) (p .next) }) st' out'
+  called-turned (turned f n) h =
+      turned f
+      (record {
+        reply = ap (λ (v : Reply). record { answer = v .answer; taken = v .taken; written = v .written; next = withPlace (placeIn ws) (v .next) }) (n .reply);
+        same-store = n .same-store;
+        same-out = n .same-out;
+      })
+  called-turned (served l d u f) h = absurd (never (p .answer) h (d .ended))
+    where
+      never : (a : Answer) → isTurned a ≡ true → EndedBy a (p .next) → ⊥
+      never answer.NeedsInput e k = true-false (sym e)
+      never answer.NeedsRoom e k = true-false (sym e)
+      never answer.Done e k = true-false (sym e)
+      never (answer.Refused n m) e k = not-one (p .next .closing) _ n m (d .legal .within) (k .closes) e
+
+-- what a call from C has to show, of the call on parts that it makes
+module _ (ws : List ℤ) (g cs row bs ps tf ts ks ls fs ss : List ℕ) (vs us : List ℤ) (st bl : List ℕ) (mark : ℕ) (out : List ℕ) (pl : Place) (e : pl ≡ placeIn ws) (last : Bool) (m : last ≡ isLast mark)
+    (n : Ran) (g' cs' row' bs' ps' tf' ts' ks' ls' fs' ss' : List ℕ) (vs' us' : List ℤ) (st' out' : List ℕ) (code number line : ℕ) (ce : code ≡ codeOf (n .answer)) (ne : number ≡ numberOf (n .answer))
+    (le : line ≡ lineOf (n .answer)) (c : Called (recordOf pl g cs row bs ps tf ts ks ls fs ss vs us) st bl last out (replyFrom n (recordOf (n .place) g' cs' row' bs' ps' tf' ts' ks' ls' fs' ss' vs' us')) st' out') where
+  abbrev after : Record
+  after = recordOf (n .place) g' cs' row' bs' ps' tf' ts' ks' ls' fs' ss' vs' us'
+
+  here : Called (recordIn ws g cs row bs ps tf ts ks ls fs ss vs us) st bl (isLast mark) out (replyFrom n after) st' out'
+  here =
+      subst (λ (v : Bool). Called (recordIn ws g cs row bs ps tf ts ks ls fs ss vs us) st bl v out (replyFrom n after) st' out') m
+      (subst (λ (v : Place). Called (recordOf v g cs row bs ps tf ts ks ls fs ss vs us) st bl last out (replyFrom n after) st' out') e c)
+
+  pub from-turned : isTurned (n .answer) ≡ true
+      → CalledFrom (recordIn ws g cs row bs ps tf ts ks ls fs ss vs us) ws st bl mark out code (n .taken) (n .written) number line (recordIn ws g' cs' row' bs' ps' tf' ts' ks' ls' fs' ss' vs' us') ws st' out'
+  from-turned h = record {
+    says = n .answer;
+    code-is = ce;
+    number-is = ne;
+    line-is = le;
+    called = called-turned ws g cs row bs ps tf ts ks ls fs ss vs us st bl (isLast mark) out (replyFrom n after) st' out' here h;
+    untouched = λ _. refl;
+  }
+
+  pub from-served : isTurned (n .answer) ≡ false → Short (pl .status .opening .length) → (ws' : List ℤ) → PlaceWritten (n .place) ws'
+      → CalledFrom (recordIn ws g cs row bs ps tf ts ks ls fs ss vs us) ws st bl mark out code (n .taken) (n .written) number line (recordIn ws' g' cs' row' bs' ps' tf' ts' ks' ls' fs' ss' vs' us') ws' st' out'
+  from-served h s ws' w =
+      let t : Typed after = record { opening-named = w .opening-named; traps-long = w .traps-long; traps-named = w .traps-named } in
+      let d = called-again (recordIn ws g cs row bs ps tf ts ks ls fs ss vs us) st bl (isLast mark) out (replyFrom n after) st' out' here h t (subst (λ (v : Place). Short (v .status .opening .length)) e s) in
+      record {
+        says = n .answer;
+        code-is = ce;
+        number-is = ne;
+        line-is = le;
+        called = subst (λ (v : List ℤ). Called (recordIn ws g cs row bs ps tf ts ks ls fs ss vs us) st bl (isLast mark) out
+            (record { answer = n .answer; taken = n .taken; written = n .written; next = recordIn v g' cs' row' bs' ps' tf' ts' ks' ls' fs' ss' vs' us' }) st' out') (sym (w .are)) d;
+        untouched = λ z. absurd (true-false (sym z ∙ h));
+      }

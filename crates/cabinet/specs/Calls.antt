@@ -1,0 +1,51 @@
+-- What a call from C promises: that of the session's call, over the records that words and arrays stand for. Assumes nothing.
+use mathlib.Core.Path.{_≡_}
+use mathlib.Core.Bool.{Bool, true, false, not}
+use mathlib.Core.List.{List}
+use Prim.Native.Nat.{ℕ}
+use lib.Dec.{eqb}
+use lib.IntN.{ℤ}
+use Rattle.stream.specs.declared.Answer.{Answer}
+use Rattle.stream.specs.declared.Answer.the-variants as answer
+use Rattle.turns.specs.declared.Record.{Record}
+use Rattle.session.specs.Contract.{Called}
+
+-- the code of an answer
+abbrev pub codeOf : Answer → ℕ
+codeOf answer.NeedsInput = 0
+codeOf answer.NeedsRoom = 1
+codeOf answer.Done = 2
+codeOf (answer.Refused n l) = 3
+
+-- its number and source line, if it is a refusal
+abbrev pub numberOf : Answer → ℕ
+numberOf answer.NeedsInput = 0
+numberOf answer.NeedsRoom = 0
+numberOf answer.Done = 0
+numberOf (answer.Refused n l) = n
+
+abbrev pub lineOf : Answer → ℕ
+lineOf answer.NeedsInput = 0
+lineOf answer.NeedsRoom = 0
+lineOf answer.Done = 0
+lineOf (answer.Refused n l) = l
+
+-- refusal 1
+abbrev pub isTurned : Answer → Bool
+isTurned answer.NeedsInput = false
+isTurned answer.NeedsRoom = false
+isTurned answer.Done = false
+isTurned (answer.Refused n l) = eqb n 1
+
+-- any byte but 0 marks the last block
+abbrev pub isLast : ℕ → Bool
+isLast m = not (eqb m 0)
+
+-- THE PROMISE OF A CALL FROM C: it answers by a code, a number and a line, and is a call of the session from the one record to the other. At refusal 1 no word changes.
+pub record CalledFrom (r : Record) (ws : List ℤ) (st block : List ℕ) (last : ℕ) (out : List ℕ) (code taken written number line : ℕ) (r' : Record) (ws' : List ℤ) (st' out' : List ℕ) : Type 0 where
+  pub says : Answer
+  pub code-is : code ≡ codeOf says
+  pub number-is : number ≡ numberOf says
+  pub line-is : line ≡ lineOf says
+  pub called : Called r st block (isLast last) out (record { answer = says; taken = taken; written = written; next = r' }) st' out'
+  pub untouched : isTurned says ≡ true → ws' ≡ ws

@@ -1,0 +1,168 @@
+// The session for C: a record is 68 words and 13 arrays of numbers, any bytes make one, and the arrays are lent where they lie.
+use stream::Answer;
+ghost use mathlib.Core.Path.{_≡_};
+ghost use Rattle.session.specs.Limits.{Sized};
+ghost use Rattle.session.specs.Start.{startRecord};
+ghost use Rattle.codes.specs.Kept.{recordIn};
+ghost use Rattle.cabinet.specs.Calls.{isTurned, codeOf, numberOf, lineOf, isLast, CalledFrom};
+
+// The version of this interface.
+#[no_mangle]
+pub extern "C" fn rockavine_version() -> u32
+    ensures { λ r. ⌜ r ≡ 1 ⌝ }
+{
+    1
+}
+
+// The number of an answer for C.
+fn code_of(answer: Answer) -> u32
+    ensures { λ r. ⌜ r ≡ codeOf answer ⌝ }
+{
+    match answer {
+        Answer::NeedsInput => 0,
+        Answer::NeedsRoom => 1,
+        Answer::Done => 2,
+        Answer::Refused(_, _) => 3,
+    }
+}
+
+// The number of a refusal, 0 if it is none.
+fn number_of(answer: Answer) -> u8
+    ensures { λ r. ⌜ r ≡ numberOf answer ⌝ }
+{
+    match answer {
+        Answer::NeedsInput => 0,
+        Answer::NeedsRoom => 0,
+        Answer::Done => 0,
+        Answer::Refused(number, _) => number,
+    }
+}
+
+// The source line of a refusal, 0 if it is none.
+fn line_of(answer: Answer) -> u32
+    ensures { λ r. ⌜ r ≡ lineOf answer ⌝ }
+{
+    match answer {
+        Answer::NeedsInput => 0,
+        Answer::NeedsRoom => 0,
+        Answer::Done => 0,
+        Answer::Refused(_, line) => line,
+    }
+}
+
+// Refusal 1: the record is not to be changed.
+fn is_turned(answer: Answer) -> bool
+    ensures { λ r. ⌜ r ≡ isTurned answer ⌝ }
+{
+    match answer {
+        Answer::NeedsInput => false,
+        Answer::NeedsRoom => false,
+        Answer::Done => false,
+        Answer::Refused(number, _) => number == 1,
+    }
+}
+
+// Any byte but 0 marks the last block.
+fn is_last(mark: u8) -> bool
+    ensures { λ r. ⌜ r ≡ isLast mark ⌝ }
+{
+    mark != 0
+}
+
+// The starting record.
+#[no_mangle]
+pub extern "C" fn rockavine_start_parts(
+    words: &mut [i32; 68],
+    gathered: &mut [u8; 512],
+    cells: &mut [u8; 512],
+    row: &mut [u8; 872],
+    arena: &mut [u8; 8704],
+    ends: &mut [u16; 221],
+    text_firsts: &mut [u8; 64],
+    text_seconds: &mut [u8; 64],
+    kinds: &mut [u8; 64],
+    lengths: &mut [u16; 64],
+    firsts: &mut [u8; 64],
+    seconds: &mut [u8; 64],
+    values: &mut [i32; 64],
+    steps: &mut [i32; 64],
+)
+    ensures { λ _. ⌜ (recordIn (now (words .exit)) (now (gathered .exit)) (now (cells .exit)) (now (row .exit)) (now (arena .exit)) (now (ends .exit)) (now («text_firsts» .exit)) (now («text_seconds» .exit)) (now (kinds .exit)) (now (lengths .exit)) (now (firsts .exit)) (now (seconds .exit)) (now (values .exit)) (now (steps .exit))) ≡ startRecord ⌝ }
+{
+    codes::write_place(words, session::start_place());
+    *gathered = [0u8; 512];
+    *cells = [0u8; 512];
+    *row = [0u8; 872];
+    *arena = [0u8; 8704];
+    *ends = [0u16; 221];
+    *text_firsts = [0u8; 64];
+    *text_seconds = [0u8; 64];
+    *kinds = [0u8; 64];
+    *lengths = [0u16; 64];
+    *firsts = [0u8; 64];
+    *seconds = [0u8; 64];
+    *values = [0i32; 64];
+    *steps = [0i32; 64];
+}
+
+// One session call on a record where it lies.
+#[no_mangle]
+pub extern "C" fn rockavine_call_parts(
+    words: &mut [i32; 68],
+    gathered: &mut [u8; 512],
+    cells: &mut [u8; 512],
+    row: &mut [u8; 872],
+    arena: &mut [u8; 8704],
+    ends: &mut [u16; 221],
+    text_firsts: &mut [u8; 64],
+    text_seconds: &mut [u8; 64],
+    kinds: &mut [u8; 64],
+    lengths: &mut [u16; 64],
+    firsts: &mut [u8; 64],
+    seconds: &mut [u8; 64],
+    values: &mut [i32; 64],
+    steps: &mut [i32; 64],
+    store: &mut [u8],
+    block: &[u8],
+    last: u8,
+    out: &mut [u8],
+    taken: &mut usize,
+    written: &mut usize,
+    number: &mut u8,
+    line: &mut u32,
+) -> u32
+    requires { ⌜ Sized (recordIn (now words) (now gathered) (now cells) (now row) (now arena) (now ends) (now «text_firsts») (now «text_seconds») (now kinds) (now lengths) (now firsts) (now seconds) (now values) (now steps)) ⌝ }
+    ensures { λ r. ⌜ CalledFrom (recordIn (now (words .entry)) (now (gathered .entry)) (now (cells .entry)) (now (row .entry)) (now (arena .entry)) (now (ends .entry)) (now («text_firsts» .entry)) (now («text_seconds» .entry)) (now (kinds .entry)) (now (lengths .entry)) (now (firsts .entry)) (now (seconds .entry)) (now (values .entry)) (now (steps .entry))) (now (words .entry)) (now (store .entry)) (now (block .entry)) last (now (out .entry)) r (now (taken .exit)) (now (written .exit)) (now (number .exit)) (now (line .exit)) (recordIn (now (words .exit)) (now (gathered .exit)) (now (cells .exit)) (now (row .exit)) (now (arena .exit)) (now (ends .exit)) (now («text_firsts» .exit)) (now («text_seconds» .exit)) (now (kinds .exit)) (now (lengths .exit)) (now (firsts .exit)) (now (seconds .exit)) (now (values .exit)) (now (steps .exit))) (now (words .exit)) (now (store .exit)) (now (out .exit)) ⌝ }
+{
+    let ran = session::call_parts(
+        block,
+        is_last(last),
+        codes::place(&*words),
+        out,
+        gathered,
+        cells,
+        row,
+        arena,
+        ends,
+        store,
+        text_firsts,
+        text_seconds,
+        kinds,
+        lengths,
+        firsts,
+        seconds,
+        values,
+        steps,
+    );
+    let answer = ran.answer;
+    *taken = ran.taken;
+    *written = ran.written;
+    *number = number_of(answer);
+    *line = line_of(answer);
+    if is_turned(answer) {
+        return code_of(answer);
+    }
+    let place = ran.place;
+    codes::write_place(words, place);
+    code_of(answer)
+}

@@ -1,0 +1,532 @@
+// The parts of a record that are no arrays, read from 68 plain words and written as them. Any words are read as parts.
+use dealing::Opening;
+use dealing::Status;
+use input::Stack;
+use measure::Cells;
+use measure::Rows;
+use page::Page;
+use rules::Name;
+use rules::Trap;
+use settings::Layout;
+use settings::Setting;
+use settings::Total;
+use sheet::Collected;
+use source::Source;
+use traps::Planted;
+use turns::Closing;
+use turns::Place;
+use turns::Waiting;
+ghost use mathlib.Core.Path.{_≡_};
+ghost use mathlib.Core.List.{[], _∷_};
+ghost use Prim.Native.Nat.{_+_, _<_, _≤_, min};
+ghost use lib.ListN.{length, set};
+ghost use lib.Seq.{sets};
+ghost use lib.IntN.{pos};
+ghost use Rattle.codes.specs.Words.{Short, wordOf, flagWord, nameWord, totalTag, totalValue, layoutWords, pageWords, collectedWords, countsWords, openingWords, sourceWords, waitingWords, closingWords, plantedWords, Named, AllNamed, numberOf, Written, wordAt, countAt, isSet, cellsAt, rowsAt, settingAt, nameOf, nameAt, totalBy, layoutIn, pageIn, collectedIn, countsIn, openingIn, sourceIn, waitingIn, closingBy, closingIn, trapAt, plantedIn, placeIn, PlaceWritten};
+
+// The items on the input stack, the texts and the registers that there are.
+pub struct Counts {
+    pub depth: usize,
+    pub texts: usize,
+    pub registers: usize,
+}
+
+// A count; a word below 0 is none.
+fn count_at(words: &[i32; 68], at: usize) -> u32
+    requires { ⌜ at < 68 ⌝ }
+    ensures { λ r. ⌜ (r ≡ countAt (now (words .entry)) at) × Short r ⌝ }
+{
+    let word = words[at];
+    if word < 0 {
+        return 0;
+    }
+    word as u32
+}
+
+fn size_at(words: &[i32; 68], at: usize) -> usize
+    requires { ⌜ at < 68 ⌝ }
+    ensures { λ r. ⌜ (r ≡ countAt (now (words .entry)) at) × Short r ⌝ }
+{
+    count_at(words, at) as usize
+}
+
+// A count, or the largest of its type if it is larger.
+fn short_at(words: &[i32; 68], at: usize) -> u16
+    requires { ⌜ at < 68 ⌝ }
+    ensures { λ r. ⌜ r ≡ min (countAt (now (words .entry)) at) 65535 ⌝ }
+{
+    let count = count_at(words, at);
+    if count < 65535 {
+        return count as u16;
+    }
+    65535
+}
+
+fn byte_at(words: &[i32; 68], at: usize) -> u8
+    requires { ⌜ at < 68 ⌝ }
+    ensures { λ r. ⌜ r ≡ min (countAt (now (words .entry)) at) 255 ⌝ }
+{
+    let count = count_at(words, at);
+    if count < 255 {
+        return count as u8;
+    }
+    255
+}
+
+// Any word but 0 is true.
+fn flag_at(words: &[i32; 68], at: usize) -> bool
+    requires { ⌜ at < 68 ⌝ }
+    ensures { λ r. ⌜ r ≡ isSet (wordAt (now (words .entry)) at) ⌝ }
+{
+    let word = words[at];
+    if word < 0 {
+        return true;
+    }
+    if 0 < word {
+        return true;
+    }
+    false
+}
+
+fn cells_at(words: &[i32; 68], at: usize) -> Cells
+    requires { ⌜ at < 68 ⌝ }
+    ensures { λ r. ⌜ r ≡ cellsAt (now (words .entry)) at ⌝ }
+{
+    Cells(words[at])
+}
+
+fn rows_at(words: &[i32; 68], at: usize) -> Rows
+    requires { ⌜ at < 68 ⌝ }
+    ensures { λ r. ⌜ r ≡ rowsAt (now (words .entry)) at ⌝ }
+{
+    Rows(words[at])
+}
+
+fn setting_at(words: &[i32; 68], at: usize) -> Setting
+    requires { ⌜ at < 67 ⌝ }
+    ensures { λ r. ⌜ r ≡ settingAt (now (words .entry)) at ⌝ }
+{
+    Setting {
+        now: cells_at(words, at),
+        former: cells_at(words, at + 1),
+    }
+}
+
+fn name_of(number: u16) -> Name
+    ensures { λ r. ⌜ r ≡ nameOf number ⌝ }
+{
+    Name {
+        first: (number / 256) as u8,
+        second: (number % 256) as u8,
+    }
+}
+
+fn name_at(words: &[i32; 68], at: usize) -> Name
+    requires { ⌜ at < 68 ⌝ }
+    ensures { λ r. ⌜ r ≡ nameAt (now (words .entry)) at ⌝ }
+{
+    name_of(short_at(words, at))
+}
+
+fn total_by(there: bool, count: Cells) -> Total
+    ensures { λ r. ⌜ r ≡ totalBy there count ⌝ }
+{
+    if there {
+        return Total::Is(count);
+    }
+    Total::Nothing
+}
+
+pub fn layout(words: &[i32; 68]) -> Layout
+    ensures { λ r. ⌜ r ≡ layoutIn (now (words .entry)) ⌝ }
+{
+    Layout {
+        line: setting_at(words, 0),
+        indent: setting_at(words, 2),
+        offset: setting_at(words, 4),
+        page: rows_at(words, 6),
+        total: total_by(flag_at(words, 7), cells_at(words, 8)),
+        filling: flag_at(words, 9),
+        adjusting: flag_at(words, 10),
+        centred: count_at(words, 11),
+    }
+}
+
+pub fn page(words: &[i32; 68]) -> Page
+    ensures { λ r. ⌜ r ≡ pageIn (now (words .entry)) ⌝ }
+{
+    Page {
+        number: count_at(words, 12),
+        used: rows_at(words, 13),
+        last: flag_at(words, 14),
+    }
+}
+
+pub fn collected(words: &[i32; 68]) -> Collected
+    ensures { λ r. ⌜ r ≡ collectedIn (now (words .entry)) ⌝ }
+{
+    Collected {
+        there: flag_at(words, 15),
+        indent: cells_at(words, 16),
+        room: cells_at(words, 17),
+        length: size_at(words, 18),
+        next: size_at(words, 19),
+    }
+}
+
+pub fn counts_in(words: &[i32; 68]) -> Counts
+    ensures { λ r. ⌜ r ≡ countsIn (now (words .entry)) ⌝ }
+{
+    Counts {
+        depth: size_at(words, 20),
+        texts: size_at(words, 21),
+        registers: size_at(words, 22),
+    }
+}
+
+pub fn opening(words: &[i32; 68]) -> Opening
+    ensures { λ r. ⌜ (r ≡ openingIn (now (words .entry))) × Short (r .length) ⌝ }
+{
+    Opening {
+        there: flag_at(words, 23),
+        name: name_at(words, 24),
+        length: size_at(words, 25),
+    }
+}
+
+pub fn source(words: &[i32; 68]) -> Source
+    ensures { λ r. ⌜ r ≡ sourceIn (now (words .entry)) ⌝ }
+{
+    Source {
+        line: count_at(words, 26),
+        length: size_at(words, 27),
+        ended: flag_at(words, 28),
+        stored: short_at(words, 29),
+    }
+}
+
+pub fn waiting(words: &[i32; 68]) -> Waiting
+    ensures { λ r. ⌜ r ≡ waitingIn (now (words .entry)) ⌝ }
+{
+    Waiting {
+        at: size_at(words, 30),
+        end: size_at(words, 31),
+    }
+}
+
+fn closing_by(there: bool, tag: u32, number: u8, line: u32) -> Closing
+    ensures { λ r. ⌜ r ≡ closingBy there tag number line ⌝ }
+{
+    if !there {
+        return Closing::Open;
+    }
+    if tag == 1 {
+        return Closing::Done;
+    }
+    Closing::Refused(number, line)
+}
+
+pub fn closing(words: &[i32; 68]) -> Closing
+    ensures { λ r. ⌜ r ≡ closingIn (now (words .entry)) ⌝ }
+{
+    let there = flag_at(words, 32);
+    let tag = count_at(words, 32);
+    closing_by(there, tag, byte_at(words, 33), count_at(words, 34))
+}
+
+fn trap_at(words: &[i32; 68], at: usize) -> Trap
+    requires { ⌜ at < 67 ⌝ }
+    ensures { λ r. ⌜ r ≡ trapAt (now (words .entry)) at ⌝ }
+{
+    Trap {
+        place: words[at],
+        name: name_at(words, at + 1),
+    }
+}
+
+pub fn planted(words: &[i32; 68]) -> Planted
+    ensures { λ r. ⌜ r ≡ plantedIn (now (words .entry)) ⌝ }
+{
+    let traps = [
+        trap_at(words, 36),
+        trap_at(words, 38),
+        trap_at(words, 40),
+        trap_at(words, 42),
+        trap_at(words, 44),
+        trap_at(words, 46),
+        trap_at(words, 48),
+        trap_at(words, 50),
+        trap_at(words, 52),
+        trap_at(words, 54),
+        trap_at(words, 56),
+        trap_at(words, 58),
+        trap_at(words, 60),
+        trap_at(words, 62),
+        trap_at(words, 64),
+        trap_at(words, 66),
+    ];
+    Planted {
+        traps,
+        count: size_at(words, 35),
+    }
+}
+
+// A count as a word; the largest word if it is larger than any.
+fn word_of(count: usize) -> i32
+    ensures { λ r. ⌜ r ≡ wordOf count ⌝ }
+{
+    if count < 2147483647 {
+        return count as i32;
+    }
+    2147483647
+}
+
+fn put_count(words: &mut [i32; 68], at: usize, count: usize)
+    requires { ⌜ at < 68 ⌝ }
+    ensures { λ _. ⌜ now (words .exit) ≡ set (now (words .entry)) at (wordOf count) ⌝ }
+{
+    words[at] = word_of(count);
+}
+
+fn put_flag(words: &mut [i32; 68], at: usize, flag: bool)
+    requires { ⌜ at < 68 ⌝ }
+    ensures { λ _. ⌜ now (words .exit) ≡ set (now (words .entry)) at (flagWord flag) ⌝ }
+{
+    if flag {
+        words[at] = 1;
+        return;
+    }
+    words[at] = 0;
+}
+
+fn put_cells(words: &mut [i32; 68], at: usize, cells: Cells)
+    requires { ⌜ at < 68 ⌝ }
+    ensures { λ _. ⌜ now (words .exit) ≡ set (now (words .entry)) at (cells .0) ⌝ }
+{
+    let count = cells.0;
+    words[at] = count;
+}
+
+fn put_rows(words: &mut [i32; 68], at: usize, rows: Rows)
+    requires { ⌜ at < 68 ⌝ }
+    ensures { λ _. ⌜ now (words .exit) ≡ set (now (words .entry)) at (rows .0) ⌝ }
+{
+    let count = rows.0;
+    words[at] = count;
+}
+
+fn put_name(words: &mut [i32; 68], at: usize, name: Name)
+    requires { ⌜ at < 68 ⌝ }
+    ensures { λ _. ⌜ (now (words .exit) ≡ set (now (words .entry)) at (nameWord name)) × Named name ⌝ }
+{
+    put_count(words, at, name.first as usize * 256 + name.second as usize);
+}
+
+fn put_total(words: &mut [i32; 68], total: Total)
+    ensures { λ _. ⌜ now (words .exit) ≡ sets (now (words .entry)) 7 (totalTag total ∷ totalValue total ∷ []) ⌝ }
+{
+    match total {
+        Total::Is(count) => {
+            put_flag(words, 7, true);
+            put_cells(words, 8, count);
+        }
+        Total::Nothing => {
+            put_flag(words, 7, false);
+            put_count(words, 8, 0);
+        }
+    }
+}
+
+fn put_layout(words: &mut [i32; 68], layout: Layout)
+    ensures { λ _. ⌜ now (words .exit) ≡ sets (now (words .entry)) 0 (layoutWords layout) ⌝ }
+{
+    let line = layout.line;
+    let indent = layout.indent;
+    let offset = layout.offset;
+    let total = layout.total;
+    put_cells(words, 0, line.now);
+    put_cells(words, 1, line.former);
+    put_cells(words, 2, indent.now);
+    put_cells(words, 3, indent.former);
+    put_cells(words, 4, offset.now);
+    put_cells(words, 5, offset.former);
+    put_rows(words, 6, layout.page);
+    put_total(words, total);
+    put_flag(words, 9, layout.filling);
+    put_flag(words, 10, layout.adjusting);
+    put_count(words, 11, layout.centred as usize);
+}
+
+fn put_page(words: &mut [i32; 68], page: Page)
+    ensures { λ _. ⌜ now (words .exit) ≡ sets (now (words .entry)) 12 (pageWords page) ⌝ }
+{
+    put_count(words, 12, page.number as usize);
+    put_rows(words, 13, page.used);
+    put_flag(words, 14, page.last);
+}
+
+fn put_collected(words: &mut [i32; 68], collected: Collected)
+    ensures { λ _. ⌜ now (words .exit) ≡ sets (now (words .entry)) 15 (collectedWords collected) ⌝ }
+{
+    put_flag(words, 15, collected.there);
+    put_cells(words, 16, collected.indent);
+    put_cells(words, 17, collected.room);
+    put_count(words, 18, collected.length);
+    put_count(words, 19, collected.next);
+}
+
+fn put_counts(words: &mut [i32; 68], counts: Counts)
+    ensures { λ _. ⌜ now (words .exit) ≡ sets (now (words .entry)) 20 (countsWords counts) ⌝ }
+{
+    put_count(words, 20, counts.depth);
+    put_count(words, 21, counts.texts);
+    put_count(words, 22, counts.registers);
+}
+
+fn put_opening(words: &mut [i32; 68], opening: Opening)
+    ensures { λ _. ⌜ (now (words .exit) ≡ sets (now (words .entry)) 23 (openingWords opening)) × Named (opening .name) ⌝ }
+{
+    put_flag(words, 23, opening.there);
+    put_name(words, 24, opening.name);
+    put_count(words, 25, opening.length);
+}
+
+fn put_source(words: &mut [i32; 68], source: Source)
+    ensures { λ _. ⌜ (now (words .exit) ≡ sets (now (words .entry)) 26 (sourceWords source)) × (source .stored ≤ 65535) ⌝ }
+{
+    put_count(words, 26, source.line as usize);
+    put_count(words, 27, source.length);
+    put_flag(words, 28, source.ended);
+    put_count(words, 29, source.stored as usize);
+}
+
+fn put_waiting(words: &mut [i32; 68], waiting: Waiting)
+    ensures { λ _. ⌜ now (words .exit) ≡ sets (now (words .entry)) 30 (waitingWords waiting) ⌝ }
+{
+    put_count(words, 30, waiting.at);
+    put_count(words, 31, waiting.end);
+}
+
+// The tag, the number and the line of a closing answer.
+fn put_answer(words: &mut [i32; 68], tag: usize, number: usize, line: usize)
+    ensures { λ _. ⌜ now (words .exit) ≡ sets (now (words .entry)) 32 (wordOf tag ∷ wordOf number ∷ wordOf line ∷ []) ⌝ }
+{
+    put_count(words, 32, tag);
+    put_count(words, 33, number);
+    put_count(words, 34, line);
+}
+
+fn put_closing(words: &mut [i32; 68], closing: Closing)
+    ensures { λ _. ⌜ (now (words .exit) ≡ sets (now (words .entry)) 32 (closingWords closing)) × (numberOf closing ≤ 255) ⌝ }
+{
+    match closing {
+        Closing::Open => put_answer(words, 0, 0, 0),
+        Closing::Done => put_answer(words, 1, 0, 0),
+        Closing::Refused(number, line) => put_answer(words, 2, number as usize, line as usize),
+    }
+}
+
+fn put_trap(words: &mut [i32; 68], at: usize, trap: Trap)
+    requires { ⌜ at < 67 ⌝ }
+    ensures { λ _. ⌜ (now (words .exit) ≡ set (set (now (words .entry)) at (trap .place)) (at + 1) (nameWord (trap .name))) × Named (trap .name) ⌝ }
+{
+    let place = trap.place;
+    words[at] = place;
+    put_name(words, at + 1, trap.name);
+}
+
+fn put_planted(words: &mut [i32; 68], planted: Planted)
+    ensures { λ _. ⌜ (now (words .exit) ≡ sets (now (words .entry)) 35 (plantedWords planted)) × (length (planted .traps) ≡ 16) × AllNamed (planted .traps) ⌝ }
+{
+    put_count(words, 35, planted.count);
+    let mut i: usize = 0;
+    while i < 16 {
+        let trap = planted.traps[i];
+        put_trap(words, 36 + 2 * i, trap);
+        i += 1;
+    }
+}
+
+// The words of all parts.
+pub fn write(
+    words: &mut [i32; 68],
+    layout: Layout,
+    page: Page,
+    collected: Collected,
+    counts: Counts,
+    opening: Opening,
+    source: Source,
+    waiting: Waiting,
+    closing: Closing,
+    planted: Planted,
+)
+    ensures { λ _. ⌜ Written layout page collected counts opening source waiting closing planted (now (words .exit)) ⌝ }
+{
+    *words = [0i32; 68];
+    put_layout(words, layout);
+    put_page(words, page);
+    put_collected(words, collected);
+    put_counts(words, counts);
+    put_opening(words, opening);
+    put_source(words, source);
+    put_waiting(words, waiting);
+    put_closing(words, closing);
+    put_planted(words, planted);
+}
+
+// The place of words.
+pub fn place(words: &[i32; 68]) -> Place
+    ensures { λ r. ⌜ (r ≡ placeIn (now (words .entry))) × Short (r .status .opening .length) ⌝ }
+{
+    let counts = counts_in(words);
+    Place {
+        status: Status {
+            layout: layout(words),
+            page: page(words),
+            collected: collected(words),
+            planted: planted(words),
+            stack: Stack {
+                depth: counts.depth,
+            },
+            texts: counts.texts,
+            opening: opening(words),
+            registers: counts.registers,
+        },
+        source: source(words),
+        waiting: waiting(words),
+        closing: closing(words),
+    }
+}
+
+// A place as words.
+pub fn write_place(words: &mut [i32; 68], place: Place)
+    ensures { λ _. ⌜ PlaceWritten place (now (words .exit)) ⌝ }
+{
+    let status = place.status;
+    let stack = status.stack;
+    let counts = Counts {
+        depth: stack.depth,
+        texts: status.texts,
+        registers: status.registers,
+    };
+    let layout = status.layout;
+    let page = status.page;
+    let collected = status.collected;
+    let opening = status.opening;
+    let planted = status.planted;
+    let source = place.source;
+    let waiting = place.waiting;
+    let closing = place.closing;
+    write(
+        words,
+        layout,
+        page,
+        collected,
+        counts,
+        opening,
+        source,
+        waiting,
+        closing,
+        planted,
+    );
+}
