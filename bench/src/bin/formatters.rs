@@ -1,16 +1,26 @@
-//! Measures the program against other formatters on the same text of filled words with requests.
+//! Measures the program against other formatters on the same text of filled words with requests, and the product
+//! through its C interface on that text.
 //!
 //! Each formatter runs in turn on the same file, its pages are thrown away, and the medians of the times are compared.
 //! Nothing is asserted of the times. A formatter that is not installed is named and left out.
+#[path = "../product.rs"]
+mod product;
+
 use std::env;
 use std::fs::{self, File};
+use std::hint::black_box;
 use std::io::{self, BufWriter, Write};
 use std::path::{Path, PathBuf};
 use std::process::{Command, ExitCode, Stdio};
 use std::time::Instant;
 
+use product::{Record, DONE, NEEDS_INPUT, NEEDS_ROOM, STORE_LENGTH};
+
 const SIZE: usize = 20_000_000;
 const ROUNDS: usize = 5;
+/// Blocks of one byte are measured on so many bytes of the text.
+const PIECE: usize = 1_000_000;
+const COPIES: usize = 1_000_000;
 const WORDS: [&str; 20] = [
     "cable", "exchange", "pair", "lamp", "cover", "check", "the", "and", "of", "line", "relay", "a", "to", "is", "set",
     "test", "meter", "frame", "block", "fuse",
@@ -100,8 +110,73 @@ fn main() -> ExitCode {
             times[index].extend(timed(program, words, &text));
         }
     }
+    let source = fs::read(&text);
     let _ = fs::remove_file(&text);
-    report(&commands, times)
+    let code = report(&commands, times);
+    let Ok(source) = source else {
+        eprintln!("{}: cannot be read", text.display());
+        return ExitCode::FAILURE;
+    };
+    if through_c(&source) {
+        code
+    } else {
+        ExitCode::FAILURE
+    }
+}
+
+/// How long a session takes whose source comes in blocks of this length, and how many calls it has; nothing if it is
+/// not done.
+fn session(source: &[u8], block: usize, room: usize) -> Option<(f64, usize)> {
+    let (mut record, mut store, mut out) = (Record::start(), Box::new([0; STORE_LENGTH]), vec![0; room]);
+    let (mut at, mut calls) = (0, 0);
+    let start = Instant::now();
+    loop {
+        let end = source.len().min(at + block);
+        let reply = record.call(&mut store, &source[at..end], end == source.len(), &mut out);
+        black_box(&out[..reply.written]);
+        at += reply.taken;
+        calls += 1;
+        match reply.code {
+            NEEDS_INPUT | NEEDS_ROOM => {}
+            DONE => return Some((start.elapsed().as_secs_f64(), calls)),
+            _ => return None,
+        }
+    }
+}
+
+/// The median time of a session, and the time of one of its calls.
+fn measured(how: &str, source: &[u8], block: usize, room: usize) -> bool {
+    let rounds: Option<Vec<(f64, usize)>> = (0..ROUNDS).map(|_| session(source, block, room)).collect();
+    let Some(rounds) = rounds else {
+        println!("{how}: the document is refused");
+        return false;
+    };
+    let (calls, time) = (rounds[0].1, median(rounds.iter().map(|round| round.0).collect()));
+    let rate = source.len() as f64 / time / 1e6;
+    println!("{how:30} {time:6.2} s  {rate:6.1} MB/s  {:9.0} ns a call", time / calls as f64 * 1e9);
+    true
+}
+
+/// The cost of copying a record, in seconds.
+fn copied() -> f64 {
+    let record = Record::start();
+    let mut copy = record.clone();
+    let start = Instant::now();
+    for _ in 0..COPIES {
+        copy.clone_from(black_box(&record));
+        black_box(&copy);
+    }
+    start.elapsed().as_secs_f64() / COPIES as f64
+}
+
+/// The product through its C interface; false if it refuses the text.
+fn through_c(source: &[u8]) -> bool {
+    let piece = &source[..PIECE.min(source.len())];
+    let done = measured("C, whole", source, source.len(), 65_536)
+        && measured("C, blocks and rooms of 512", source, 512, 512)
+        && measured("C, blocks of 1, rooms of 512", piece, 1, 512);
+    println!("{:30} {:>36.0} ns", "copying a record", copied() * 1e9);
+    done
 }
 
 fn report(commands: &[(&str, &str, &[&str]); 4], times: Vec<Vec<f64>>) -> ExitCode {

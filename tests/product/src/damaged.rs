@@ -4,7 +4,8 @@
 use second::generate::Random;
 use second::refusal::STORE_LENGTH;
 
-use crate::product::NUMBERS;
+use crate::limits::{breaks, BROKEN};
+use crate::product::{NUMBERS, WORDS};
 use crate::random::{any_store, drawn};
 use crate::session::{claim, is_closed, Session, REFUSED_1};
 
@@ -12,10 +13,11 @@ const LENGTHS: [usize; 6] = [0, 1, 8191, 8193, 4096, 16384];
 /// Calls on one damaged record.
 const CALLS: usize = 40;
 
-/// How many of the damaged records were turned away at once.
+/// How many of the damaged records were turned away at once, and of how many the words alone say that they must be.
 #[derive(Default)]
 pub struct Seen {
     pub turned_away: u64,
+    pub broken: u64,
 }
 
 /// Nothing if all is as promised with the document of this seed and index, else what is not.
@@ -51,11 +53,11 @@ fn other_lengths(session: &mut Session, rest: &[u8], random: &mut Random) -> Res
     Ok(())
 }
 
-/// Some bytes take another value: two times of three among the numbers.
-fn damage(session: &mut Session, random: &mut Random) {
+/// Some bytes take another value: of three times one among the words, one among the numbers.
+fn damage_bytes(session: &mut Session, random: &mut Random) {
     let bytes = session.record.bytes_mut();
     for _ in 0..1 + random.below(4) {
-        let within = if random.below(3) == 0 { bytes.len() } else { NUMBERS };
+        let within = [bytes.len(), NUMBERS, WORDS * size_of::<i32>()][random.below(3)];
         let place = random.below(within);
         bytes[place] = match random.below(4) {
             0 => random.below(256) as u8,
@@ -64,6 +66,15 @@ fn damage(session: &mut Session, random: &mut Random) {
             _ => bytes[place] ^ (1 << random.below(8)),
         };
     }
+}
+
+fn damage(session: &mut Session, random: &mut Random) {
+    if random.below(5) == 0 {
+        let (place, word) = BROKEN[random.below(BROKEN.len())];
+        session.record.words[place] = word;
+    } else {
+        damage_bytes(session, random);
+    }
     if random.below(4) == 0 {
         let place = random.below(STORE_LENGTH);
         session.store[place] = random.below(256) as u8;
@@ -71,7 +82,10 @@ fn damage(session: &mut Session, random: &mut Random) {
 }
 
 fn damaged(session: &mut Session, rest: &[u8], random: &mut Random, seen: &mut Seen) -> Result<(), String> {
+    claim(!breaks(&session.record.words), "a record that a call handed back breaks a limit")?;
     damage(session, random);
+    let broken = breaks(&session.record.words);
+    seen.broken += u64::from(broken);
     let mut at = 0;
     for turn in 0..CALLS {
         let end = rest.len().min(at + random.below(60));
@@ -83,10 +97,29 @@ fn damaged(session: &mut Session, rest: &[u8], random: &mut Random, seen: &mut S
             session.is_as_before(&record, &store)?;
             return claim(turn == 0, "a record that a call handed back is turned away");
         }
+        claim(!broken, "a record that breaks a limit is not turned away")?;
         at += answer.taken;
         if is_closed(answer.ending) {
             return Ok(());
         }
     }
     Ok(())
+}
+
+#[cfg(test)]
+mod tests {
+    use super::*;
+
+    #[test]
+    fn each_broken_word_is_judged_broken() {
+        // The words of a record that begins, by the header's order.
+        let mut words = [0; WORDS];
+        (words[0], words[1], words[6]) = (65, 65, 66);
+        assert!(!breaks(&words));
+        for (place, word) in BROKEN {
+            let mut damaged = words;
+            damaged[place] = word;
+            assert!(breaks(&damaged), "word {place} = {word}");
+        }
+    }
 }

@@ -2,30 +2,18 @@
 
 use second::session::{Answer, Ending};
 
+/// How many words stand for the parts of a record that are no arrays.
+pub const WORDS: usize = 68;
+
 /// The record of a session. Any bytes make one, so it may be damaged byte by byte.
 #[repr(C)]
 #[derive(Clone)]
 pub struct Record {
-    sizes: [usize; 10],
-    settings: [i32; 11],
-    counts: [u32; 4],
+    pub words: [i32; WORDS],
     values: [i32; 64],
     steps: [i32; 64],
-    trap_places: [i32; 16],
-    item_pages: [u32; 17],
-    stored: u16,
-    ends: [u16; 153],
+    ends: [u16; 221],
     lengths: [u16; 64],
-    item_places: [u16; 17],
-    item_sizes: [u16; 17],
-    switches: [u8; 7],
-    marks: [u8; 4],
-    items: [u8; 17],
-    item_firsts: [u8; 17],
-    item_seconds: [u8; 17],
-    item_numbers: [u8; 17],
-    trap_firsts: [u8; 16],
-    trap_seconds: [u8; 16],
     gathered: [u8; 512],
     cells: [u8; 512],
     row: [u8; 872],
@@ -35,6 +23,7 @@ pub struct Record {
     kinds: [u8; 64],
     firsts: [u8; 64],
     seconds: [u8; 64],
+    unused: [u8; 2],
 }
 
 /// Where the numbers of a record lie that are no bytes of text, names or rows: damage there is seen soonest.
@@ -43,71 +32,41 @@ pub const NUMBERS: usize = std::mem::offset_of!(Record, gathered);
 extern "C" {
     fn rockavine_version() -> u32;
     fn rockavine_start_parts(
-        sizes: *mut [usize; 10],
-        settings: *mut [i32; 11],
-        counts: *mut [u32; 4],
-        values: *mut [i32; 64],
-        steps: *mut [i32; 64],
-        trap_places: *mut [i32; 16],
-        item_pages: *mut [u32; 17],
-        stored: *mut u16,
-        ends: *mut [u16; 153],
-        lengths: *mut [u16; 64],
-        item_places: *mut [u16; 17],
-        item_sizes: *mut [u16; 17],
-        switches: *mut [u8; 7],
-        marks: *mut [u8; 4],
-        items: *mut [u8; 17],
-        item_firsts: *mut [u8; 17],
-        item_seconds: *mut [u8; 17],
-        item_numbers: *mut [u8; 17],
-        trap_firsts: *mut [u8; 16],
-        trap_seconds: *mut [u8; 16],
+        words: *mut [i32; WORDS],
         gathered: *mut [u8; 512],
         cells: *mut [u8; 512],
         row: *mut [u8; 872],
         arena: *mut [u8; 8704],
+        ends: *mut [u16; 221],
         text_firsts: *mut [u8; 64],
         text_seconds: *mut [u8; 64],
         kinds: *mut [u8; 64],
+        lengths: *mut [u16; 64],
         firsts: *mut [u8; 64],
         seconds: *mut [u8; 64],
+        values: *mut [i32; 64],
+        steps: *mut [i32; 64],
     );
     fn rockavine_call_parts(
-        sizes: *mut [usize; 10],
-        settings: *mut [i32; 11],
-        counts: *mut [u32; 4],
-        values: *mut [i32; 64],
-        steps: *mut [i32; 64],
-        trap_places: *mut [i32; 16],
-        item_pages: *mut [u32; 17],
-        stored: *mut u16,
-        ends: *mut [u16; 153],
-        lengths: *mut [u16; 64],
-        item_places: *mut [u16; 17],
-        item_sizes: *mut [u16; 17],
-        switches: *mut [u8; 7],
-        marks: *mut [u8; 4],
-        items: *mut [u8; 17],
-        item_firsts: *mut [u8; 17],
-        item_seconds: *mut [u8; 17],
-        item_numbers: *mut [u8; 17],
-        trap_firsts: *mut [u8; 16],
-        trap_seconds: *mut [u8; 16],
+        words: *mut [i32; WORDS],
         gathered: *mut [u8; 512],
         cells: *mut [u8; 512],
         row: *mut [u8; 872],
         arena: *mut [u8; 8704],
+        ends: *mut [u16; 221],
         text_firsts: *mut [u8; 64],
         text_seconds: *mut [u8; 64],
         kinds: *mut [u8; 64],
+        lengths: *mut [u16; 64],
         firsts: *mut [u8; 64],
         seconds: *mut [u8; 64],
+        values: *mut [i32; 64],
+        steps: *mut [i32; 64],
         store: *mut u8,
         store_length: usize,
         block: *const u8,
         block_length: usize,
-        last: bool,
+        last: u8,
         out: *mut u8,
         room: usize,
         taken: *mut usize,
@@ -136,35 +95,20 @@ impl Record {
         // SAFETY: each part is lent for the call, and they do not overlap.
         unsafe {
             rockavine_start_parts(
-                &mut r.sizes,
-                &mut r.settings,
-                &mut r.counts,
-                &mut r.values,
-                &mut r.steps,
-                &mut r.trap_places,
-                &mut r.item_pages,
-                &mut r.stored,
-                &mut r.ends,
-                &mut r.lengths,
-                &mut r.item_places,
-                &mut r.item_sizes,
-                &mut r.switches,
-                &mut r.marks,
-                &mut r.items,
-                &mut r.item_firsts,
-                &mut r.item_seconds,
-                &mut r.item_numbers,
-                &mut r.trap_firsts,
-                &mut r.trap_seconds,
+                &mut r.words,
                 &mut r.gathered,
                 &mut r.cells,
                 &mut r.row,
                 &mut r.arena,
+                &mut r.ends,
                 &mut r.text_firsts,
                 &mut r.text_seconds,
                 &mut r.kinds,
+                &mut r.lengths,
                 &mut r.firsts,
                 &mut r.seconds,
+                &mut r.values,
+                &mut r.steps,
             );
         }
         record
@@ -176,40 +120,25 @@ impl Record {
         // SAFETY: each part is lent for the call, with its length where it has one, and they do not overlap.
         let code = unsafe {
             rockavine_call_parts(
-                &mut self.sizes,
-                &mut self.settings,
-                &mut self.counts,
-                &mut self.values,
-                &mut self.steps,
-                &mut self.trap_places,
-                &mut self.item_pages,
-                &mut self.stored,
-                &mut self.ends,
-                &mut self.lengths,
-                &mut self.item_places,
-                &mut self.item_sizes,
-                &mut self.switches,
-                &mut self.marks,
-                &mut self.items,
-                &mut self.item_firsts,
-                &mut self.item_seconds,
-                &mut self.item_numbers,
-                &mut self.trap_firsts,
-                &mut self.trap_seconds,
+                &mut self.words,
                 &mut self.gathered,
                 &mut self.cells,
                 &mut self.row,
                 &mut self.arena,
+                &mut self.ends,
                 &mut self.text_firsts,
                 &mut self.text_seconds,
                 &mut self.kinds,
+                &mut self.lengths,
                 &mut self.firsts,
                 &mut self.seconds,
+                &mut self.values,
+                &mut self.steps,
                 store.as_mut_ptr(),
                 store.len(),
                 block.as_ptr(),
                 block.len(),
-                last,
+                u8::from(last),
                 out.as_mut_ptr(),
                 out.len(),
                 &mut taken,
@@ -230,7 +159,7 @@ impl Record {
 
     pub fn bytes(&self) -> &[u8] {
         let size = std::mem::size_of::<Record>();
-        // SAFETY: the record is made of numbers, and `blank` has set what pads it.
+        // SAFETY: the record is made of numbers, and nothing pads it.
         unsafe { std::slice::from_raw_parts((self as *const Record).cast(), size) }
     }
 
@@ -242,4 +171,4 @@ impl Record {
 }
 
 /// include/rockavine.h states these.
-const _: () = assert!(std::mem::size_of::<Record>() == 12_320 && std::mem::align_of::<Record>() == 8);
+const _: () = assert!(std::mem::size_of::<Record>() == 12_276 && std::mem::align_of::<Record>() == 4);
