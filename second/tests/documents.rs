@@ -170,14 +170,15 @@ fn the_vectors_exist() {
     }
 }
 
+/// The crates whose edits the tables name.
+const EDITED: [&str; 5] = ["rules", "stream", "textlines", "turns", "session"];
+
 /// The edits that the tables name are there.
 #[test]
 fn the_edits_exist() {
     for [quote, _, cell, _] in rules() {
         for span in spans(&cell) {
-            if let Some((crate_name, edit)) =
-                span.split_once('/').filter(|(name, _)| ["rules", "stream", "session"].contains(name))
-            {
+            if let Some((crate_name, edit)) = span.split_once('/').filter(|(name, _)| EDITED.contains(name)) {
                 if !edit.contains('.') {
                     let path = format!("crates/{crate_name}/must-fail/{edit}.edit");
                     assert!(root().join(&path).exists(), "{quote}: no {path}");
