@@ -3,8 +3,8 @@
 //!
 //! Each formatter runs in turn on the same file, its pages are thrown away, and the medians of the times are compared.
 //! Nothing is asserted of the times. A formatter that is not installed is named and left out.
-#[path = "../product.rs"]
-mod product;
+#[path = "../../../tests/product/src/binding.rs"]
+mod binding;
 
 use std::env;
 use std::fs::{self, File};
@@ -14,8 +14,13 @@ use std::path::{Path, PathBuf};
 use std::process::{Command, ExitCode, Stdio};
 use std::time::Instant;
 
-use product::{Record, DONE, NEEDS_INPUT, NEEDS_ROOM, STORE_LENGTH};
+use binding::Record;
 
+/// What include/rockavine.h states.
+const STORE_LENGTH: usize = 8192;
+const NEEDS_INPUT: u32 = 0;
+const NEEDS_ROOM: u32 = 1;
+const DONE: u32 = 2;
 const SIZE: usize = 20_000_000;
 const ROUNDS: usize = 5;
 /// Blocks of one byte are measured on so many bytes of the text.
@@ -127,7 +132,7 @@ fn main() -> ExitCode {
 /// How long a session takes whose source comes in blocks of this length, and how many calls it has; nothing if it is
 /// not done.
 fn session(source: &[u8], block: usize, room: usize) -> Option<(f64, usize)> {
-    let (mut record, mut store, mut out) = (Record::start(), Box::new([0; STORE_LENGTH]), vec![0; room]);
+    let (mut record, mut store, mut out) = (Record::start(), vec![0; STORE_LENGTH], vec![0; room]);
     let (mut at, mut calls) = (0, 0);
     let start = Instant::now();
     loop {
@@ -139,7 +144,10 @@ fn session(source: &[u8], block: usize, room: usize) -> Option<(f64, usize)> {
         match reply.code {
             NEEDS_INPUT | NEEDS_ROOM => {}
             DONE => return Some((start.elapsed().as_secs_f64(), calls)),
-            _ => return None,
+            _ => {
+                println!("refused {} at line {}", reply.number, reply.line);
+                return None;
+            }
         }
     }
 }

@@ -5,7 +5,7 @@ use second::generate::Random;
 use second::refusal::STORE_LENGTH;
 
 use crate::limits::{breaks, BROKEN};
-use crate::product::{NUMBERS, WORDS};
+use crate::product::{bytes_mut, NUMBERS, WORDS};
 use crate::random::{any_store, drawn};
 use crate::session::{claim, is_closed, Session, REFUSED_1};
 
@@ -55,7 +55,7 @@ fn other_lengths(session: &mut Session, rest: &[u8], random: &mut Random) -> Res
 
 /// Some bytes take another value: of three times one among the words, one among the numbers.
 fn damage_bytes(session: &mut Session, random: &mut Random) {
-    let bytes = session.record.bytes_mut();
+    let bytes = bytes_mut(&mut session.record);
     for _ in 0..1 + random.below(4) {
         let within = [bytes.len(), NUMBERS, WORDS * size_of::<i32>()][random.below(3)];
         let place = random.below(within);

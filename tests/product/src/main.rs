@@ -1,5 +1,6 @@
 //! Runs the proved formatter, as C sees it, and compares.
 
+mod binding;
 mod damaged;
 mod limits;
 mod product;

@@ -3,7 +3,7 @@
 use second::refusal::STORE_LENGTH;
 use second::session::{Answer, Ending};
 
-use crate::product::Record;
+use crate::product::{bytes, call, Record};
 
 /// What unwritten bytes of the room hold: no page has it.
 const UNWRITTEN: u8 = 0xa5;
@@ -42,7 +42,7 @@ impl Session {
     pub fn call(&mut self, block: &[u8], last: bool, room: usize) -> Result<Answer, String> {
         self.room.clear();
         self.room.resize(room + BEHIND, UNWRITTEN);
-        let answer = self.record.call(&mut self.store, block, last, &mut self.room[..room]);
+        let answer = call(&mut self.record, &mut self.store, block, last, &mut self.room[..room]);
         let answer = answer.ok_or("an answer that the header does not name")?;
         claim(answer.taken <= block.len(), "more taken than lent")?;
         claim(answer.written <= room, "more written than there is room for")?;
@@ -63,7 +63,7 @@ impl Session {
     }
 
     pub fn is_as_before(&self, record: &Record, store: &[u8]) -> Result<(), String> {
-        claim(self.record.bytes() == record.bytes(), "refusal 1 changed the record")?;
+        claim(bytes(&self.record) == bytes(record), "refusal 1 changed the record")?;
         claim(self.store == store, "refusal 1 changed the store")
     }
 }

@@ -1,20 +1,18 @@
-//! The product through its C interface: the record and the functions of include/rockavine.h.
+//! The record and the functions of include/rockavine.h, for the tests and the benchmark.
 
-pub const STORE_LENGTH: usize = 8192;
-pub const NEEDS_INPUT: u32 = 0;
-pub const NEEDS_ROOM: u32 = 1;
-pub const DONE: u32 = 2;
+/// How many words stand for the parts of a record that are no arrays.
+pub const WORDS: usize = 68;
 
-/// The record of a session.
+/// The record of a session. Any bytes make one.
 #[repr(C)]
 #[derive(Clone)]
 pub struct Record {
-    words: [i32; 68],
+    pub words: [i32; WORDS],
     values: [i32; 64],
     steps: [i32; 64],
     ends: [u16; 221],
     lengths: [u16; 64],
-    gathered: [u8; 512],
+    pub gathered: [u8; 512],
     cells: [u8; 512],
     row: [u8; 872],
     arena: [u8; 8704],
@@ -28,7 +26,7 @@ pub struct Record {
 
 extern "C" {
     fn rockavine_start_parts(
-        words: *mut [i32; 68],
+        words: *mut [i32; WORDS],
         gathered: *mut [u8; 512],
         cells: *mut [u8; 512],
         row: *mut [u8; 872],
@@ -44,7 +42,7 @@ extern "C" {
         steps: *mut [i32; 64],
     );
     fn rockavine_call_parts(
-        words: *mut [i32; 68],
+        words: *mut [i32; WORDS],
         gathered: *mut [u8; 512],
         cells: *mut [u8; 512],
         row: *mut [u8; 872],
@@ -77,6 +75,8 @@ pub struct Reply {
     pub code: u32,
     pub taken: usize,
     pub written: usize,
+    pub number: u8,
+    pub line: u32,
 }
 
 impl Record {
@@ -107,8 +107,8 @@ impl Record {
         record
     }
 
-    pub fn call(&mut self, store: &mut [u8; STORE_LENGTH], block: &[u8], last: bool, out: &mut [u8]) -> Reply {
-        let (mut taken, mut written, mut number, mut line) = (0, 0, 0, 0);
+    pub fn call(&mut self, store: &mut [u8], block: &[u8], last: bool, out: &mut [u8]) -> Reply {
+        let (mut taken, mut written, mut number, mut line) = (usize::MAX, usize::MAX, u8::MAX, u32::MAX);
         // SAFETY: each part is lent for the call, with its length where it has one, and they do not overlap.
         let code = unsafe {
             rockavine_call_parts(
@@ -139,6 +139,9 @@ impl Record {
                 &mut line,
             )
         };
-        Reply { code, taken, written }
+        Reply { code, taken, written, number, line }
     }
 }
+
+/// include/rockavine.h states these.
+const _: () = assert!(std::mem::size_of::<Record>() == 12_276 && std::mem::align_of::<Record>() == 4);
