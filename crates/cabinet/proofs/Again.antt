@@ -79,37 +79,39 @@ not-one (Refused m j) s n l w k e =
     let o = eqb-true n 1 e in
     omega (arith, w .closing .0 .least)
 
--- a record with another place
-abbrev withPlace : Place → Record → Record
-withPlace p r =
-    recordOf p (r .gathered) (r .cells) (r .row) (r .arena) (r .ends) (r .«text_firsts») (r .«text_seconds») (r .kinds) (r .lengths) (r .firsts) (r .seconds) (r .values) (r .steps)
+-- a call on a record within its limits is not answered by refusal 1
+not-turned : (r : Record) (st bl : List ℕ) (last : Bool) (out : List ℕ) (p : Reply) (st' out' : List ℕ) → Legal r st → Called r st bl last out p st' out' → isTurned (p .answer) ≡ false
+not-turned r st bl last out p st' out' l (turned f n) = absurd (f l)
+not-turned r st bl last out p st' out' l (served k d u f) = by (p .answer) (d .ended)
+  where
+    one : (n m : ℕ) → Ended (p .next) (answer.Refused n m) → (b : Bool) → eqb n 1 ≡ b → b ≡ false
+    one n m k true e = absurd (not-one (p .next .closing) _ n m (d .legal .within) (k .closes) e)
+    one n m k false e = refl
 
--- a call that is not: its words are as they were
-module _ (ws : List ℤ) (g cs row bs ps tf ts ks ls fs ss : List ℕ) (vs us : List ℤ) (st bl : List ℕ) (last : Bool) (out : List ℕ) (p : Reply) (st' out' : List ℕ) where
-  abbrev r : Record
-  r = recordIn ws g cs row bs ps tf ts ks ls fs ss vs us
+    by : (a : Answer) → EndedBy a (p .next) → isTurned a ≡ false
+    by answer.NeedsInput k = refl
+    by answer.NeedsRoom k = refl
+    by answer.Done k = refl
+    by (answer.Refused n m) k = one n m k (eqb n 1) refl
 
-  pub called-turned : Called r st bl last out p st' out' → isTurned (p .answer) ≡ true
-      → Called r st bl last out (record { answer = p .answer; taken = p .taken; written = p .written; next = withPlace (placeIn ws) (p .next) }) st' out'
-  called-turned (turned f n) h =
-      turned f
-      (record {
-        reply = ap (λ (v : Reply). record { answer = v .answer; taken = v .taken; written = v .written; next = withPlace (placeIn ws) (v .next) }) (n .reply);
-        same-store = n .same-store;
-        same-out = n .same-out;
-      })
-  called-turned (served l d u f) h = absurd (never (p .answer) h (d .ended))
-    where
-      never : (a : Answer) → isTurned a ≡ true → EndedBy a (p .next) → ⊥
-      never answer.NeedsInput e k = true-false (sym e)
-      never answer.NeedsRoom e k = true-false (sym e)
-      never answer.Done e k = true-false (sym e)
-      never (answer.Refused n m) e k = not-one (p .next .closing) _ n m (d .legal .within) (k .closes) e
+-- a record that passes a limit: nothing changes
+pub from-turned : (ws : List ℤ) (g cs row bs ps tf ts ks ls fs ss : List ℕ) (vs us : List ℤ) (st bl : List ℕ) (mark : ℕ) (out : List ℕ) (pl : Place) → pl ≡ placeIn ws
+    → (Legal (recordOf pl g cs row bs ps tf ts ks ls fs ss vs us) st → ⊥)
+    → CalledFrom (recordIn ws g cs row bs ps tf ts ks ls fs ss vs us) ws st bl mark out 3 0 0 1 0 (recordIn ws g cs row bs ps tf ts ks ls fs ss vs us) ws st out
+from-turned ws g cs row bs ps tf ts ks ls fs ss vs us st bl mark out pl e f = record {
+  says = answer.Refused 1 0;
+  code-is = refl;
+  number-is = refl;
+  line-is = refl;
+  called = turned (subst (λ (v : Place). Legal (recordOf v g cs row bs ps tf ts ks ls fs ss vs us) st → ⊥) e f) (record { reply = refl; same-store = refl; same-out = refl });
+  untouched = λ _. refl;
+}
 
 -- what a call from C has to show, of the call on parts that it makes
 module _ (ws : List ℤ) (g cs row bs ps tf ts ks ls fs ss : List ℕ) (vs us : List ℤ) (st bl : List ℕ) (mark : ℕ) (out : List ℕ) (pl : Place) (e : pl ≡ placeIn ws) (last : Bool) (m : last ≡ isLast mark)
     (n : Ran) (g' cs' row' bs' ps' tf' ts' ks' ls' fs' ss' : List ℕ) (vs' us' : List ℤ) (st' out' : List ℕ) (code number line : ℕ) (ce : code ≡ codeOf (n .answer)) (ne : number ≡ numberOf (n .answer))
-    (le : line ≡ lineOf (n .answer)) (c : Called (recordOf pl g cs row bs ps tf ts ks ls fs ss vs us) st bl last out (replyFrom n (recordOf (n .place) g' cs' row' bs' ps' tf' ts' ks' ls' fs' ss' vs' us')) st' out') where
+    (le : line ≡ lineOf (n .answer)) (l : Legal (recordOf pl g cs row bs ps tf ts ks ls fs ss vs us) st)
+    (c : Called (recordOf pl g cs row bs ps tf ts ks ls fs ss vs us) st bl last out (replyFrom n (recordOf (n .place) g' cs' row' bs' ps' tf' ts' ks' ls' fs' ss' vs' us')) st' out') where
   abbrev after : Record
   after = recordOf (n .place) g' cs' row' bs' ps' tf' ts' ks' ls' fs' ss' vs' us'
 
@@ -118,22 +120,14 @@ module _ (ws : List ℤ) (g cs row bs ps tf ts ks ls fs ss : List ℕ) (vs us : 
       subst (λ (v : Bool). Called (recordIn ws g cs row bs ps tf ts ks ls fs ss vs us) st bl v out (replyFrom n after) st' out') m
       (subst (λ (v : Place). Called (recordOf v g cs row bs ps tf ts ks ls fs ss vs us) st bl last out (replyFrom n after) st' out') e c)
 
-  pub from-turned : isTurned (n .answer) ≡ true
-      → CalledFrom (recordIn ws g cs row bs ps tf ts ks ls fs ss vs us) ws st bl mark out code (n .taken) (n .written) number line (recordIn ws g' cs' row' bs' ps' tf' ts' ks' ls' fs' ss' vs' us') ws st' out'
-  from-turned h = record {
-    says = n .answer;
-    code-is = ce;
-    number-is = ne;
-    line-is = le;
-    called = called-turned ws g cs row bs ps tf ts ks ls fs ss vs us st bl (isLast mark) out (replyFrom n after) st' out' here h;
-    untouched = λ _. refl;
-  }
+  other : isTurned (n .answer) ≡ false
+  other = not-turned (recordOf pl g cs row bs ps tf ts ks ls fs ss vs us) st bl last out (replyFrom n after) st' out' l c
 
-  pub from-served : isTurned (n .answer) ≡ false → Short (pl .status .opening .length) → (ws' : List ℤ) → PlaceWritten (n .place) ws'
+  pub from-served : Short (pl .status .opening .length) → (ws' : List ℤ) → PlaceWritten (n .place) ws'
       → CalledFrom (recordIn ws g cs row bs ps tf ts ks ls fs ss vs us) ws st bl mark out code (n .taken) (n .written) number line (recordIn ws' g' cs' row' bs' ps' tf' ts' ks' ls' fs' ss' vs' us') ws' st' out'
-  from-served h s ws' w =
+  from-served s ws' w =
       let t : Typed after = record { opening-named = w .opening-named; traps-long = w .traps-long; traps-named = w .traps-named } in
-      let d = called-again (recordIn ws g cs row bs ps tf ts ks ls fs ss vs us) st bl (isLast mark) out (replyFrom n after) st' out' here h t (subst (λ (v : Place). Short (v .status .opening .length)) e s) in
+      let d = called-again (recordIn ws g cs row bs ps tf ts ks ls fs ss vs us) st bl (isLast mark) out (replyFrom n after) st' out' here other t (subst (λ (v : Place). Short (v .status .opening .length)) e s) in
       record {
         says = n .answer;
         code-is = ce;
@@ -141,5 +135,5 @@ module _ (ws : List ℤ) (g cs row bs ps tf ts ks ls fs ss : List ℕ) (vs us : 
         line-is = le;
         called = subst (λ (v : List ℤ). Called (recordIn ws g cs row bs ps tf ts ks ls fs ss vs us) st bl (isLast mark) out
             (record { answer = n .answer; taken = n .taken; written = n .written; next = recordIn v g' cs' row' bs' ps' tf' ts' ks' ls' fs' ss' vs' us' }) st' out') (sym (w .are)) d;
-        untouched = λ z. absurd (true-false (sym z ∙ h));
+        untouched = λ z. absurd (true-false (sym z ∙ other));
       }

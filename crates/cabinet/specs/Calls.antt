@@ -2,13 +2,16 @@
 use mathlib.Core.Path.{_≡_}
 use mathlib.Core.Bool.{Bool, true, false, not}
 use mathlib.Core.List.{List}
-use Prim.Native.Nat.{ℕ}
+use Prim.Native.Nat.{ℕ, _+_}
 use lib.Dec.{eqb}
+use lib.ListN.{length, set}
+use lib.Seq.{paste}
 use lib.IntN.{ℤ}
 use Rattle.stream.specs.declared.Answer.{Answer}
 use Rattle.stream.specs.declared.Answer.the-variants as answer
 use Rattle.turns.specs.declared.Record.{Record}
 use Rattle.session.specs.Contract.{Called}
+use Rattle.codes.specs.Words.{wordOf}
 
 -- the code of an answer
 abbrev pub codeOf : Answer → ℕ
@@ -40,6 +43,11 @@ isTurned (answer.Refused n l) = eqb n 1
 -- any byte but 0 marks the last block
 abbrev pub isLast : ℕ → Bool
 isLast m = not (eqb m 0)
+
+-- a block goes behind the first bytes of a line, so many: the word of their count, and the gathered bytes
+pub record BlockTaken (block : List ℕ) (start : ℕ) (ws : List ℤ) (g : List ℕ) (ws' : List ℤ) (g' : List ℕ) : Type 0 where
+  pub words : ws' ≡ set ws 27 (wordOf (start + length block))
+  pub gathered : g' ≡ paste g start block (length block)
 
 -- THE PROMISE OF A CALL FROM C: it answers by a code, a number and a line, and is a call of the session from the one record to the other. At refusal 1 no word changes.
 pub record CalledFrom (r : Record) (ws : List ℤ) (st block : List ℕ) (last : ℕ) (out : List ℕ) (code taken written number line : ℕ) (r' : Record) (ws' : List ℤ) (st' out' : List ℕ) : Type 0 where

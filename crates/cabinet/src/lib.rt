@@ -3,8 +3,9 @@ use stream::Answer;
 ghost use mathlib.Core.Path.{_≡_};
 ghost use Rattle.session.specs.Limits.{Sized};
 ghost use Rattle.session.specs.Start.{startRecord};
+ghost use Rattle.source.specs.Gathering.{Appends};
 ghost use Rattle.codes.specs.Kept.{recordIn};
-ghost use Rattle.cabinet.specs.Calls.{isTurned, codeOf, numberOf, lineOf, isLast, CalledFrom};
+ghost use Rattle.cabinet.specs.Calls.{codeOf, numberOf, lineOf, isLast, BlockTaken, CalledFrom};
 
 // The version of this interface.
 #[no_mangle]
@@ -47,18 +48,6 @@ fn line_of(answer: Answer) -> u32
         Answer::NeedsRoom => 0,
         Answer::Done => 0,
         Answer::Refused(_, line) => line,
-    }
-}
-
-// Refusal 1: the record is not to be changed.
-fn is_turned(answer: Answer) -> bool
-    ensures { λ r. ⌜ r ≡ isTurned answer ⌝ }
-{
-    match answer {
-        Answer::NeedsInput => false,
-        Answer::NeedsRoom => false,
-        Answer::Done => false,
-        Answer::Refused(number, _) => number == 1,
     }
 }
 
@@ -105,6 +94,15 @@ pub extern "C" fn rockavine_start_parts(
     *steps = [0i32; 64];
 }
 
+// A block goes into the source line that is being taken: the length of the line is the one word that changes.
+fn take_block(block: &[u8], words: &mut [i32; 68], gathered: &mut [u8; 512], start: usize)
+    requires { ⌜ Appends (now block) (now gathered) start ⌝ }
+    ensures { λ _. ⌜ BlockTaken (now (block .entry)) start (now (words .entry)) (now (gathered .entry)) (now (words .exit)) (now (gathered .exit)) ⌝ }
+{
+    source::append(block, gathered, start);
+    codes::write_length(words, start + block.len());
+}
+
 // One session call on a record where it lies.
 #[no_mangle]
 pub extern "C" fn rockavine_call_parts(
@@ -134,10 +132,53 @@ pub extern "C" fn rockavine_call_parts(
     requires { ⌜ Sized (recordIn (now words) (now gathered) (now cells) (now row) (now arena) (now ends) (now «text_firsts») (now «text_seconds») (now kinds) (now lengths) (now firsts) (now seconds) (now values) (now steps)) ⌝ }
     ensures { λ r. ⌜ CalledFrom (recordIn (now (words .entry)) (now (gathered .entry)) (now (cells .entry)) (now (row .entry)) (now (arena .entry)) (now (ends .entry)) (now («text_firsts» .entry)) (now («text_seconds» .entry)) (now (kinds .entry)) (now (lengths .entry)) (now (firsts .entry)) (now (seconds .entry)) (now (values .entry)) (now (steps .entry))) (now (words .entry)) (now (store .entry)) (now (block .entry)) last (now (out .entry)) r (now (taken .exit)) (now (written .exit)) (now (number .exit)) (now (line .exit)) (recordIn (now (words .exit)) (now (gathered .exit)) (now (cells .exit)) (now (row .exit)) (now (arena .exit)) (now (ends .exit)) (now («text_firsts» .exit)) (now («text_seconds» .exit)) (now (kinds .exit)) (now (lengths .exit)) (now (firsts .exit)) (now (seconds .exit)) (now (values .exit)) (now (steps .exit))) (now (words .exit)) (now (store .exit)) (now (out .exit)) ⌝ }
 {
-    let ran = session::call_parts(
+    let place = codes::place(&*words);
+    if !session::is_legal(
+        place,
+        &*gathered,
+        &*cells,
+        &*row,
+        &*arena,
+        &*ends,
+        &*store,
+        &*text_firsts,
+        &*text_seconds,
+        &*kinds,
+        &*lengths,
+        &*firsts,
+        &*seconds,
+        &*values,
+        &*steps,
+    ) {
+        *taken = 0;
+        *written = 0;
+        *number = 1;
+        *line = 0;
+        return 3;
+    }
+    let source = place.source;
+    let waiting = place.waiting;
+    let closing = place.closing;
+    // most calls with few bytes: a line is neither begun nor ended, and the record stays as it is but for that line
+    if turns::is_inside(
         block,
         is_last(last),
-        codes::place(&*words),
+        place.status.stack.depth,
+        source,
+        waiting,
+        closing,
+    ) {
+        take_block(block, words, gathered, source.length);
+        *taken = block.len();
+        *written = 0;
+        *number = 0;
+        *line = 0;
+        return 0;
+    }
+    let ran = session::serve(
+        block,
+        is_last(last),
+        place,
         out,
         gathered,
         cells,
@@ -155,14 +196,11 @@ pub extern "C" fn rockavine_call_parts(
         steps,
     );
     let answer = ran.answer;
+    let after = ran.place;
     *taken = ran.taken;
     *written = ran.written;
     *number = number_of(answer);
     *line = line_of(answer);
-    if is_turned(answer) {
-        return code_of(answer);
-    }
-    let place = ran.place;
-    codes::write_place(words, place);
+    codes::write_place(words, after);
     code_of(answer)
 }

@@ -1,12 +1,12 @@
 -- How the tests of the traps' rows, of the gathered bytes and of the items on the stack go on. Assumes nothing.
-use mathlib.Core.Path.{_≡_, ap, _∙_}
-use mathlib.Core.Bool.{Bool, true, false, not, _&&_, _||_}
+use mathlib.Core.Path.{_≡_, refl, ap, _∙_}
+use mathlib.Core.Bool.{Bool, true, false, not, cond, _&&_, _||_}
 use mathlib.Core.List.{List}
 use Prim.Native.Nat.{ℕ, suc, _+_, _-_, _≤_, _<_}
 use native.Mathlib.Omega.{arith}
-use lib.Dec.{leb}
+use lib.Dec.{leb, eqb}
 use lib.ListN.{length, take, drop, getD}
-use borrow.Author.Tests.{leb-true, le-leb, lt-leb}
+use borrow.Author.Tests.{leb-true, le-leb, lt-leb, ne-eqb}
 use Rattle.rules.specs.declared.Trap.{Trap}
 use Rattle.rules.specs.RefusalLaws.{both}
 use Rattle.registers.specs.Checks as registers
@@ -18,7 +18,7 @@ use Rattle.traps.specs.Checks as traps
 use Rattle.input.specs.declared.Stack.{Stack}
 use Rattle.input.specs.Frames.{entryAt}
 use Rattle.springs.specs.Held.{isText}
-use Rattle.checks.specs.LimitChecks.{arePlaces, areBytes, isGathered, layeredTo, isLayered}
+use Rattle.checks.specs.LimitChecks.{arePlaces, oddByte, areBytes, isGathered, layeredTo, isLayered}
 
 -- the trap at i, whose row passed its test with v
 pub places-at : (l : List Trap) (n i : ℕ) (d : Trap) (v : Bool) → i < n → n ≤ length l → registers.isWithin (getD l i d .place) ≡ v
@@ -30,24 +30,42 @@ pub places-end : (l : List Trap) (n i : ℕ) → n ≤ i → arePlaces (drop i (
 unfolding arePlaces
 places-end l n i h = ap arePlaces (front-end l n i h)
 
+pub odd-most : (b : ℕ) → oddByte b ≤ 1
+odd-most b = go (leb 32 b && leb b 126)
+  where
+    go : (t : Bool) → cond t 0 1 ≤ 1
+    go true = omega arith
+    go false = omega arith
+
 -- the byte at i
 module _ (l : List ℕ) (n i : ℕ) (h : i < n) (k : n ≤ length l) where
   bytes-at : areBytes (drop i (take n l)) ≡ (leb 32 (getD l i 0) && leb (getD l i 0) 126 && areBytes (drop (i + 1) (take n l)))
   unfolding areBytes
   bytes-at = ap areBytes (front-next l n i 0 h k)
 
-  pub bytes-low : getD l i 0 < 32 → areBytes (drop i (take n l)) ≡ false
-  bytes-low a = bytes-at ∙ rw (lt-leb 32 (getD l i 0) a)
+  -- so many odd bytes before it, and with it
+  pub bytes-odd : (o : ℕ) → (eqb o 0 && areBytes (drop i (take n l))) ≡ (eqb (o + oddByte (getD l i 0)) 0 && areBytes (drop (i + 1) (take n l)))
+  bytes-odd o = ap (λ (v : Bool). eqb o 0 && v) bytes-at ∙ go (leb 32 (getD l i 0) && leb (getD l i 0) 126) (areBytes (drop (i + 1) (take n l)))
+    where
+      none : (b : Bool) → (b && false) ≡ false
+      none true = refl
+      none false = refl
 
-  pub bytes-high : 32 ≤ getD l i 0 → 126 < getD l i 0 → areBytes (drop i (take n l)) ≡ false
-  bytes-high a b = bytes-at ∙ rw (le-leb 32 (getD l i 0) a, lt-leb (getD l i 0) 126 b)
-
-  pub bytes-on : 32 ≤ getD l i 0 → getD l i 0 ≤ 126 → areBytes (drop i (take n l)) ≡ areBytes (drop (i + 1) (take n l))
-  bytes-on a b = bytes-at ∙ rw (le-leb 32 (getD l i 0) a, le-leb (getD l i 0) 126 b)
+      go : (t v : Bool) → (eqb o 0 && (t && v)) ≡ (eqb (o + cond t 0 1) 0 && v)
+      go true v = let e : o + 0 ≡ o = omega arith in rw e refl
+      go false v = none (eqb o 0) ∙ rw (ne-eqb (o + 1) 0 (λ e. omega arith)) refl
 
 pub bytes-end : (l : List ℕ) (n i : ℕ) → n ≤ i → areBytes (drop i (take n l)) ≡ true
 unfolding areBytes
 bytes-end l n i h = ap areBytes (front-end l n i h)
+
+-- no byte is left
+pub bytes-all : (b : Bool) (l : List ℕ) (n i : ℕ) → n ≤ i → (b && areBytes (drop i (take n l))) ≡ b
+bytes-all b l n i h = ap (λ (v : Bool). b && v) (bytes-end l n i h) ∙ go b
+  where
+    go : (b : Bool) → (b && true) ≡ b
+    go true = refl
+    go false = refl
 
 pub gathered-many : (l : List ℕ) (n : ℕ) → 512 < n → isGathered l n ≡ false
 gathered-many l n h = rw (lt-leb n 512 h)

@@ -1,5 +1,5 @@
 -- Whether a lent record keeps to the other limits, those that every state of the rules keeps to: one test for each. Assumes nothing.
-use mathlib.Core.Bool.{Bool, true, false, not, _&&_, _||_}
+use mathlib.Core.Bool.{Bool, true, false, not, _&&_, _||_, cond}
 use mathlib.Core.List.{List, [], _∷_}
 use Prim.Native.Nat.{ℕ, zero, suc, _+_}
 use lib.Dec.{leb, eqb}
@@ -56,6 +56,10 @@ areSettings y = isRanged (y .line) && leb (y .centred) 1000000000
 unfoldable pub areBytes : List ℕ → Bool
 areBytes [] = true
 areBytes (b ∷ l) = leb 32 b && leb b 126 && areBytes l
+
+-- how many of one byte are no such byte
+abbrev pub oddByte : ℕ → ℕ
+oddByte b = cond (leb 32 b && leb b 126) 0 1
 
 -- "a source line .. passes 512 bytes": no more are gathered
 abbrev pub isGathered : (gathered : List ℕ) → (length : ℕ) → Bool

@@ -25,7 +25,7 @@ ghost use Rattle.texts.specs.Checks as texts;
 ghost use Rattle.traps.specs.Table.{plantedOf};
 ghost use Rattle.springs.specs.Held.{isText};
 ghost use Rattle.checks.specs.Checks.{Lent, isSetting, isLength, isTotal, isLayout, isPage, isCollected, isSheet, areArguments, isAt, isItem, isFrame, isDepth, isStack, isOpening, areTexts, isSound};
-ghost use Rattle.checks.specs.LimitChecks.{LentTables, arePlaces, isGone, areTables, isRanged, areSettings, isGathered, isLayered, isDeep, isNext, isOpenOver, isPile, isWithin};
+ghost use Rattle.checks.specs.LimitChecks.{LentTables, arePlaces, isGone, areTables, isRanged, areSettings, oddByte, isGathered, isLayered, isDeep, isNext, isOpenOver, isPile, isWithin};
 
 // A setting and the value before it: at most so many cells.
 fn is_setting(setting: Setting, most: u32) -> bool
@@ -427,7 +427,20 @@ fn are_settings(layout: Layout) -> bool
     layout.centred <= 1000000000
 }
 
-// Whether at most 512 bytes are gathered, each of which may stand in a source line.
+// 1 for a byte that no source line has, 0 for any other.
+fn odd_byte(byte: u8) -> u16
+    ensures { λ r. ⌜ r ≡ oddByte byte ⌝ }
+{
+    if byte < 32 {
+        return 1;
+    }
+    if 126 < byte {
+        return 1;
+    }
+    0
+}
+
+// Whether at most 512 bytes are gathered, each of which may stand in a source line. All are looked at, so that many are at once.
 fn is_gathered(gathered: &[u8; 512], count: usize) -> bool
     requires { ⌜ length (now gathered) ≡ 512 ⌝ }
     ensures { λ r. ⌜ r ≡ isGathered (now (gathered .entry)) count ⌝ }
@@ -435,18 +448,14 @@ fn is_gathered(gathered: &[u8; 512], count: usize) -> bool
     if 512 < count {
         return false;
     }
+    let mut odd: u16 = 0;
     let mut i: usize = 0;
     while i < count {
         let byte = gathered[i];
-        if byte < 32 {
-            return false;
-        }
-        if 126 < byte {
-            return false;
-        }
+        odd += odd_byte(byte);
         i += 1;
     }
-    true
+    odd == 0
 }
 
 // A text may lie on anything, and any other item on what holds nothing yet.

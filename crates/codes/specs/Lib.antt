@@ -1,3 +1,4 @@
 pub mod Words
 pub mod Back
 pub mod Kept
+pub mod Length

@@ -530,3 +530,10 @@ pub fn write_place(words: &mut [i32; 68], place: Place)
         planted,
     );
 }
+
+// The one word of how many bytes the source line being taken has.
+pub fn write_length(words: &mut [i32; 68], length: usize)
+    ensures { λ _. ⌜ now (words .exit) ≡ set (now (words .entry)) 27 (wordOf length) ⌝ }
+{
+    put_count(words, 27, length);
+}

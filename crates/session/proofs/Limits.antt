@@ -26,7 +26,9 @@ use Rattle.turns.specs.View.{sourced, closedAs, wholeIn, Legal}
 use Rattle.turns.specs.Contract.{Closes}
 use Rattle.turns.specs.Turns.{Turns, Runs}
 use Rattle.turns.proofs.Leading.{stops-closed}
+use Rattle.turns.specs.Inside.{InsideCall, withBlock}
 use Rattle.turns.proofs.Going.{go-start, does-stop}
+use Rattle.turns.proofs.Inside.{runs-inside}
 use Rattle.session.specs.Contract.{Called, served, turned}
 use Rattle.session.specs.Limits.{Sized, EndsWith, isOpen, AnsweredAt, AnsweredJudged, Placed, PlacedJudged, soundIn, withinIn, Judged}
 
@@ -139,6 +141,13 @@ module _ (r : Record) (st bl : List ℕ) (last : Bool) (out : List ℕ) (l : Leg
       → Runs r st bl last out p st' out' → Called r st bl last out p st' out'
   call-served s h e p st' out' d =
       served l (d .does) (d .through) (λ a k. absurd (subst (λ v. EndsWith v (r .closing) (r .waiting)) e h a (k .closes) (k .none)))
+
+-- a call that takes its block into the source line being taken
+pub call-inside : (r : Record) (st bl : List ℕ) (last : Bool) (out : List ℕ) → Legal r st → InsideCall bl last (r .status .stack .depth) (r .source) (r .waiting) (r .closing)
+    → Called r st bl last out (record { answer = answer.NeedsInput; taken = length bl; written = 0; next = withBlock bl r }) st out
+call-inside r st bl last out l h =
+    let e = runs-inside r st bl last out l h in
+    served l (e .does) (e .through) (λ a k. absurd (subst (λ c. Closes c a) (h .unclosed) (k .closes)))
 
 -- a call on a record that passes a limit
 pub call-turned : (r : Record) (st bl : List ℕ) (last : Bool) (out : List ℕ) → (Legal r st → ⊥)

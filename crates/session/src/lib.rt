@@ -241,7 +241,7 @@ fn is_placed(source: Source, waiting: Waiting, closing: Closing) -> bool
 }
 
 // Whether the parts of a record and a store keep their limits.
-fn is_legal(
+pub fn is_legal(
     place: Place,
     gathered: &[u8; 512],
     cells: &[u8; 512],
@@ -294,7 +294,7 @@ fn is_legal(
 }
 
 // A call on parts that keep their limits.
-fn serve(
+pub fn serve(
     block: &[u8],
     last: bool,
     place: Place,

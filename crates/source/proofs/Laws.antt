@@ -13,7 +13,7 @@ use Rattle.source.specs.declared.Source.{Source}
 use Rattle.source.specs.declared.Reach.{Reach}
 use Rattle.source.specs.declared.Why.{Why}
 use Rattle.source.specs.declared.Why.the-variants.{More, Ended, Refused}
-use Rattle.source.specs.Gathering.{sourceIn, Takes, Reached, reached, lineBy, lineFrom, reachedBy, ReachedTo, begunLine, begunStored, begunSource, gatheredTo, lastLine, Gathers, GatheredTo}
+use Rattle.source.specs.Gathering.{sourceIn, Takes, Reached, reached, lineBy, lineFrom, reachedBy, ReachedTo, begunLine, begunStored, begunSource, gatheredTo, lastLine, Gathers, GatheredTo, arePlain, isInside}
 use Rattle.source.specs.GatheringLaws.{line-far, line-some, line-takes, past-takes}
 
 -- the block is used up
@@ -58,6 +58,35 @@ begun-first (suc n) l r e = absurd (omega arith)
 pub begun-later : (n : ℕ) (l r : ℕ) → (n ≡ 0 → ⊥) → (begunLine n l ≡ l) × (begunStored n r ≡ r)
 begun-later zero l r e = absurd (e refl)
 begun-later (suc n) l r e = (refl, refl)
+
+-- the bytes of a block from a place on may stand in a line if this one may, and those behind it
+pub plain-end : (block : List ℕ) (i : ℕ) → length block ≤ i → arePlain (drop i block) ≡ true
+unfolding arePlain
+plain-end block i h = rw (drop-of-length-le block h)
+
+module _ (block : List ℕ) (i : ℕ) (here : i < length block) where
+  plain-next : arePlain (drop i block) ≡ (leb 32 (getD block i 0) && (leb (getD block i 0) 126 && arePlain (drop (i + 1) block)))
+  unfolding arePlain
+  plain-next = rw (drop-cons block i 0 here, add-one i)
+
+  pub plain-low : getD block i 0 < 32 → arePlain (drop i block) ≡ false
+  plain-low h = plain-next ∙ rw (lt-leb 32 (getD block i 0) h)
+
+  pub plain-high : 32 ≤ getD block i 0 → 126 < getD block i 0 → arePlain (drop i block) ≡ false
+  plain-high h k = plain-next ∙ rw (le-leb 32 (getD block i 0) h, lt-leb (getD block i 0) 126 k)
+
+  pub plain-on : 32 ≤ getD block i 0 → getD block i 0 ≤ 126 → arePlain (drop i block) ≡ arePlain (drop (i + 1) block)
+  plain-on h k = plain-next ∙ rw (le-leb 32 (getD block i 0) h, le-leb (getD block i 0) 126 k)
+
+-- a block and the line that it goes on with
+pub inside-none : (bs : List ℕ) (n : ℕ) → n ≡ 0 → isInside bs n ≡ false
+inside-none bs n e = ap (isInside bs) e
+
+pub inside-long : (bs : List ℕ) (n : ℕ) → (n ≡ 0 → ⊥) → 512 < n + length bs → isInside bs n ≡ false
+inside-long bs n o h = rw (le-leb 1 n (omega (arith, o)), lt-leb (n + length bs) 512 h)
+
+pub inside-fits : (bs : List ℕ) (n : ℕ) → (n ≡ 0 → ⊥) → n + length bs ≤ 512 → isInside bs n ≡ arePlain bs
+inside-fits bs n o h = rw (le-leb 1 n (omega (arith, o)), le-leb (n + length bs) 512 h)
 
 -- one more byte is copied
 pub copy-step : (d : List ℕ) (at : ℕ) (row : List ℕ) (from j : ℕ) → at + j < length d → from + j < length row

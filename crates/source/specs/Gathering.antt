@@ -111,3 +111,17 @@ pub record GatheredTo (block : List ℕ) (from : ℕ) (line : List ℕ) (s : Sou
   pub numbered : r .source .line ≤ lastLine (r .why)
   pub counted : r .source .stored ≤ 10000
   pub ended : r .source .ended ≡ s .ended
+
+-- bytes that may stand in a source line
+unfoldable pub arePlain : (bytes : List ℕ) → Bool
+arePlain [] = true
+arePlain (b ∷ bs) = leb 32 b && (leb b 126 && arePlain bs)
+
+-- a line that has so many bytes, and one at least, takes these and goes on
+abbrev pub isInside : (bytes : List ℕ) → (start : ℕ) → Bool
+isInside bs n = leb 1 n && (leb (n + length bs) 512 && arePlain bs)
+
+-- the bytes fit behind those that the line has
+pub record Appends (bytes line : List ℕ) (start : ℕ) : Type 0 where
+  pub fits : start + length bytes ≤ 512
+  pub long : length line ≡ 512

@@ -2,7 +2,7 @@
 use mathlib.Core.Path.{_≡_, refl, sym, ap, _∙_, subst}
 use mathlib.Core.Bool.{Bool, true, false, _&&_}
 use mathlib.Core.Option.{none}
-use mathlib.Core.List.{List, [], _∷_, _++_}
+use mathlib.Core.List.{List, [], _∷_, _++_, append-assoc, append-nil}
 use Prim.Native.Nat.{ℕ, zero, suc, _+_, _-_, _<_, _≤_}
 use native.Mathlib.Omega.{arith}
 use lib.Dec.{leb, eqb}
@@ -11,10 +11,10 @@ use lib.Seq.{take-nil}
 use borrow.Author.Tests.{eqb-true, eqb-false, leb-true, leb-false}
 use Rattle.rules.specs.State.{State, fresh, refuse}
 use Rattle.rules.specs.Session.{takeByte, withBegun, gather}
-use Rattle.rules.specs.SessionLaws.{take-past, take-newline, take-long, take-bad, take-keeps}
+use Rattle.rules.specs.SessionLaws.{begun-later, take-past, take-newline, take-long, take-bad, take-keeps}
 use Rattle.source.specs.declared.Why.{Why}
 use Rattle.source.specs.declared.Why.the-variants.{More, Ended, Refused}
-use Rattle.source.specs.Gathering.{sourceIn, Asks, Takes, begunLine, begunStored, Reached, reached, lineBy, lineFrom, gatheredTo}
+use Rattle.source.specs.Gathering.{sourceIn, Asks, Takes, begunLine, begunStored, Reached, reached, lineBy, lineFrom, gatheredTo, arePlain, isInside}
 
 -- a line begins with its first byte
 pub begun-source : (g : List ℕ) (l r : ℕ) (x : State)
@@ -64,6 +64,26 @@ both-true : (a b : Bool) → (a && b) ≡ true → (a ≡ true) × (b ≡ true)
 both-true true true e = (refl, refl)
 both-true true false e = let z : _≡_ {A = ℕ} 0 1 = cc (e) in absurd (omega arith)
 both-true false b e = let z : _≡_ {A = ℕ} 0 1 = cc (e) in absurd (omega arith)
+
+-- bytes that may stand in a line
+plain-first : (b : ℕ) (bs : List ℕ) → arePlain (b ∷ bs) ≡ true → (32 ≤ b) × (b ≤ 126) × (arePlain bs ≡ true)
+unfolding arePlain
+plain-first b bs e =
+    let w = both-true (leb 32 b) (leb b 126 && arePlain bs) e in
+    let v = both-true (leb b 126) (arePlain bs) (w .1) in
+    (leb-true 32 b (w .0), leb-true b 126 (v .0), v .1)
+
+-- what the test of a block says
+pub record Inside (bs : List ℕ) (n : ℕ) : Type 0 where
+  pub some : 0 < n
+  pub fits : n + length bs ≤ 512
+  pub plain : arePlain bs ≡ true
+
+pub inside-is : (bs : List ℕ) (n : ℕ) → isInside bs n ≡ true → Inside bs n
+inside-is bs n e =
+    let w = both-true (leb 1 n) (leb (n + length bs) 512 && arePlain bs) e in
+    let v = both-true (leb (n + length bs) 512) (arePlain bs) (w .1) in
+    record { some = omega (arith, leb-true 1 n (w .0)); fits = leb-true (n + length bs) 512 (v .0); plain = v .1 }
 
 good-byte : (b : ℕ) → (leb 32 b && leb b 126) ≡ true → (32 ≤ b) × (b ≤ 126)
 good-byte b e = let w = both-true (leb 32 b) (leb b 126) e in (leb-true 32 b (w .0), leb-true b 126 (w .1))
@@ -132,6 +152,22 @@ module _ (x : State) (unclosed : x .closing ≡ none) where
       let r' = begunStored (length g) r in
       byte-takes b bs g i l r l' r' (begun-source g l r x) n (eqb b 10) (leb 512 (length g)) (leb 32 b && leb b 126) refl refl refl on
       (line-far (i + 1) bs (g ++ b ∷ []) .behind) (later-takes (i + 1) bs (g ++ b ∷ []) l' r' (omega (arith, length-append g (b ∷ []))) n)
+
+  -- Bytes that may stand in a line go behind those that it has.
+  pub inside-takes : (bs g : List ℕ) (l r : ℕ) → Inside bs (length g) → l ≤ 1000000 → Takes (sourceIn g l r [] x) bs (sourceIn (g ++ bs) l r [] x)
+  inside-takes [] g l r i n = ap (λ v. sourceIn v l r [] x) (append-nil g)
+  inside-takes (b ∷ bs) g l r i n =
+      let w = plain-first b bs (i .plain) in
+      let s = sourceIn g l r [] x in
+      let k = length-append g (b ∷ []) in
+      let begun : withBegun s ≡ s = begun-later s (i .some) in
+      let low : withBegun s .input .line ≤ 1000000 = subst (λ v. v .input .line ≤ 1000000) (sym begun) n in
+      let e : takeByte b s ≡ sourceIn (g ++ b ∷ []) l r [] x = take-keeps b s low (omega (arith, i .fits)) (w .0) (w .1) ∙ ap (gather (g ++ b ∷ []) []) begun in (
+        source-asks g l r,
+        subst (λ v. Takes v bs (sourceIn (g ++ b ∷ bs) l r [] x)) (sym e)
+            (subst (λ v. Takes (sourceIn (g ++ b ∷ []) l r [] x) bs (sourceIn v l r [] x)) (append-assoc g (b ∷ []) bs)
+            (inside-takes bs (g ++ b ∷ []) l r (record { some = omega (arith, k); fits = omega (arith, k, i .fits); plain = w .2 }) n)),
+      )
 
   -- "12: past 1,000,000 source lines"
   pub past-takes : (b : ℕ) (g : List ℕ) (l r : ℕ) → 1000000 < begunLine (length g) l

@@ -1,7 +1,9 @@
 // The two ends of a session: the bytes of a source line are gathered, and the bytes of a row that wait are written.
 ghost use mathlib.Core.Path.{_≡_};
 ghost use Prim.Native.Nat.{_≤_, min};
-ghost use Rattle.source.specs.Gathering.{begunSource, Reaches, ReachedTo, Gathers, GatheredTo};
+ghost use lib.ListN.{length};
+ghost use lib.Seq.{paste};
+ghost use Rattle.source.specs.Gathering.{begunSource, Reaches, ReachedTo, Gathers, GatheredTo, arePlain, isInside, Appends};
 ghost use Rattle.source.specs.Writing.{Writes, WrittenTo};
 
 // The source lines begun, the bytes of the line being taken, whether the end was read, and the stored lines read for this source line.
@@ -125,6 +127,53 @@ pub fn gather(block: &[u8], from: usize, line: &mut [u8; 512], source: Source) -
         taken: reach.to - from,
         source: after,
         why,
+    }
+}
+
+// Whether all bytes of a block may stand in a source line.
+fn are_plain(block: &[u8]) -> bool
+    ensures { λ r. ⌜ r ≡ arePlain (now (block .entry)) ⌝ }
+{
+    let mut i: usize = 0;
+    while i < block.len() {
+        let byte = block[i];
+        if byte < 32 {
+            return false;
+        }
+        if byte > 126 {
+            return false;
+        }
+        i += 1;
+    }
+    true
+}
+
+// Whether a line that has so many bytes takes a whole block and goes on: the block neither begins a line nor ends one.
+pub fn is_inside(block: &[u8], start: usize) -> bool
+    ensures { λ r. ⌜ r ≡ isInside (now (block .entry)) start ⌝ }
+{
+    if start == 0 {
+        return false;
+    }
+    if start > 512 {
+        return false;
+    }
+    if block.len() > 512 - start {
+        return false;
+    }
+    are_plain(block)
+}
+
+// A block goes behind the bytes that a line has.
+pub fn append(block: &[u8], line: &mut [u8; 512], start: usize)
+    requires { ⌜ Appends (now block) (now line) start ⌝ }
+    ensures { λ _. ⌜ now (line .exit) ≡ paste (now (line .entry)) start (now (block .entry)) (length (now (block .entry))) ⌝ }
+{
+    let mut j: usize = 0;
+    while j < block.len() {
+        let byte = block[j];
+        line[start + j] = byte;
+        j += 1;
     }
 }
 

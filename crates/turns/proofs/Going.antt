@@ -188,7 +188,7 @@ module _ (r₀ : Record) (st₀ block : List ℕ) (last : Bool) (out₀ : List �
       })
 
   -- a turn
-  go-turn : Turns block r st t → (r' : Record) (st' : List ℕ) (t' : ℕ) → Leads block last r st t r' st' t' → Going r₀ st₀ block last out₀ r' st' t' w out
+  pub go-turn : Turns block r st t → (r' : Record) (st' : List ℕ) (t' : ℕ) → Leads block last r st t r' st' t' → Going r₀ st₀ block last out₀ r' st' t' w out
   go-turn h r' st' t' f =
       let x = callOn r' st' (drop t' block) last (length out₀ - w) in
       let e : t + (t' - t) ≡ t' = omega (arith, f .behind) in

@@ -3,3 +3,4 @@ pub mod Turns
 pub mod Taking
 pub mod Leading
 pub mod Going
+pub mod Inside

@@ -36,7 +36,7 @@ unfolding framesTo itemsOf
 stack-none q e = ap (λ d. itemsOf (textsIn (q .texts)) (framesTo (q .desk .arena) (q .desk .ends) d)) e
 
 -- a state with nothing on the stack, by its source alone
-cleared : (q : Whole) (s y : Source) (g g' : List ℕ) → q .desk .stack .depth ≡ 0
+pub cleared : (q : Whole) (s y : Source) (g g' : List ℕ) → q .desk .stack .depth ≡ 0
     → stateIn q (sourced y g) ≡ withInput (input (take (y .length) g) (y .line) (y .ended) (y .stored) []) (stateIn q (sourced s g'))
 cleared q s y g g' e = ap (λ k. withInput (input (take (y .length) g) (y .line) (y .ended) (y .stored) k) (stateIn q (sourced s g'))) (stack-none q e)
 

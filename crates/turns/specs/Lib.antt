@@ -6,3 +6,5 @@ pub mod Contract
 pub mod Turns
 -- a refused event changes no byte of the store
 pub mod Refusing
+-- a call that takes its block into the source line that is being taken, and does no more
+pub mod Inside

@@ -15,6 +15,7 @@ ghost use Rattle.source.specs.Writing.{Writes};
 ghost use Rattle.turns.specs.declared.Stop.the-variants.{Goes};
 ghost use Rattle.turns.specs.View.{sourced, stateOf, Legal};
 ghost use Rattle.turns.specs.Turns.{recordOf, resting, placeIn, closingOf, turnAfter, Whichever, Deals, Works, LineDealt, Busy, Asking, Arrives, TakenTo, emptied as emptiedOf, HasWork, Turns, Turned, Runs, ClosedIs, WroteTo, replyFrom};
+ghost use Rattle.turns.specs.Inside.{InsideJudged};
 
 // The bytes of the row that wait to be written: those from one place up to another.
 pub struct Waiting {
@@ -474,6 +475,36 @@ fn write_out(waiting: Waiting, row: &[u8; 872], out: &mut [u8], written: usize) 
             end: waiting.end,
         },
         written: written + count,
+    }
+}
+
+// Whether all that a call does is to take its block into the source line that is being taken: the session is open, nothing waits, there is no work, and no line begins or ends.
+pub fn is_inside(
+    block: &[u8],
+    last: bool,
+    depth: usize,
+    source: Source,
+    waiting: Waiting,
+    closing: Closing,
+) -> bool
+    ensures { λ r. ⌜ InsideJudged r (now (block .entry)) last depth source waiting closing ⌝ }
+{
+    if last {
+        return false;
+    }
+    if block.len() == 0 {
+        return false;
+    }
+    if waiting.at != waiting.end {
+        return false;
+    }
+    if has_work(depth, source.ended) {
+        return false;
+    }
+    match closing {
+        Closing::Open => source::is_inside(block, source.length),
+        Closing::Done => false,
+        Closing::Refused(n, line) => false,
     }
 }
 
