@@ -4,16 +4,16 @@ ghost use mathlib.Core.Path.{_≡_};
 ghost use Prim.Native.Nat.{_≤_};
 ghost use lib.ListN.{length};
 ghost use Rattle.scan.specs.Acts.{Ready};
-ghost use Rattle.fill.specs.Parts.{Places};
+ghost use Rattle.words.specs.Parts.{Places};
 ghost use Rattle.measure.specs.Counts.{acrossOf};
 ghost use Rattle.bench_parts.specs.States.{Good, Arrays, Fits};
-use fill::Next;
 use fill::Overflow;
 use fill::Placed;
 use measure::Cells;
-use registers::Shown;
+use references::Shown;
 use rules::Mode;
 use scan::Scanned;
+use words::Next;
 
 // The collected line: whether there is one, its cells, and the gap to the next input line; and the checksum of the rows.
 struct State {
@@ -84,7 +84,7 @@ fn break_line(s: State, cells: &[u8; 512], row: &mut [u8; 872]) -> State
     ensures { λ r. ⌜ Good r × Arrays (now (cells .entry)) (now (row .exit)) ⌝ }
 {
     if s.some {
-        let n = fill::broken_row(cells, s.count, margin(), margin(), &mut *row);
+        let n = rows::broken_row(cells, s.count, margin(), margin(), &mut *row);
         let mut r = wrote(s, &*row, n);
         r.some = false;
         return r;
@@ -122,7 +122,7 @@ fn overflow(
     requires { ⌜ Good s × Arrays (now cells) (now row) × Places (now line) (o .from) (o .to) × (o .length ≤ 512) ⌝ }
     ensures { λ r. ⌜ Good r × Arrays (now (cells .exit)) (now (row .exit)) ⌝ }
 {
-    let n = fill::full_row(
+    let n = rows::full_row(
         &*cells,
         o.length,
         room(),
@@ -185,8 +185,8 @@ fn fill_words(
     requires { ⌜ Good s × Arrays (now cells) (now row) × Places (now line) 0 to ⌝ }
     ensures { λ r. ⌜ Good r × Arrays (now (cells .exit)) (now (row .exit)) ⌝ }
 {
-    let gap = fill::gap_after(line, 0, to);
-    let Next::Found(word) = fill::next_word(line, 0, to) else {
+    let gap = words::gap_after(line, 0, to);
+    let Next::Found(word) = words::next_word(line, 0, to) else {
         return s;
     };
     if s.some {
@@ -215,7 +215,7 @@ fn fill_line(
     requires { ⌜ Good s × Arrays (now cells) (now row) × Places (now line) 0 to ⌝ }
     ensures { λ r. ⌜ Good r × Arrays (now (cells .exit)) (now (row .exit)) ⌝ }
 {
-    if fill::leads(line, 0, to) {
+    if words::leads(line, 0, to) {
         let t = break_line(s, &*cells, &mut *row);
         return fill_words(t, line, to, &mut *cells, &mut *row);
     }
@@ -264,7 +264,7 @@ fn expand_lines(
     let mut sum: usize = 0;
     let mut from: usize = 0;
     while from < text.len() {
-        let end = from + texts::line_end(&text[from..]);
+        let end = from + bodies::line_end(&text[from..]);
         let next = end + 1;
         let scanned = scan::expand(
             &text[from..end],
@@ -325,7 +325,7 @@ fn fill_lines(
     };
     let mut from: usize = 0;
     while from < text.len() {
-        let end = from + texts::line_end(&text[from..]);
+        let end = from + bodies::line_end(&text[from..]);
         let next = end + 1;
         let scanned = scan::expand(
             &text[from..end],

@@ -1,7 +1,7 @@
 // What a breaking request does: it starts the first page, or breaks, or acts.
+use arithmetic::Value;
 use input::Stack;
 use input::What;
-use number::Value;
 use page::Page;
 use rules::Breaking;
 use rules::Name;
@@ -194,7 +194,7 @@ pub fn act(
     ensures { λ r. ⌜ Worked (λ ts s. rule.act (printerOf printer) request (now (line .entry)) s) (now (firsts .entry)) (now (seconds .entry)) texts planted (desk layout page collected (now (cells .entry)) stack (now (arena .entry)) (now (ends .entry))) (r .way) (r .written) (desk (r .layout) (r .page) (r .collected) (now (cells .entry)) (r .stack) (now (arena .exit)) (now (ends .exit))) (now (row .exit)) ⌝ }
 {
     let mut places = [0u16; 9];
-    let count = scan::arguments(line, 0, &mut *parts, &mut places);
+    let count = arguments::arguments(line, 0, &mut *parts, &mut places);
     let argument = lines::argument(&*parts, &places, count, 0);
     act_on(
         request,

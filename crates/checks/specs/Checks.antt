@@ -17,7 +17,7 @@ use Rattle.texts.specs.Places.{placeOf}
 use Rattle.texts.specs.Table.{sum, namesOf}
 use Rattle.texts.specs.Checks as texts
 use Rattle.traps.specs.declared.Planted.{Planted}
-use Rattle.settings.specs.declared.Setting.{Setting}
+use Rattle.lengths.specs.declared.Setting.{Setting}
 use Rattle.settings.specs.declared.Total.{Total}
 use Rattle.settings.specs.declared.Layout.{Layout}
 use Rattle.settings.specs.Layouts.{totalOf}

@@ -15,7 +15,7 @@ use Rattle.texts.specs.Table.{namesOf}
 use Rattle.texts.specs.Checks as texts
 use Rattle.traps.specs.Table.{plantedOf}
 use Rattle.traps.specs.Checks as traps
-use Rattle.settings.specs.declared.Setting.{Setting}
+use Rattle.lengths.specs.declared.Setting.{Setting}
 use Rattle.settings.specs.declared.Layout.{Layout}
 use Rattle.input.specs.declared.Stack.{Stack}
 use Rattle.input.specs.Frames.{entryAt, topEntry}

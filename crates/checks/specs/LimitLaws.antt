@@ -30,9 +30,9 @@ use Rattle.texts.specs.Checks as texts
 use Rattle.texts.proofs.Laws.{found-text, not-text}
 use Rattle.traps.specs.Table.{plantedOf}
 use Rattle.traps.specs.Checks as traps
-use Rattle.settings.specs.declared.Setting.{Setting}
+use Rattle.lengths.specs.declared.Setting.{Setting}
 use Rattle.settings.specs.declared.Layout.{Layout}
-use Rattle.settings.specs.Views.{settingOf}
+use Rattle.lengths.specs.Views.{settingOf}
 use Rattle.input.specs.declared.What.{What}
 use Rattle.input.specs.declared.What.the-variants as what
 use Rattle.input.specs.declared.Stack.{Stack}

@@ -15,7 +15,7 @@ use Rattle.rules.specs.RefusalLaws.{both}
 use Rattle.registers.specs.Checks as registers
 use Rattle.texts.specs.Table.{sum, namesOf, Lies}
 use Rattle.texts.specs.Checks as texts
-use Rattle.settings.specs.declared.Setting.{Setting}
+use Rattle.lengths.specs.declared.Setting.{Setting}
 use Rattle.settings.specs.declared.Layout.{Layout}
 use Rattle.settings.specs.Layouts.{totalOf, layoutOf, Limits}
 use Rattle.page.specs.declared.Page.{Page}

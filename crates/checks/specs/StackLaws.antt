@@ -16,7 +16,7 @@ use Rattle.texts.specs.declared.Place.the-variants.{At, Not}
 use Rattle.texts.specs.Places.{placeOf}
 use Rattle.texts.specs.Table.{namesOf, textsOf, Lies}
 use Rattle.texts.proofs.Laws.{found-text, not-text}
-use Rattle.scan.specs.Around.{beginOf, Arguments}
+use Rattle.arguments.specs.Around.{beginOf, Arguments}
 use Rattle.input.specs.declared.What.{What}
 use Rattle.input.specs.declared.What.the-variants as what
 use Rattle.input.specs.declared.Stack.{Stack}

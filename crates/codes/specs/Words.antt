@@ -11,7 +11,7 @@ use Rattle.measure.specs.declared.Rows.{Rows}
 use Rattle.measure.specs.Counts.{natOf}
 use Rattle.rules.specs.declared.Name.{Name}
 use Rattle.rules.specs.declared.Trap.{Trap}
-use Rattle.settings.specs.declared.Setting.{Setting}
+use Rattle.lengths.specs.declared.Setting.{Setting}
 use Rattle.settings.specs.declared.Layout.{Layout}
 use Rattle.settings.specs.declared.Total.{Total}
 use Rattle.settings.specs.declared.Total.the-variants as total

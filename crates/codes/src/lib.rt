@@ -2,13 +2,13 @@
 use dealing::Opening;
 use dealing::Status;
 use input::Stack;
+use lengths::Setting;
 use measure::Cells;
 use measure::Rows;
 use page::Page;
 use rules::Name;
 use rules::Trap;
 use settings::Layout;
-use settings::Setting;
 use settings::Total;
 use sheet::Collected;
 use source::Source;

@@ -30,7 +30,7 @@ use Rattle.requests.specs.declared.Changed.the-variants as changed
 use Rattle.requests.specs.Registers.{AssignsAs}
 use Rattle.requests.specs.Traps.{PlantsAs}
 use Rattle.requests.specs.Texts.{ChangesAs, OpensAs, alone}
-use Rattle.fill.specs.Parts.{part}
+use Rattle.words.specs.Parts.{part}
 use Rattle.lines.specs.declared.Meaning.{Meaning}
 use Rattle.lines.specs.Meanings.{MeaningIs}
 use Rattle.keeping.specs.Keeping.{isKept}

@@ -563,7 +563,7 @@ pub fn finish(
     match dealt {
         Dealt::Closes => {
             let name = opening.name;
-            let texts = texts::close_macro(
+            let texts = definitions::close_macro(
                 &*store,
                 text_firsts,
                 text_seconds,
@@ -577,7 +577,13 @@ pub fn finish(
         }
         Dealt::Keeps(n) => {
             let line = front(out, n);
-            let answer = texts::keep_line(store, &*lengths, status.texts, opening.length, line);
+            let answer = definitions::keep_line(
+                store,
+                &*lengths,
+                status.texts,
+                opening.length,
+                line,
+            );
             kept(answer, status)
         }
         Dealt::Words(n) => {

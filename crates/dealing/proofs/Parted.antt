@@ -16,8 +16,8 @@ use Rattle.registers.specs.Columns.{tableOf}
 use Rattle.texts.specs.Table.{textsOf}
 use Rattle.traps.specs.declared.Planted.{Planted}
 use Rattle.traps.specs.Table.{plantedOf}
-use Rattle.scan.specs.Around.{argumentsOf}
-use Rattle.scan.specs.Parting.{PartedAll}
+use Rattle.arguments.specs.Around.{argumentsOf}
+use Rattle.arguments.specs.Parting.{PartedAll}
 use Rattle.lines.specs.Places.{argument-is}
 use Rattle.settings.specs.declared.Printer.{Printer}
 use Rattle.settings.specs.Layouts.{printerOf}

@@ -1,10 +1,11 @@
 // A line as it was taken, up to its expansion, and the requests on tables from an expanded line; the specs have the whole state.
+use bodies::Top;
 use input::Stack;
 use lines::Line;
 use lines::Meaning;
 use lines::Named;
 use page::Page;
-use registers::Shown;
+use references::Shown;
 use requests::Assigned;
 use requests::Changed;
 use requests::Plants;
@@ -15,7 +16,6 @@ use settings::Layout;
 use settings::Printer;
 use sheet::Collected;
 use springs::Way;
-use texts::Top;
 use traps::Planted;
 ghost use Rattle.rules.specs.Acts.{argument, perform};
 ghost use Rattle.rules.specs.declared.Unbreaking.the-variants.{Nr, Wh, Rm, De};
@@ -29,12 +29,12 @@ ghost use Rattle.dealing.specs.WholeLaws.{OpeningIs, openedWith};
 ghost use Rattle.requests.specs.Texts as texts;
 ghost use Rattle.settings.specs.Layouts.{printerOf, layoutOf};
 ghost use Rattle.page.specs.Landing.{pageOf};
-ghost use Rattle.registers.specs.ReadOnly.{seenOf};
+ghost use Rattle.references.specs.ReadOnly.{seenOf};
 ghost use Rattle.scan.specs.Acts as scanning;
-ghost use Rattle.scan.specs.Writes.{Room};
+ghost use Rattle.copying.specs.Writes.{Room};
 ghost use Rattle.scan.specs.Expansion.{ScannedTo};
 ghost use Rattle.texts.specs.Table.{textsOf};
-ghost use Rattle.texts.specs.Lines.{nextLine, TopInside};
+ghost use Rattle.bodies.specs.Lines.{nextLine, TopInside};
 ghost use Rattle.dealing.specs.Whole.{seenAt, surroundings, Shows};
 ghost use Rattle.dealing.specs.Dealing.{keptAs, wordsAs, controlAs, DealtTo};
 ghost use Rattle.rules.specs.Lines.{lineOf};
@@ -45,8 +45,8 @@ ghost use mathlib.Core.List.{[]};
 ghost use Prim.Native.Nat.{_*_, _≤_};
 ghost use lib.IntN.{pos};
 ghost use lib.ListN.{getD, length, drop};
-ghost use Rattle.scan.specs.Parting.{Unread};
-ghost use Rattle.scan.specs.Around.{argumentsOf, Arguments};
+ghost use Rattle.arguments.specs.Parting.{Unread};
+ghost use Rattle.arguments.specs.Around.{argumentsOf, Arguments};
 
 // An open definition: its name, and how many bytes of its body lie behind the texts.
 pub struct Opening {
@@ -215,7 +215,7 @@ fn scan_body(
     requires { ⌜ Shows (layoutOf layout) (pageOf page) × scanning.Ready (now store) (now «text_firsts») (now «text_seconds») (now kinds) (now lengths) texts (now firsts) (now seconds) (now values) (now steps) count (now arguments) (now ends) given × Room (now out) 0 512 ⌝ }
     ensures { λ r. ⌜ DealtTo r (printerOf printer) (layoutOf layout) (pageOf page) (textsOf (now (store .entry)) (now («text_firsts» .entry)) (now («text_seconds» .entry)) (now (kinds .entry)) (now (lengths .entry)) texts) true (argumentsOf (now (arguments .entry)) (now (ends .entry)) given) (now (line .entry)) (now (firsts .entry)) (now (seconds .entry)) (now (values .entry)) (now (steps .entry)) count (now (out .exit)) (now (values .exit)) ⌝ }
 {
-    if texts::closes_body(line) {
+    if bodies::closes_body(line) {
         return Dealt::Closes;
     }
     kept_as(expand(
@@ -444,7 +444,7 @@ pub fn read<'a>(
     requires { ⌜ TopInside (now source) (now store) top × Shows (layoutOf layout) (pageOf page) × scanning.Ready (now store) (now «text_firsts») (now «text_seconds») (now kinds) (now lengths) texts (now firsts) (now seconds) (now values) (now steps) count (now arguments) (now ends) given × Room (now out) 0 512 ⌝ }
     ensures { λ r. ⌜ DealtTo r (printerOf printer) (layoutOf layout) (pageOf page) (textsOf (now (store .entry)) (now («text_firsts» .entry)) (now («text_seconds» .entry)) (now (kinds .entry)) (now (lengths .entry)) texts) opened (argumentsOf (now (arguments .entry)) (now (ends .entry)) given) (nextLine (now (source .entry)) (now (store .entry)) top) (now (firsts .entry)) (now (seconds .entry)) (now (values .entry)) (now (steps .entry)) count (now (out .exit)) (now (values .exit)) ⌝ }
 {
-    let line = texts::next_line(source, store, top);
+    let line = bodies::next_line(source, store, top);
     if opened {
         return scan_body(
             line,
@@ -537,7 +537,7 @@ pub fn assign(
     ensures { λ r. ⌜ AssignsAs (now (firsts .entry)) (now (seconds .entry)) (now (values .entry)) (now (steps .entry)) count (λ s. perform (printerOf printer) Nr (now (line .entry)) s) r (now (firsts .exit)) (now (seconds .exit)) (now (values .exit)) (now (steps .exit)) ⌝ }
 {
     let mut ends = [0u16; 9];
-    let given = scan::arguments(line, 0, &mut *parts, &mut ends);
+    let given = arguments::arguments(line, 0, &mut *parts, &mut ends);
     assign_parted(
         &*parts,
         &ends,
@@ -573,7 +573,7 @@ pub fn plant(line: &[u8], parts: &mut [u8; 512], printer: Printer, planted: Plan
     ensures { λ r. ⌜ PlantsAs planted (λ s. perform (printerOf printer) Wh (now (line .entry)) s) r ⌝ }
 {
     let mut ends = [0u16; 9];
-    let given = scan::arguments(line, 0, &mut *parts, &mut ends);
+    let given = arguments::arguments(line, 0, &mut *parts, &mut ends);
     plant_parted(&*parts, &ends, given, printer, planted)
 }
 
@@ -595,7 +595,7 @@ pub fn remove(
     ensures { λ r. ⌜ ChangesAs (now (store .entry)) (now (firsts .entry)) (now (seconds .entry)) (now (kinds .entry)) (now (lengths .entry)) count stack (now (frames .entry)) alone (λ s. perform (printerOf printer) Rm (now (line .entry)) s) r (now (store .exit)) (now (firsts .exit)) (now (seconds .exit)) (now (kinds .exit)) (now (lengths .exit)) ⌝ }
 {
     let mut ends = [0u16; 9];
-    let given = scan::arguments(line, 0, &mut *parts, &mut ends);
+    let given = arguments::arguments(line, 0, &mut *parts, &mut ends);
     let name = lines::argument(&*parts, &ends, given, 0);
     requests::remove(
         name,
@@ -698,7 +698,7 @@ pub fn open(
     ensures { λ r. ⌜ OpensAs (now (store .entry)) (now (firsts .entry)) (now (seconds .entry)) (now (kinds .entry)) (now (lengths .entry)) count stack (now (frames .entry)) (nameOf (argument 0 (now (line .entry)))) (λ s. perform (printerOf printer) De (now (line .entry)) s) (r .changed) (now (store .exit)) (now (firsts .exit)) (now (seconds .exit)) (now (kinds .exit)) (now (lengths .exit)) × OpeningIs (nameOf (argument 0 (now (line .entry)))) (r .changed) opening (r .opening) ⌝ }
 {
     let mut ends = [0u16; 9];
-    let given = scan::arguments(line, 0, &mut *parts, &mut ends);
+    let given = arguments::arguments(line, 0, &mut *parts, &mut ends);
     let name = lines::argument(&*parts, &ends, given, 0);
     open_named(
         name,

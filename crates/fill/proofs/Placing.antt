@@ -11,15 +11,15 @@ use Rattle.rules.specs.Bytes.{space}
 use Rattle.rules.specs.Filling.{Word, word, words, after, width, printed, gapCells, joinByte}
 use Rattle.rules.specs.Filling as rules
 use Rattle.rules.specs.FillingLaws.{place-fits, place-stops, printed-length, gapCells-length}
-use Rattle.fill.specs.Parts.{part, Places}
-use Rattle.fill.specs.Words.{spaces, run, WordEndIs}
+use Rattle.words.specs.Parts.{part, Places}
+use Rattle.words.specs.Words.{spaces, run, WordEndIs}
 use Rattle.fill.specs.Writing.{Written}
 use Rattle.fill.specs.Filled.{lineOf, Line, GoodPlaced, PlacedTo}
-use Rattle.fill.specs.declared.WordEnd.{WordEnd}
+use Rattle.words.specs.declared.WordEnd.{WordEnd}
 use Rattle.fill.specs.declared.Placed.{Placed}
 use Rattle.fill.specs.declared.Placed.the-variants.{All, Full}
-use Rattle.fill.proofs.Parts.{part-none, part-length, part-drop, part-take}
-use Rattle.fill.proofs.Words.{Starts, rest-is, rest-starts, spaces-front, spaces-few, run-few, run-some, gap-word}
+use Rattle.words.proofs.Parts.{part-none, part-length, part-drop, part-take}
+use Rattle.words.proofs.Words.{Starts, rest-is, rest-starts, spaces-front, spaces-few, run-few, run-some, gap-word}
 use Rattle.fill.proofs.Writing.{sets-append, take-sets, drop-sets}
 
 -- a given gap takes the place of spaces

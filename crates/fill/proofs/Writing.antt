@@ -13,9 +13,9 @@ use borrow.Author.Tests.{eq-eqb, ne-eqb}
 use Rattle.rules.specs.Bytes.{space, mark, fixedBlank}
 use Rattle.rules.specs.Filling.{printed, printedByte, width, countIf, gapCells}
 use Rattle.rules.specs.FillingLaws.{printed-append}
-use Rattle.fill.specs.Parts.{part}
+use Rattle.words.specs.Parts.{part}
 use Rattle.fill.specs.Writing.{shownIf, Written}
-use Rattle.fill.proofs.Parts.{part-none, part-cons, part-length}
+use Rattle.words.proofs.Parts.{part-none, part-cons, part-length}
 
 -- two runs of bytes, one behind the other
 pub sets-append : (a b l : List ℕ) (i : ℕ) → sets l i (a ++ b) ≡ sets (sets l i a) (i + length a) b

@@ -5,7 +5,7 @@ use Prim.Native.Nat.{ℕ, _≤_, _<_}
 use lib.ListN.{length, take, drop}
 use Rattle.rules.specs.Filling.{Collected, Word, word, words, width}
 use Rattle.rules.specs.Filling as rules
-use Rattle.fill.specs.Parts.{part}
+use Rattle.words.specs.Parts.{part}
 use Rattle.fill.specs.declared.Placed.{Placed}
 use Rattle.fill.specs.declared.Placed.the-variants.{All, Full}
 

@@ -3,16 +3,16 @@
 ghost use mathlib.Core.Path.{_≡_};
 ghost use Prim.Native.Nat.{_≤_, _<_};
 ghost use lib.ListN.{length};
-ghost use Rattle.fill.specs.Parts.{Places};
+ghost use Rattle.words.specs.Parts.{Places};
 ghost use Rattle.measure.specs.Counts.{acrossOf, downOf};
 ghost use Rattle.fill_main.specs.States.{Good, Arrays};
-use fill::Next;
 use fill::Overflow;
 use fill::Placed;
 use libc::STDIN_FILENO;
 use measure::Cells;
 use measure::Rows;
 use report::text;
+use words::Next;
 
 // The settings, and the collected line: whether there is one, its cells, the indent and the room that are fixed for it, and the gap to the next input line.
 struct State {
@@ -85,7 +85,7 @@ fn break_line(s: State, cells: &[u8; 512], row: &mut [u8; 872]) -> State
     ensures { λ r. ⌜ Good r × Arrays (now (cells .entry)) (now (row .exit)) ⌝ }
 {
     if s.some {
-        let n = fill::broken_row(
+        let n = rows::broken_row(
             cells,
             s.count,
             cells_of(s.offset),
@@ -130,7 +130,7 @@ fn overflow(
     requires { ⌜ Good s × Arrays (now cells) (now row) × Places (now line) (o .from) (o .to) × (o .length ≤ 512) ⌝ }
     ensures { λ r. ⌜ Good r × Arrays (now (cells .exit)) (now (row .exit)) ⌝ }
 {
-    let n = fill::full_row(
+    let n = rows::full_row(
         &*cells,
         o.length,
         cells_of(s.room),
@@ -193,8 +193,8 @@ fn fill_words(
     requires { ⌜ Good s × Arrays (now cells) (now row) × Places (now line) 0 to ⌝ }
     ensures { λ r. ⌜ Good r × Arrays (now (cells .exit)) (now (row .exit)) ⌝ }
 {
-    let gap = fill::gap_after(line, 0, to);
-    let Next::Found(word) = fill::next_word(line, 0, to) else {
+    let gap = words::gap_after(line, 0, to);
+    let Next::Found(word) = words::next_word(line, 0, to) else {
         return s;
     };
     if s.some {
@@ -223,7 +223,7 @@ fn fill_line(
     requires { ⌜ Good s × Arrays (now cells) (now row) × Places (now line) 0 to ⌝ }
     ensures { λ r. ⌜ Good r × Arrays (now (cells .exit)) (now (row .exit)) ⌝ }
 {
-    if fill::leads(line, 0, to) {
+    if words::leads(line, 0, to) {
         let t = break_line(s, &*cells, &mut *row);
         return fill_words(t, line, to, &mut *cells, &mut *row);
     }
@@ -243,7 +243,7 @@ fn stand(
     ensures { λ r. ⌜ Good r × Arrays (now (cells .entry)) (now (row .exit)) ⌝ }
 {
     let t = break_line(s, cells, &mut *row);
-    let n = fill::standing_row(
+    let n = rows::standing_row(
         line,
         0,
         to,
@@ -262,7 +262,7 @@ fn skip(s: State, n: usize, row: &mut [u8; 872]) -> State
     requires { ⌜ Good s × (length (now row) ≡ 872) × (n ≤ 500) ⌝ }
     ensures { λ r. ⌜ Good r × (length (now (row .exit)) ≡ 872) ⌝ }
 {
-    let count = fill::blank_rows(rows_of(n), &mut *row);
+    let count = rows::blank_rows(rows_of(n), &mut *row);
     show(&*row, count);
     s
 }

@@ -8,15 +8,15 @@ use lib.Seq.{length-take-le}
 use Rattle.rules.specs.declared.Kind.{Kind}
 use Rattle.rules.specs.declared.Kind.the-variants.{Macro, String}
 use Rattle.rules.specs.declared.Name.{Name}
-use Rattle.scan.specs.Around.{cutAt, argumentsOf}
+use Rattle.arguments.specs.Around.{cutAt, argumentsOf}
 use Rattle.texts.specs.declared.Spot.{Spot}
 use Rattle.texts.specs.declared.Found.{Found}
 use Rattle.texts.specs.declared.Found.the-variants.{There}
-use Rattle.texts.specs.declared.Top.the-variants.{Lines, Whole}
+use Rattle.bodies.specs.declared.Top.the-variants.{Lines, Whole}
 use Rattle.texts.specs.Places.{partOf, foundOf}
-use Rattle.texts.specs.Lines.{firstLine, partIn}
-use Rattle.fill.specs.Parts.{part}
-use Rattle.fill.proofs.Parts.{part-drop}
+use Rattle.bodies.specs.Lines.{firstLine, partIn}
+use Rattle.words.specs.Parts.{part}
+use Rattle.words.proofs.Parts.{part-drop}
 use Rattle.input.specs.Items.{unreadBy}
 use Rattle.input.specs.ItemLaws.{unread-first, unread-none, unread-string}
 use Rattle.formatter.specs.declared.Unread.{Unread}

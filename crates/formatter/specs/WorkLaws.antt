@@ -22,7 +22,7 @@ use Rattle.rules.specs.Rows as rows
 use Rattle.rules.specs.ControlLines.{deal, dealAgain}
 use Rattle.rules.specs.Session.{leave, readLine, work, idle, workEnd, stepFrom, step}
 use Rattle.registers.specs.Columns.{Table}
-use Rattle.scan.specs.Around.{argumentsOf}
+use Rattle.arguments.specs.Around.{argumentsOf}
 use Rattle.input.specs.declared.What.{What}
 use Rattle.input.specs.declared.What.the-variants as what
 use Rattle.input.specs.declared.Stack.{Stack}

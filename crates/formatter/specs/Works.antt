@@ -20,7 +20,7 @@ use Rattle.rules.specs.ControlLines.{meaningOf, obey}
 use Rattle.rules.specs.Session.{step}
 use Rattle.texts.specs.declared.Found.{Found}
 use Rattle.texts.specs.Places.{foundOf}
-use Rattle.texts.specs.Lines.{nextLine, TopInside}
+use Rattle.bodies.specs.Lines.{nextLine, TopInside}
 use Rattle.settings.specs.declared.Printer.{Printer}
 use Rattle.settings.specs.Layouts.{SoundPrinter}
 use Rattle.input.specs.declared.What.{What}

@@ -1,4 +1,6 @@
 // One piece of work on the whole state: a line as it was taken, and the items of the input stack.
+use bodies::Part;
+use bodies::Top;
 use control::front;
 use control::moved;
 use control::stay;
@@ -12,8 +14,6 @@ use settings::Printer;
 use sheet::Outcome;
 use springs::Way;
 use texts::Found;
-use texts::Part;
-use texts::Top;
 ghost use mathlib.Core.Path.{_≡_};
 ghost use mathlib.Core.Bool.{true, false};
 ghost use mathlib.Core.List.{[]};
@@ -23,9 +23,9 @@ ghost use Rattle.rules.specs.declared.Kind.the-variants.{Macro};
 ghost use Rattle.rules.specs.ControlLines as rules;
 ghost use Rattle.rules.specs.Rows as rows;
 ghost use Rattle.rules.specs.Session.{workEnd};
-ghost use Rattle.scan.specs.Around.{argumentsOf, Arguments};
+ghost use Rattle.arguments.specs.Around.{argumentsOf, Arguments};
 ghost use Rattle.texts.specs.Places.{Inside};
-ghost use Rattle.texts.specs.Lines.{nextLine, TopInside};
+ghost use Rattle.bodies.specs.Lines.{nextLine, TopInside};
 ghost use Rattle.settings.specs.Layouts.{printerOf, SoundPrinter};
 ghost use Rattle.input.specs.Frames.{topEntry, topBytes, topEnds, Topped};
 ghost use Rattle.springs.specs.Held.{isText, Fits};
@@ -240,7 +240,7 @@ fn macro_line(store: &[u8], at: usize, size: usize, place: u16) -> Unread
     }
     let start = at + from;
     let end = at + size;
-    let length = texts::line_end(&store[start..end]);
+    let length = bodies::line_end(&store[start..end]);
     let next = from + length + 1;
     let rest = Part { at: start, end };
     Unread::Line(Top::Lines(rest), next as u16)

@@ -17,8 +17,8 @@ use Rattle.rules.specs.Texts.{Text, textOf}
 use Rattle.rules.specs.TextLaws.{found-first, found-later}
 use Rattle.rules.specs.Rows.{lines, linesOf}
 use Rattle.rules.specs.State.{reading, isReading, onStack}
-use Rattle.texts.specs.Lines.{firstLine, lines-first}
-use Rattle.scan.specs.Around.{argumentsOf}
+use Rattle.bodies.specs.Lines.{firstLine, lines-first}
+use Rattle.arguments.specs.Around.{argumentsOf}
 use Rattle.input.specs.declared.What.{What}
 use Rattle.input.specs.declared.What.the-variants as what
 use Rattle.input.specs.declared.Entry.{Entry}

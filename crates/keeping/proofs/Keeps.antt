@@ -27,7 +27,7 @@ use Rattle.texts.specs.declared.Place.the-variants.{At, Not}
 use Rattle.texts.specs.Places.{placeOf}
 use Rattle.texts.specs.Table.{namesOf, textsOf, Lies}
 use Rattle.texts.proofs.Laws.{found-text, not-text}
-use Rattle.scan.specs.Around.{argumentsOf}
+use Rattle.arguments.specs.Around.{argumentsOf}
 use Rattle.lines.specs.declared.Condition.{Condition}
 use Rattle.lines.specs.Places.{ConditionAt}
 use Rattle.traps.specs.declared.Planted.{Planted}
@@ -36,8 +36,9 @@ use Rattle.settings.specs.declared.Printer.{Printer}
 use Rattle.settings.specs.declared.Layout.{Layout}
 use Rattle.settings.specs.declared.NewLayout.{NewLayout}
 use Rattle.settings.specs.declared.NewLayout.the-variants.{Is, Malformed, OutOfRange}
-use Rattle.settings.specs.declared.Condition as settings
-use Rattle.settings.specs.Views.{printer, conditionIs}
+use Rattle.conditions.specs.declared.Condition as settings
+use Rattle.lengths.specs.Views.{printer}
+use Rattle.conditions.specs.Conditions.{conditionIs}
 use Rattle.settings.specs.Layouts.{printerOf, newLayoutIs, Performed}
 use Rattle.settings.specs.LayoutLaws.{of-new, layoutKeeps, performed-is}
 use Rattle.input.specs.declared.What.{What}

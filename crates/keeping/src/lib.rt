@@ -1,4 +1,5 @@
 // Requests that neither break nor change a table, and texts that are called.
+use conditions::Condition;
 use input::Stack;
 use input::What;
 use lines::Line;
@@ -6,7 +7,6 @@ use measure::Rows;
 use page::Page;
 use rules::Name;
 use rules::Unbreaking;
-use settings::Condition;
 use settings::Layout;
 use settings::NewLayout;
 use settings::Printer;
@@ -57,7 +57,7 @@ fn new_layout(
     ensures { λ r. ⌜ Performed printer request layout (downOf used) (argument 0 (now (line .entry))) r ⌝ }
 {
     let mut given = [0u16; 9];
-    let count = scan::arguments(line, 0, &mut *parts, &mut given);
+    let count = arguments::arguments(line, 0, &mut *parts, &mut given);
     let first = lines::argument(&*parts, &given, count, 0);
     settings::perform(request, layout, used, first, printer)
 }
@@ -121,7 +121,7 @@ fn keep_if(
     if from == to {
         return stay(Way::On, layout, page, collected, stack);
     }
-    match settings::holds(&line[from..to], page.number, printer.pitch) {
+    match conditions::holds(&line[from..to], page.number, printer.pitch) {
         Condition::Holds => {
             let over = follow(&line[rest..], stack, arena, ends);
             stay(Way::On, layout, page, collected, over)
@@ -226,7 +226,7 @@ pub fn call(
     ensures { λ r. ⌜ Worked (λ ts s. goes (calledText (textOf name ts) (now (line .entry)) s)) (now (firsts .entry)) (now (seconds .entry)) texts planted (desk layout page collected (now (cells .entry)) stack (now (arena .entry)) (now (ends .entry))) (r .way) (r .written) (desk (r .layout) (r .page) (r .collected) (now (cells .entry)) (r .stack) (now (arena .exit)) (now (ends .exit))) (now (row .entry)) ⌝ }
 {
     let mut given = [0u16; 9];
-    let count = scan::arguments(line, 0, &mut *parts, &mut given);
+    let count = arguments::arguments(line, 0, &mut *parts, &mut given);
     let called = springs::call(
         name,
         count as u8,

@@ -7,7 +7,7 @@ use native.Mathlib.Omega.{arith}
 use lib.ListN.{length, take, getD, set, length-append, length-set}
 use lib.Seq.{take-suc, take-suc-set, take-all, length-take-le}
 use Rattle.rules.specs.Escapes.{escaped}
-use Rattle.scan.proofs.Buffers.{escaped-append}
+use Rattle.copying.proofs.Buffers.{escaped-append}
 use Rattle.lines.specs.Backs.{Room, Put, Behind, WrittenBack, escaped-length}
 
 -- nothing yet

@@ -11,7 +11,7 @@ use Rattle.rules.specs.Names.{oneByte, twoBytes, none, one, tooLong, nameOf}
 use Rattle.rules.specs.Arguments.{Part}
 use Rattle.rules.specs.State.{text}
 use Rattle.rules.specs.Lines.{lineOf, named}
-use Rattle.scan.specs.Parting.{WordAt}
+use Rattle.arguments.specs.Parting.{WordAt}
 use Rattle.lines.specs.declared.Named.{Named}
 use Rattle.lines.specs.declared.Line.{Line}
 use Rattle.lines.specs.Lines.{namedIs, lineIs, Inside, LineIs, ControlIs}

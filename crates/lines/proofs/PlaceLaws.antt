@@ -8,11 +8,11 @@ use lib.Dec.{eqb}
 use lib.ListN.{length, getD, take, drop}
 use Rattle.rules.specs.Bytes.{byte, space, firstWhere}
 use Rattle.rules.specs.Arguments.{Part, part, byteOf, afterSpaces, withoutQuoteBy, withoutQuote, stringText, word, condition}
-use Rattle.scan.specs.Around.{argumentsOf, beginOf, Arguments}
-use Rattle.scan.specs.Parting.{Spaces, WordAt}
+use Rattle.arguments.specs.Around.{argumentsOf, beginOf, Arguments}
+use Rattle.arguments.specs.Parting.{Spaces, WordAt}
 use Rattle.scan.proofs.Givens.{argument-is}
-use Rattle.scan.proofs.Places.{unread, nothing}
-use Rattle.scan.proofs.Parts.{quote-is}
+use Rattle.copying.proofs.Places.{unread, nothing}
+use Rattle.arguments.proofs.Parts.{quote-is}
 use Rattle.lines.specs.declared.Condition.{Condition}
 use Rattle.lines.specs.Places.{StringAt, ConditionAt}
 

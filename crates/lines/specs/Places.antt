@@ -5,8 +5,8 @@ use Prim.Native.Nat.{ℕ, _-_, _≤_}
 use lib.ListN.{length, take, drop, getD}
 use Rattle.rules.specs.Arguments.{Part, part, stringText, condition}
 use Rattle.rules.specs.Acts.{argument}
-use Rattle.scan.specs.Around.{argumentsOf}
-use Rattle.scan.specs.Parting.{PartedAll}
+use Rattle.arguments.specs.Around.{argumentsOf}
+use Rattle.arguments.specs.Parting.{PartedAll}
 use Rattle.lines.specs.declared.Condition.{Condition}
 
 -- the place r where the text of a ds begins: "In ds one leading " is dropped"

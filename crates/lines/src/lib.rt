@@ -12,7 +12,7 @@ ghost use lib.ListN.{length, getD};
 ghost use Rattle.rules.specs.Names.{nameOf};
 ghost use Rattle.rules.specs.Requests.{traits, startsPage, modeOf};
 ghost use Rattle.texts.specs.Table.{textsOf, Lies};
-ghost use Rattle.scan.specs.Around.{Arguments, argumentsOf};
+ghost use Rattle.arguments.specs.Around.{Arguments, argumentsOf};
 ghost use Rattle.lines.specs.Lines.{namedIs, LineIs, ControlIs};
 ghost use Rattle.lines.specs.Places.{StringAt, ConditionAt};
 ghost use Rattle.lines.specs.Meanings.{MeaningIs, PrefixIs};
@@ -74,7 +74,7 @@ fn control_of(line: &[u8], period: bool) -> Line
     requires { ⌜ 0 < length (now line) ⌝ }
     ensures { λ r. ⌜ ControlIs (now (line .entry)) period r ⌝ }
 {
-    let end = scan::word_end(line, 1);
+    let end = arguments::word_end(line, 1);
     match name_of(&line[1..end]) {
         Named::One(name) => Line::Control(period, name, end),
         Named::Nothing => Line::Ignored,
@@ -121,7 +121,7 @@ pub fn string_at(line: &[u8], at: usize) -> usize
     requires { ⌜ at ≤ length (now line) ⌝ }
     ensures { λ r. ⌜ StringAt (now (line .entry)) at r ⌝ }
 {
-    let i = scan::skip_spaces(line, at);
+    let i = arguments::skip_spaces(line, at);
     if line.len() <= i {
         return i;
     }
@@ -136,9 +136,9 @@ pub fn condition_at(line: &[u8], at: usize) -> Condition
     requires { ⌜ at ≤ length (now line) ⌝ }
     ensures { λ r. ⌜ ConditionAt (now (line .entry)) at r ⌝ }
 {
-    let from = scan::skip_spaces(line, at);
-    let to = scan::word_end(line, from);
-    let rest = scan::skip_spaces(line, to);
+    let from = arguments::skip_spaces(line, at);
+    let to = arguments::word_end(line, from);
+    let rest = arguments::skip_spaces(line, to);
     Condition { from, to, rest }
 }
 
@@ -160,9 +160,9 @@ pub fn meaning_of(
             let kind = spot.kind;
             Meaning::Calls(kind)
         }
-        Found::Nothing => match texts::request_of(name) {
-            texts::Named::Is(request) => Meaning::Requests(request),
-            texts::Named::Other => Meaning::Nothing,
+        Found::Nothing => match request_names::request_of(name) {
+            request_names::Named::Is(request) => Meaning::Requests(request),
+            request_names::Named::Other => Meaning::Nothing,
         },
     }
 }

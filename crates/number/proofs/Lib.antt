@@ -1,4 +1,3 @@
-pub mod Laws
 pub mod Places
 pub mod Literals
 pub mod Cases

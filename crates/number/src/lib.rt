@@ -1,98 +1,17 @@
 // Numbers of document 01: arithmetic, literals with scales, and the readers of expressions and terms.
+use arithmetic::Value;
+use measure::MaybeScale;
+use measure::Pitch;
+use measure::Scale;
+use rules::Operator;
 ghost use mathlib.Core.Path.{_≡_};
 ghost use Prim.Native.Nat.{_-_, _*_, _≤_};
 ghost use lib.ListN.{length, getD, drop};
-ghost use Rattle.rules.specs.Numbers.{within, truth as truthOf, operate as operateOf, jointOf, startOf, evaluate as evaluateOf, cells as cellsIn, rows as rowsIn, units as unitsIn, signed as signedOf};
-ghost use Rattle.number.specs.Values.{judgedOf, acrossOf, downOf};
+ghost use Rattle.rules.specs.Numbers.{jointOf, startOf, evaluate as evaluateOf};
+ghost use Rattle.arithmetic.specs.Values.{judgedOf};
 ghost use Rattle.number.specs.Reading.{jointIn, GoodJoint, digitsOf, boundedOf, readOf, Forward, literalTerm};
 ghost use Rattle.measure.specs.Pitches.{Sized};
 ghost use Rattle.number.specs.Meaning.{TermIs, ExpressionIs};
-use measure::Cells;
-use measure::MaybeScale;
-use measure::Pitch;
-use measure::Rows;
-use measure::Scale;
-use rules::Operator;
-
-// The value of a number, or its refusal.
-pub enum Value {
-    Is(i32),
-    Bad,
-}
-
-// A number of cells across, or its refusal.
-pub enum Across {
-    Are(Cells),
-    Bad,
-}
-
-// A number of rows down, or its refusal.
-pub enum Down {
-    Are(Rows),
-    Bad,
-}
-
-// A result, refused where it is outside ±1,000,000,000.
-pub fn judge(v: i64) -> Value
-    ensures { λ r. ⌜ judgedOf r ≡ within v ⌝ }
-{
-    if v < -1000000000 {
-        return Value::Bad;
-    }
-    if 1000000000 < v {
-        return Value::Bad;
-    }
-    Value::Is(v as i32)
-}
-
-// Comparisons and logic give 1 or 0.
-fn truth(t: bool) -> Value
-    ensures { λ r. ⌜ judgedOf r ≡ truthOf t ⌝ }
-{
-    if t { Value::Is(1) } else { Value::Is(0) }
-}
-
-// One operation. What two i32 give fits an i64, so that it can be judged.
-pub fn operate(op: Operator, a: i32, b: i32) -> Value
-    ensures { λ r. ⌜ judgedOf r ≡ operateOf op a b ⌝ }
-{
-    let x = a as i64;
-    let y = b as i64;
-    match op {
-        Operator::Add => judge(x + y),
-        Operator::Subtract => judge(x - y),
-        Operator::Multiply => judge(x * y),
-        Operator::Divide => {
-            if y == 0 {
-                return Value::Bad;
-            }
-            judge(x / y)
-        }
-        Operator::Remainder => {
-            if y == 0 {
-                return Value::Bad;
-            }
-            judge(x % y)
-        }
-        Operator::Less => truth(x < y),
-        Operator::Greater => truth(y < x),
-        Operator::AtMost => truth(x <= y),
-        Operator::AtLeast => truth(y <= x),
-        Operator::Equal => truth(x == y),
-        Operator::And => {
-            if 0 < x {
-                return truth(0 < y);
-            }
-            truth(false)
-        }
-        Operator::Or => {
-            if 0 < x {
-                return truth(true);
-            }
-            truth(0 < y)
-        }
-    }
-}
 
 // An operator and its width in bytes, or none.
 enum Joint {
@@ -113,7 +32,7 @@ enum Read {
 }
 
 // The byte at a place, 0 past the end. No byte 0 means anything in a number.
-fn byte_at(s: &[u8], at: usize) -> u8
+pub fn byte_at(s: &[u8], at: usize) -> u8
     ensures { λ r. ⌜ r ≡ getD (now (s .entry)) at 0 ⌝ }
     ensures { λ r. ⌜ r ≤ 255 * (length (now (s .entry)) - at) ⌝ }
 {
@@ -232,7 +151,7 @@ fn expression(s: &[u8], at: usize, left: u8, default: Scale, pitch: Pitch) -> Re
         let Read::Value(x, after) = term(s, i + width, left, default, pitch) else {
             return Read::Refused;
         };
-        let Value::Is(y) = operate(op, v, x) else {
+        let Value::Is(y) = arithmetic::operate(op, v, x) else {
             return Read::Refused;
         };
         v = y;
@@ -282,45 +201,4 @@ pub fn evaluate(s: &[u8], default: Scale, pitch: Pitch) -> Value
         return Value::Bad;
     }
     Value::Is(v)
-}
-
-// The argument of nr, ce or if.
-pub fn units(s: &[u8], pitch: Pitch) -> Value
-    requires { ⌜ Sized pitch ⌝ }
-    ensures { λ r. ⌜ judgedOf r ≡ unitsIn pitch (now (s .entry)) ⌝ }
-{
-    evaluate(s, Scale::Unit, pitch)
-}
-
-// The argument of ll, in, ti or po, rounded to cells.
-pub fn cells(s: &[u8], pitch: Pitch) -> Across
-    requires { ⌜ Sized pitch ⌝ }
-    ensures { λ r. ⌜ acrossOf r ≡ cellsIn pitch (now (s .entry)) ⌝ }
-{
-    let Value::Is(v) = evaluate(s, Scale::Em, pitch) else {
-        return Across::Bad;
-    };
-    Across::Are(measure::cells_of(v, pitch))
-}
-
-// The argument of sp, pl or wh, rounded to rows.
-pub fn rows(s: &[u8], pitch: Pitch) -> Down
-    requires { ⌜ Sized pitch ⌝ }
-    ensures { λ r. ⌜ downOf r ≡ rowsIn pitch (now (s .entry)) ⌝ }
-{
-    let Value::Is(v) = evaluate(s, Scale::LineSpace, pitch) else {
-        return Down::Bad;
-    };
-    Down::Are(measure::rows_of(v, pitch))
-}
-
-// Whether a sign leads, which marks a change to the old value.
-pub fn signed(s: &[u8]) -> bool
-    ensures { λ r. ⌜ r ≡ signedOf (now (s .entry)) ⌝ }
-{
-    let b = byte_at(s, 0);
-    if b == b'+' {
-        return true;
-    }
-    b == b'-'
 }

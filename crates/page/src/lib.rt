@@ -35,7 +35,7 @@ pub fn start_page(page: Page, length: Rows, planted: Planted) -> Moved
         };
         return Moved::On(
             next,
-            traps::seen_at(planted, measure::down(length) as usize, 0),
+            nearest::seen_at(planted, measure::down(length) as usize, 0),
         );
     }
     Moved::TooMany
@@ -54,7 +54,7 @@ pub fn move_down(page: Page, rows: u16, length: Rows, planted: Planted) -> Moved
             used: measure::rows_down(to as u16),
             last: page.last,
         };
-        return Moved::On(moved, traps::seen_at(planted, end, to));
+        return Moved::On(moved, nearest::seen_at(planted, end, to));
     }
     if page.last {
         return Moved::Done;
@@ -69,7 +69,7 @@ pub fn rows_below(page: Page, length: Rows, planted: Planted) -> u16
 {
     let used = measure::down(page.used) as usize;
     let end = measure::down(length) as usize;
-    (traps::nearest_lent(planted, end, used, end) - used) as u16
+    (nearest::nearest_lent(planted, end, used, end) - used) as u16
 }
 
 // The blank rows that an sp writes: "sp stops at the nearest trap or page end and drops the rest; 0 or less moves nothing."

@@ -1,4 +1,3 @@
 pub mod Laws
 pub mod Signed
-pub mod ReadOnlyLaws
 pub mod CheckLaws

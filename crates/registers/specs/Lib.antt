@@ -2,5 +2,4 @@ pub mod Columns
 pub mod Places
 pub mod Moves
 pub mod Answers
-pub mod ReadOnly
 pub mod Checks

@@ -21,8 +21,8 @@ use Rattle.texts.specs.declared.Stored.the-variants.{Set, Full}
 use Rattle.texts.specs.Table.{textsOf, Lies}
 use Rattle.texts.specs.Changes.{roomOf, RemovedTo, DefinedTo, OpenedTo}
 use Rattle.texts.specs.KeptLaws.{kept-removed, kept-defined, kept-opened}
-use Rattle.scan.specs.declared.Cut.{Cut}
-use Rattle.scan.specs.Parting.{Took}
+use Rattle.arguments.specs.declared.Cut.{Cut}
+use Rattle.arguments.specs.Parting.{Took}
 use Rattle.lines.specs.Places.{StringAt}
 use Rattle.input.specs.declared.Stack.{Stack}
 use Rattle.input.specs.Frames.{framesOf, calledTo}

@@ -1,13 +1,13 @@
 // The requests that change the tables: nr, wh, ds, de and rm.
+use arguments::Argument;
+use arithmetic::Value;
 use input::Stack;
 use lines::Named;
-use number::Down;
-use number::Value;
+use references::Which;
 use registers::Found;
 use registers::Stored;
-use registers::Which;
 use rules::Name;
-use scan::Argument;
+use scales::Down;
 use settings::Printer;
 use traps::Planted;
 ghost use mathlib.Core.Path.{_≡_};
@@ -19,7 +19,7 @@ ghost use Rattle.rules.specs.Registers.{predefined, lookup};
 ghost use Rattle.rules.specs.Texts.{textOf};
 ghost use Rattle.rules.specs.Escapes.{escaped};
 ghost use Rattle.rules.specs.Acts.{plantAt, newValue, newStep, removeText, openText, defines};
-ghost use Rattle.number.specs.Values.{judgedOf};
+ghost use Rattle.arithmetic.specs.Values.{judgedOf};
 ghost use Rattle.registers.specs.Columns.{Table, tableOf};
 ghost use Rattle.settings.specs.Layouts.{printerOf, SoundPrinter};
 ghost use Rattle.texts.specs.Table.{textsOf, Lies};
@@ -107,7 +107,7 @@ pub fn plant(row: &[u8], name: &[u8], planted: Planted, printer: Printer) -> Pla
             planted,
         };
     }
-    match number::rows(row, printer.pitch) {
+    match scales::rows(row, printer.pitch) {
         Down::Are(rows) => plant_at(rows.0, name, planted),
         Down::Bad => Plants {
             refused: 6,
@@ -120,7 +120,7 @@ pub fn plant(row: &[u8], name: &[u8], planted: Planted, printer: Printer) -> Pla
 fn read_only(name: Name) -> bool
     ensures { λ r. ⌜ r ≡ predefined name ⌝ }
 {
-    match registers::predefined(name) {
+    match references::predefined(name) {
         Which::Other => false,
         _ => true,
     }
@@ -152,7 +152,7 @@ fn summed(signed: bool, old: i32, value: i32) -> Value
     ensures { λ r. ⌜ judgedOf r ≡ newValue signed old value ⌝ }
 {
     if signed {
-        return number::judge(old as i64 + value as i64);
+        return arithmetic::judge(old as i64 + value as i64);
     }
     Value::Is(value)
 }
@@ -162,8 +162,8 @@ fn new_value(value: &[u8], old: i32, printer: Printer) -> Value
     requires { ⌜ SoundPrinter printer ⌝ }
     ensures { λ r. ⌜ judgedOf r ≡ valueBy (printerOf printer) (now (value .entry)) old ⌝ }
 {
-    match number::units(value, printer.pitch) {
-        Value::Is(n) => summed(number::signed(value), old, n),
+    match scales::units(value, printer.pitch) {
+        Value::Is(n) => summed(scales::signed(value), old, n),
         Value::Bad => Value::Bad,
     }
 }
@@ -176,7 +176,7 @@ fn new_step(step: &[u8], old: i32, printer: Printer) -> Value
     if step.len() == 0 {
         return Value::Is(old);
     }
-    number::units(step, printer.pitch)
+    scales::units(step, printer.pitch)
 }
 
 // The new value, then the new step.
@@ -314,7 +314,7 @@ fn remove_name(
     if input::is_on_stack(stack, ends, name) {
         return Changed::Refused(9);
     }
-    Changed::Count(texts::remove(
+    Changed::Count(definitions::remove(
         store,
         &mut *firsts,
         &mut *seconds,
@@ -375,7 +375,7 @@ fn open_name(
     if input::is_on_stack(stack, ends, name) {
         return Changed::Refused(9);
     }
-    match texts::open_macro(
+    match definitions::open_macro(
         store,
         &mut *firsts,
         &mut *seconds,
@@ -440,7 +440,7 @@ fn define_text(
     if input::is_on_stack(stack, ends, name) {
         return Changed::Refused(9);
     }
-    match texts::define_string(
+    match definitions::define_string(
         store,
         &mut *firsts,
         &mut *seconds,
@@ -556,7 +556,7 @@ pub fn define(
     requires { ⌜ ReadyToDefine (now store) (now firsts) (now seconds) (now kinds) (now lengths) count stack × (length (now line) ≤ 512) × (length (now parts) ≡ 512) ⌝ }
     ensures { λ r. ⌜ DefinesAs (now (store .entry)) (now (firsts .entry)) (now (seconds .entry)) (now (kinds .entry)) (now (lengths .entry)) count stack (now (ends .entry)) (defines «after_if» (now (line .entry))) r (now (store .exit)) (now (firsts .exit)) (now (seconds .exit)) (now (kinds .exit)) (now (lengths .exit)) (now (parts .exit)) ⌝ }
 {
-    match scan::next_argument(line, 0, &mut *parts, 0) {
+    match arguments::next_argument(line, 0, &mut *parts, 0) {
         Argument::There(cut) => {
             let end = cut.written;
             let at = lines::string_at(line, cut.at);

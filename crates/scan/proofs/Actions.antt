@@ -14,15 +14,15 @@ use Rattle.rules.specs.declared.Mode.{Mode}
 use Rattle.rules.specs.Registers.{Reference, stepRegister, decimal}
 use Rattle.rules.specs.Texts.{Text, text, textOf}
 use Rattle.rules.specs.Escapes.{Surroundings, refused, number, aString, scanned, writes, wants, gives, ends, unlisted, before, follow, next, showIt, enter, run}
-use Rattle.registers.specs.declared.Shown.{Shown}
-use Rattle.registers.specs.declared.Referred.the-variants.{Is, Bad, ReadOnly}
+use Rattle.references.specs.declared.Shown.{Shown}
+use Rattle.references.specs.declared.Referred.the-variants.{Is, Bad, ReadOnly}
 use Rattle.registers.specs.Columns.{tableOf}
-use Rattle.registers.specs.ReadOnly.{seenOf, ReferTo}
-use Rattle.scan.specs.declared.Wrote as kinds
-use Rattle.scan.specs.declared.Wrote.the-variants as wrote
+use Rattle.references.specs.ReadOnly.{seenOf, ReferTo}
+use Rattle.copying.specs.declared.Wrote as kinds
+use Rattle.copying.specs.declared.Wrote.the-variants as wrote
 use Rattle.scan.specs.declared.Acted.the-variants.{Wrote, Enters, Ends, Refused}
-use Rattle.scan.specs.Runs.{standing, from, acts, total}
-use Rattle.scan.specs.Writes.{Room, WroteTo}
+use Rattle.copying.specs.Runs.{standing, from, acts, total}
+use Rattle.copying.specs.Writes.{Room, WroteTo}
 use Rattle.scan.specs.Acts.{wroteAs, behind, ActedTo, ShownTo, EnteredTo}
 use Rattle.rules.specs.declared.Kind.the-variants.{Macro, String}
 use Rattle.texts.specs.declared.Spot.{Spot}
@@ -30,7 +30,7 @@ use Rattle.texts.specs.declared.Found.the-variants.{There, Nothing}
 use Rattle.texts.specs.Table.{textsOf}
 use Rattle.texts.specs.Places.{partOf, bytesOr, LookedUp}
 use Rattle.scan.proofs.Escapes.{before-nothing}
-use Rattle.scan.specs.Around.{givenAt}
+use Rattle.arguments.specs.Around.{givenAt}
 use Rattle.scan.proofs.Givens.{given-at}
 use Rattle.scan.proofs.Totals.{put-total, full-total}
 

@@ -11,17 +11,17 @@ use Rattle.rules.specs.Texts.{textOf}
 use Rattle.texts.specs.Places.{bytesOr}
 use Rattle.rules.specs.Escapes.{Surroundings, scanned, run, scan}
 use Rattle.registers.specs.Columns.{Table, tableOf}
-use Rattle.scan.specs.declared.What.{What}
+use Rattle.escapes.specs.declared.What.{What}
 use Rattle.scan.specs.declared.Acted.the-variants as acted
 use Rattle.scan.specs.declared.Progress.{Progress}
 use Rattle.scan.specs.declared.Progress.the-variants.{Over, Ended, Refused}
-use Rattle.scan.specs.Readings.{actionIn}
+use Rattle.escapes.specs.Readings.{actionIn}
 use Rattle.scan.specs.declared.Scanned.the-variants as answer
-use Rattle.scan.specs.Runs.{from, total}
-use Rattle.scan.specs.Writes.{Room}
+use Rattle.copying.specs.Runs.{from, total}
+use Rattle.copying.specs.Writes.{Room}
 use Rattle.scan.specs.Acts.{behind, ActsTo}
 use Rattle.scan.specs.Expansion.{Filled, ReadOver, ReadEscape, StopsIn, progressOf, ExpandsTo, ScannedTo}
-use Rattle.scan.proofs.Buffers.{later}
+use Rattle.copying.proofs.Buffers.{later}
 use Rattle.scan.proofs.Escapes.{before-nothing}
 
 -- nothing is written yet; more is written

@@ -18,8 +18,8 @@ use Rattle.rules.specs.Refusals.{value, bad}
 use Rattle.rules.specs.Registers.{Reference, stepRegister, decimal}
 use Rattle.rules.specs.Texts.{Text, text, textOf}
 use Rattle.rules.specs.Escapes.{Surroundings, Scanned, scanned, refused, Wanted, number, aString, Escape, outside, slash, Action, writes, begins, holds, wants, gives, ends, unlisted, actionOf, Scan, writeBy, beginBy, enterBy, enter, showIt, want, given, effectOf, reads, next, before, follow, run}
-use Rattle.scan.specs.Readings.{lone, oneMore, onward, escapeOf}
-use Rattle.scan.specs.Runs.{standing, from, acts, ifLeft}
+use Rattle.escapes.specs.Readings.{lone, oneMore, onward, escapeOf}
+use Rattle.copying.specs.Runs.{standing, from, acts, ifLeft}
 
 -- where a scan stands, field by field
 abbrev at-escape : List (List ℕ) → Escape → ℕ → List Register → Scan

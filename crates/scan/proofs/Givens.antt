@@ -8,7 +8,7 @@ use lib.Seq.{getD-take, length-take-le}
 use Rattle.rules.specs.declared.Mode.{Mode}
 use Rattle.rules.specs.declared.Mode.the-variants.{Plain, Copy}
 use Rattle.rules.specs.Escapes.{given, escaped}
-use Rattle.scan.specs.Around.{cutAt, argumentsOf, beginOf, Arguments, givenAt}
+use Rattle.arguments.specs.Around.{cutAt, argumentsOf, beginOf, Arguments, givenAt}
 
 -- where a part begins, if the first begins there
 abbrev first : ℕ → List ℕ → ℕ → ℕ

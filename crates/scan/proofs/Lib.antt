@@ -1,12 +1,6 @@
-pub mod Places
-pub mod Readers
 pub mod Escapes
-pub mod Buffers
 pub mod Totals
-pub mod Decimals
 pub mod Givens
 pub mod Actions
 pub mod Steps
 pub mod Driver
-pub mod Parts
-pub mod Parting

@@ -10,13 +10,13 @@ use borrow.Author.Tests.{le-leb, lt-leb}
 use Rattle.rules.specs.declared.Register.{Register}
 use Rattle.rules.specs.declared.Mode.{Mode}
 use Rattle.rules.specs.Escapes.{Surroundings, slash, before, next, run}
-use Rattle.scan.specs.declared.Reading.{Reading}
-use Rattle.scan.specs.Readings.{actionIn, lone, ReadingIs}
-use Rattle.scan.specs.Runs.{standing, from, acts, total, ifLeft}
-use Rattle.scan.specs.Writes.{Passed, Stops}
+use Rattle.escapes.specs.declared.Reading.{Reading}
+use Rattle.escapes.specs.Readings.{actionIn, lone, ReadingIs}
+use Rattle.copying.specs.Runs.{standing, from, acts, total, ifLeft}
+use Rattle.copying.specs.Writes.{Passed, Stops}
 use Rattle.scan.specs.Acts.{behind}
 use Rattle.scan.specs.Expansion.{Filled, ReadOver, ReadEscape, StopsIn}
-use Rattle.scan.proofs.Places.{unread, nothing}
+use Rattle.copying.proofs.Places.{unread, nothing}
 use Rattle.scan.proofs.Escapes.{from-escape}
 
 -- the next byte does not depend on where the scan stood

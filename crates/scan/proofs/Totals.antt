@@ -9,10 +9,10 @@ use Rattle.rules.specs.Bytes.{backslash, firstWhere}
 use Rattle.rules.specs.declared.Register.{Register}
 use Rattle.rules.specs.declared.Mode.{Mode}
 use Rattle.rules.specs.Escapes.{Surroundings, Scanned, scanned, refused, writes, actionOf, before, run}
-use Rattle.scan.specs.Runs.{from, acts, total}
-use Rattle.scan.specs.Writes.{Room, Put, Passed, Stops}
-use Rattle.scan.proofs.Places.{unread}
-use Rattle.scan.proofs.Buffers.{later, put-none, put-one}
+use Rattle.copying.specs.Runs.{from, acts, total}
+use Rattle.copying.specs.Writes.{Room, Put, Passed, Stops}
+use Rattle.copying.proofs.Places.{unread}
+use Rattle.copying.proofs.Buffers.{later, put-none, put-one}
 
 -- bytes before bytes
 pub before-before : (a b : List ℕ) (r : Scanned) → before a (before b r) ≡ before (a ++ b) r

@@ -11,18 +11,18 @@ use Rattle.rules.specs.declared.Mode.{Mode}
 use Rattle.rules.specs.Registers.{Seen}
 use Rattle.rules.specs.Texts.{Text, textOf}
 use Rattle.rules.specs.Escapes.{Surroundings, Scanned, scanned, refused, number, aString, Action, wants, before}
-use Rattle.registers.specs.declared.Shown.{Shown}
+use Rattle.references.specs.declared.Shown.{Shown}
 use Rattle.registers.specs.Columns.{Table, tableOf}
-use Rattle.registers.specs.ReadOnly.{seenOf}
+use Rattle.references.specs.ReadOnly.{seenOf}
 use Rattle.texts.specs.Table.{textsOf, Lies}
 use Rattle.texts.specs.Places.{bytesOr}
-use Rattle.scan.specs.declared.Wrote as kinds
-use Rattle.scan.specs.declared.Wrote.the-variants as wrote
+use Rattle.copying.specs.declared.Wrote as kinds
+use Rattle.copying.specs.declared.Wrote.the-variants as wrote
 use Rattle.scan.specs.declared.Acted.{Acted}
 use Rattle.scan.specs.declared.Acted.the-variants.{Wrote, Enters, Ends, Refused}
-use Rattle.scan.specs.Runs.{acts, total}
-use Rattle.scan.specs.Writes.{Room}
-use Rattle.scan.specs.Around.{Arguments}
+use Rattle.copying.specs.Runs.{acts, total}
+use Rattle.copying.specs.Writes.{Room}
+use Rattle.arguments.specs.Around.{Arguments}
 
 -- bytes that are written, or "3: .. expanded line passes 512 bytes"
 abbrev pub wroteAs : kinds.Wrote → Acted

@@ -9,16 +9,16 @@ use Rattle.rules.specs.declared.Mode.{Mode}
 use Rattle.rules.specs.Escapes.{Surroundings, scanned, refused}
 use Rattle.rules.specs.Escapes as rules
 use Rattle.registers.specs.Columns.{Table, tableOf}
-use Rattle.scan.specs.declared.What.{What}
+use Rattle.escapes.specs.declared.What.{What}
 use Rattle.scan.specs.declared.Next.{Next}
 use Rattle.scan.specs.declared.Next.the-variants as next
 use Rattle.scan.specs.declared.Progress.{Progress}
 use Rattle.scan.specs.declared.Progress.the-variants.{Over, Ended, Refused}
 use Rattle.scan.specs.declared.Scanned as answer
 use Rattle.scan.specs.declared.Scanned.the-variants as scan
-use Rattle.scan.specs.Readings.{actionIn}
-use Rattle.scan.specs.Runs.{total}
-use Rattle.scan.specs.Writes.{Room}
+use Rattle.escapes.specs.Readings.{actionIn}
+use Rattle.copying.specs.Runs.{total}
+use Rattle.copying.specs.Writes.{Room}
 use Rattle.scan.specs.Acts.{behind}
 
 -- bytes were written, and those behind them are as they were

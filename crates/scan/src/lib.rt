@@ -1,396 +1,27 @@
 // The expansion of a line: its escapes, its strings and its registers.
-use registers::Referred;
-use registers::Shown;
+use copying::Copied;
+use copying::Wrote;
+use escapes::What;
+use references::Referred;
+use references::Shown;
 use rules::Kind;
 use rules::Mode;
 use rules::Name;
 use rules::Turn;
 use texts::Found;
-ghost use Rattle.rules.specs.Arguments.{bare, quoted};
-ghost use Rattle.scan.specs.Parting.{Spaces, WordAt, quoteAt, Unread, Parted, Takes, PartedAll};
 ghost use mathlib.Core.Path.{_≡_};
-ghost use mathlib.Core.List.{[], _∷_};
+ghost use mathlib.Core.List.{[]};
 ghost use Prim.Native.Nat.{_-_, _≤_};
 ghost use lib.ListN.{length, getD};
-ghost use lib.IntN.{natAbs};
 ghost use Rattle.rules.specs.declared.Mode.the-variants.{Plain, Copy};
-ghost use Rattle.rules.specs.Registers.{decimal};
-ghost use Rattle.rules.specs.Escapes.{number, aString, slash, numbering, naming, argument, escaped};
+ghost use Rattle.rules.specs.Escapes.{argument};
 ghost use Rattle.registers.specs.Columns.{Table};
 ghost use Rattle.texts.specs.Table.{Lies};
-ghost use Rattle.scan.specs.Readings.{actionIn, lone, ReadingIs, ReadingIn, NamingIs};
-ghost use Rattle.scan.specs.Writes.{Room, WroteTo, CopiedTo};
-ghost use Rattle.scan.specs.Digits.{DigitsAt};
-ghost use Rattle.scan.specs.Around.{Arguments, Begins, beginOf, argumentsOf, givenAt, around};
+ghost use Rattle.escapes.specs.Readings.{actionIn};
+ghost use Rattle.copying.specs.Writes.{Room, WroteTo, CopiedTo};
+ghost use Rattle.arguments.specs.Around.{Arguments, Begins, beginOf, argumentsOf, givenAt, around};
 ghost use Rattle.scan.specs.Acts.{wroteAs, ShownTo, EnteredTo, Ready, ActsTo};
 ghost use Rattle.scan.specs.Expansion.{NextIs, ExpandsTo, ScannedTo};
-
-// What an escape leads to: a byte is written, or a backslash and a byte; a register is shown, a string is read, an
-// argument is given, counted from 0; the line ends; or the escape is not listed, or cut short.
-enum What {
-    Writes(u8),
-    Keeps(u8),
-    Number(Turn, Name),
-    Text(Name),
-    Gives(usize),
-    Ends,
-    Bad,
-}
-
-// What was read, and the place after it.
-struct Reading {
-    end: usize,
-    what: What,
-}
-
-// The name of a register or a string, and the place after it; or the text ends there.
-enum Naming {
-    Named(usize, Name),
-    Cut(usize),
-}
-
-// A name of one byte, or after a parenthesis one of two.
-fn name_at(text: &[u8], at: usize) -> Naming
-    requires { ⌜ at ≤ length (now text) ⌝ }
-    ensures { λ r. ⌜ NamingIs (now (text .entry)) at r ⌝ }
-{
-    if text.len() <= at {
-        return Naming::Cut(at);
-    }
-    let first = text[at];
-    if first != b'(' {
-        return Naming::Named(at + 1, Name { first, second: 0 });
-    }
-    let left = text.len() - at;
-    if left < 3 {
-        return Naming::Cut(text.len());
-    }
-    Naming::Named(
-        at + 3,
-        Name {
-            first: text[at + 1],
-            second: text[at + 2],
-        },
-    )
-}
-
-// The name of a register that steps so.
-fn number_at(text: &[u8], at: usize, turn: Turn) -> Reading
-    requires { ⌜ at ≤ length (now text) ⌝ }
-    ensures { λ r. ⌜ ReadingIn (naming (number turn)) (now (text .entry)) at r ⌝ }
-{
-    match name_at(text, at) {
-        Naming::Named(end, name) => Reading {
-            end,
-            what: What::Number(turn, name),
-        },
-        Naming::Cut(end) => Reading {
-            end,
-            what: What::Bad,
-        },
-    }
-}
-
-// The name of a string.
-fn string_at(text: &[u8], at: usize) -> Reading
-    requires { ⌜ at ≤ length (now text) ⌝ }
-    ensures { λ r. ⌜ ReadingIn (naming aString) (now (text .entry)) at r ⌝ }
-{
-    match name_at(text, at) {
-        Naming::Named(end, name) => Reading {
-            end,
-            what: What::Text(name),
-        },
-        Naming::Cut(end) => Reading {
-            end,
-            what: What::Bad,
-        },
-    }
-}
-
-// "\nx \n(xx .. with + or - before the name to step first": what follows the n.
-fn register_at(text: &[u8], at: usize) -> Reading
-    requires { ⌜ at ≤ length (now text) ⌝ }
-    ensures { λ r. ⌜ ReadingIn numbering (now (text .entry)) at r ⌝ }
-{
-    if text.len() <= at {
-        return Reading {
-            end: at,
-            what: What::Bad,
-        };
-    }
-    let sign = text[at];
-    if sign == b'+' {
-        return number_at(text, at + 1, Turn::Up);
-    }
-    if sign == b'-' {
-        return number_at(text, at + 1, Turn::Down);
-    }
-    number_at(text, at, Turn::Still)
-}
-
-// "\$1 to \$9": what follows the $.
-fn argument_at(text: &[u8], at: usize) -> Reading
-    requires { ⌜ at ≤ length (now text) ⌝ }
-    ensures { λ r. ⌜ ReadingIn argument (now (text .entry)) at r ⌝ }
-{
-    if text.len() <= at {
-        return Reading {
-            end: at,
-            what: What::Bad,
-        };
-    }
-    let digit = text[at];
-    if digit < b'1' {
-        return Reading {
-            end: at + 1,
-            what: What::Bad,
-        };
-    }
-    if b'9' < digit {
-        return Reading {
-            end: at + 1,
-            what: What::Bad,
-        };
-    }
-    let k = (digit - b'1') as usize;
-    Reading {
-        end: at + 1,
-        what: What::Gives(k),
-    }
-}
-
-// What follows a backslash outside copy mode: "\\ and \e print a backslash, \- a minus, \& a mark .., backslash-space a
-// fixed blank", and those that act.
-fn plain_at(text: &[u8], at: usize) -> Reading
-    requires { ⌜ at ≤ length (now text) ⌝ }
-    ensures { λ r. ⌜ ReadingIs Plain slash (lone Plain) (now (text .entry)) at r ⌝ }
-{
-    if text.len() <= at {
-        return Reading {
-            end: at,
-            what: What::Bad,
-        };
-    }
-    let next = at + 1;
-    match text[at] {
-        b'\\' => Reading {
-            end: next,
-            what: What::Writes(92),
-        },
-        b'e' => Reading {
-            end: next,
-            what: What::Writes(92),
-        },
-        b'-' => Reading {
-            end: next,
-            what: What::Writes(45),
-        },
-        b'&' => Reading {
-            end: next,
-            what: What::Writes(2),
-        },
-        b' ' => Reading {
-            end: next,
-            what: What::Writes(3),
-        },
-        b'"' => Reading {
-            end: next,
-            what: What::Ends,
-        },
-        b'n' => register_at(text, next),
-        b'*' => string_at(text, next),
-        b'$' => argument_at(text, next),
-        _ => Reading {
-            end: next,
-            what: What::Bad,
-        },
-    }
-}
-
-// What follows a backslash in copy mode: "\\ becomes \, \. becomes a period, \n \* \$ \" act; any other, and a lone
-// backslash at the end too, stays".
-fn copy_at(text: &[u8], at: usize) -> Reading
-    requires { ⌜ at ≤ length (now text) ⌝ }
-    ensures { λ r. ⌜ ReadingIs Copy slash (lone Copy) (now (text .entry)) at r ⌝ }
-{
-    if text.len() <= at {
-        return Reading {
-            end: at,
-            what: What::Writes(92),
-        };
-    }
-    let next = at + 1;
-    let other = text[at];
-    match other {
-        b'\\' => Reading {
-            end: next,
-            what: What::Writes(92),
-        },
-        b'.' => Reading {
-            end: next,
-            what: What::Writes(46),
-        },
-        b'"' => Reading {
-            end: next,
-            what: What::Ends,
-        },
-        b'n' => register_at(text, next),
-        b'*' => string_at(text, next),
-        b'$' => argument_at(text, next),
-        _ => Reading {
-            end: next,
-            what: What::Keeps(other),
-        },
-    }
-}
-
-// The escape whose backslash stands before a place.
-fn escape_at(text: &[u8], at: usize, mode: Mode) -> Reading
-    requires { ⌜ at ≤ length (now text) ⌝ }
-    ensures { λ r. ⌜ ReadingIs mode slash (lone mode) (now (text .entry)) at r ⌝ }
-{
-    match mode {
-        Mode::Plain => plain_at(text, at),
-        Mode::Copy => copy_at(text, at),
-    }
-}
-
-// The place after what was written, or no room for all of it.
-pub enum Wrote {
-    To(usize),
-    Full,
-}
-
-fn put_byte(byte: u8, out: &mut [u8; 512], written: usize, limit: usize) -> Wrote
-    requires { ⌜ Room (now out) written limit ⌝ }
-    ensures { λ r. ⌜ WroteTo r (byte ∷ []) (now (out .entry)) written limit (now (out .exit)) ⌝ }
-{
-    if limit <= written {
-        return Wrote::Full;
-    }
-    out[written] = byte;
-    Wrote::To(written + 1)
-}
-
-// A backslash and a byte.
-fn put_kept(byte: u8, out: &mut [u8; 512], written: usize, limit: usize) -> Wrote
-    requires { ⌜ Room (now out) written limit ⌝ }
-    ensures { λ r. ⌜ WroteTo r (92 ∷ byte ∷ []) (now (out .entry)) written limit (now (out .exit)) ⌝ }
-{
-    let room = limit - written;
-    if room < 2 {
-        return Wrote::Full;
-    }
-    out[written] = b'\\';
-    let second = written + 1;
-    out[second] = byte;
-    Wrote::To(second + 1)
-}
-
-// All of the bytes, if they have room.
-pub fn copy_bytes(bytes: &[u8], out: &mut [u8; 512], written: usize, limit: usize) -> Wrote
-    requires { ⌜ Room (now out) written limit ⌝ }
-    ensures { λ r. ⌜ WroteTo r (now (bytes .entry)) (now (out .entry)) written limit (now (out .exit)) ⌝ }
-{
-    let room = limit - written;
-    if room < bytes.len() {
-        return Wrote::Full;
-    }
-    let mut n = written;
-    let mut i = 0;
-    while i < bytes.len() {
-        let byte = bytes[i];
-        out[n] = byte;
-        n += 1;
-        i += 1;
-    }
-    Wrote::To(n)
-}
-
-// "There \$, and ds after an if, write backslash, mark and fixed blank as \e, \& and backslash-space"
-fn put_escaped(byte: u8, out: &mut [u8; 512], written: usize, limit: usize) -> Wrote
-    requires { ⌜ Room (now out) written limit ⌝ }
-    ensures { λ r. ⌜ WroteTo r (escaped (byte ∷ [])) (now (out .entry)) written limit (now (out .exit)) ⌝ }
-{
-    match byte {
-        92 => put_kept(b'e', &mut *out, written, limit),
-        2 => put_kept(b'&', &mut *out, written, limit),
-        3 => put_kept(b' ', &mut *out, written, limit),
-        _ => put_byte(byte, &mut *out, written, limit),
-    }
-}
-
-// All of the bytes with their escapes written back, if they have room.
-pub fn write_back(bytes: &[u8], out: &mut [u8; 512], written: usize, limit: usize) -> Wrote
-    requires { ⌜ Room (now out) written limit ⌝ }
-    ensures { λ r. ⌜ WroteTo r (escaped (now (bytes .entry))) (now (out .entry)) written limit (now (out .exit)) ⌝ }
-{
-    let mut n = written;
-    let mut i = 0;
-    while i < bytes.len() {
-        let byte = bytes[i];
-        match put_escaped(byte, &mut *out, n, limit) {
-            Wrote::To(next) => {
-                n = next;
-            }
-            Wrote::Full => {
-                return Wrote::Full;
-            }
-        }
-        i += 1;
-    }
-    Wrote::To(n)
-}
-
-// A value without its sign; that of the least i32 is no i32.
-fn magnitude(value: i32) -> u32
-    ensures { λ r. ⌜ r ≡ natAbs value ⌝ }
-{
-    let wide = value as i64;
-    if wide < 0 {
-        return (0 - wide) as u32;
-    }
-    wide as u32
-}
-
-// Writes the digits of a value at the end of a buffer, and gives the place of the first.
-fn digits_of(value: u32, digits: &mut [u8; 11]) -> usize
-    requires { ⌜ length (now digits) ≡ 11 ⌝ }
-    ensures { λ r. ⌜ DigitsAt value r (now (digits .exit)) ⌝ }
-{
-    let mut n = value;
-    let mut at: usize = 11;
-    while 10 <= n {
-        at -= 1;
-        digits[at] = b'0' + (n % 10) as u8;
-        n = n / 10;
-    }
-    at -= 1;
-    digits[at] = b'0' + n as u8;
-    at
-}
-
-// "give a register in decimal"
-pub fn write_number(value: i32, out: &mut [u8; 512], written: usize, limit: usize) -> Wrote
-    requires { ⌜ Room (now out) written limit ⌝ }
-    ensures { λ r. ⌜ WroteTo r (decimal value) (now (out .entry)) written limit (now (out .exit)) ⌝ }
-{
-    let mut digits = [0u8; 11];
-    let at = digits_of(magnitude(value), &mut digits);
-    if value < 0 {
-        let sign = at - 1;
-        digits[sign] = b'-';
-        return copy_bytes(&digits[sign..], &mut *out, written, limit);
-    }
-    copy_bytes(&digits[at..], &mut *out, written, limit)
-}
-
-// A place of the text, how many bytes may still be scanned there, and how many are written; or a refusal.
-enum Copied {
-    Upto(usize, usize, usize),
-    Refused(u8),
-}
 
 // The bytes up to a backslash or the end of the text.
 fn copy_plain(
@@ -452,7 +83,7 @@ fn next_escape(
             if text.len() <= i {
                 return Next::Over(rest, n);
             }
-            let reading = escape_at(text, i + 1, mode);
+            let reading = escapes::escape_at(text, i + 1, mode);
             let end = reading.end;
             let what = reading.what;
             let length = end - i;
@@ -500,7 +131,7 @@ fn show_register(
     requires { ⌜ Table (now firsts) (now seconds) (now values) (now steps) count × Room (now out) written limit ⌝ }
     ensures { λ r. ⌜ ShownTo r shown (now (firsts .entry)) (now (seconds .entry)) (now (values .entry)) (now (steps .entry)) count turn name (now (out .entry)) written limit (now (out .exit)) (now (values .exit)) ⌝ }
 {
-    match registers::refer(
+    match references::refer(
         firsts,
         seconds,
         &mut *values,
@@ -510,7 +141,7 @@ fn show_register(
         turn,
         name,
     ) {
-        Referred::Is(value) => wrote_as(write_number(value, &mut *out, written, limit)),
+        Referred::Is(value) => wrote_as(copying::write_number(value, &mut *out, written, limit)),
         Referred::Bad => Acted::Refused(6),
         Referred::ReadOnly => Acted::Refused(7),
     }
@@ -585,8 +216,8 @@ fn give_argument(
     let end = ends[k] as usize;
     let argument = &arguments[begin..end];
     match mode {
-        Mode::Plain => copy_bytes(argument, &mut *out, written, limit),
-        Mode::Copy => write_back(argument, &mut *out, written, limit),
+        Mode::Plain => copying::copy_bytes(argument, &mut *out, written, limit),
+        Mode::Copy => copying::write_back(argument, &mut *out, written, limit),
     }
 }
 
@@ -618,8 +249,8 @@ fn act(
     ensures { λ r. ⌜ ActsTo r (around shown (now (store .entry)) (now («text_firsts» .entry)) (now («text_seconds» .entry)) (now (kinds .entry)) (now (lengths .entry)) texts (now (arguments .entry)) (now (ends .entry)) given) mode (now (out .entry)) written limit depth (actionIn what) (now (firsts .entry)) (now (seconds .entry)) (now (values .entry)) (now (steps .entry)) count (now (out .exit)) (now (values .exit)) ⌝ }
 {
     match what {
-        What::Writes(byte) => wrote_as(put_byte(byte, &mut *out, written, limit)),
-        What::Keeps(byte) => wrote_as(put_kept(byte, &mut *out, written, limit)),
+        What::Writes(byte) => wrote_as(copying::put_byte(byte, &mut *out, written, limit)),
+        What::Keeps(byte) => wrote_as(copying::put_kept(byte, &mut *out, written, limit)),
         What::Number(turn, name) => show_register(
             firsts,
             seconds,
@@ -867,144 +498,4 @@ pub fn expand(
         Progress::Ended(n) => Scanned::Line(n),
         Progress::Refused(k) => Scanned::Refused(k),
     }
-}
-
-// Where a line goes on, and how many bytes have been written.
-pub struct Cut {
-    pub at: usize,
-    pub written: usize,
-}
-
-// The next argument of a line, if it has one.
-pub enum Argument {
-    There(Cut),
-    Nothing,
-}
-
-// The place behind the spaces that stand at a place.
-pub fn skip_spaces(line: &[u8], at: usize) -> usize
-    requires { ⌜ at ≤ length (now line) ⌝ }
-    ensures { λ r. ⌜ Spaces (now (line .entry)) at r ⌝ }
-{
-    let mut i = at;
-    while i < line.len() {
-        if line[i] != b' ' {
-            return i;
-        }
-        i += 1;
-    }
-    i
-}
-
-// The place of the first space from a place on, or the end of the line.
-pub fn word_end(line: &[u8], at: usize) -> usize
-    requires { ⌜ at ≤ length (now line) ⌝ }
-    ensures { λ r. ⌜ WordAt (now (line .entry)) at r ⌝ }
-{
-    let mut i = at;
-    while i < line.len() {
-        if line[i] == b' ' {
-            return i;
-        }
-        i += 1;
-    }
-    i
-}
-
-// Whether a double quote stands at a place.
-fn quote_at(line: &[u8], at: usize) -> bool
-    ensures { λ r. ⌜ r ≡ quoteAt (now (line .entry)) at ⌝ }
-{
-    if at < line.len() {
-        line[at] == b'"'
-    } else {
-        false
-    }
-}
-
-// The argument that begins here without a quote.
-fn bare_argument(line: &[u8], at: usize, out: &mut [u8; 512], written: usize) -> Cut
-    requires { ⌜ Unread (now line) at (now out) written ⌝ }
-    ensures { λ r. ⌜ Parted bare (now (line .entry)) at (now (out .entry)) written r (now (out .exit)) ⌝ }
-{
-    let mut i = at;
-    let mut w = written;
-    while i < line.len() {
-        let b = line[i];
-        if b == b' ' {
-            return Cut { at: i, written: w };
-        }
-        out[w] = b;
-        w += 1;
-        i += 1;
-    }
-    Cut { at: i, written: w }
-}
-
-// The argument behind a quote, up to the next lone one; two quotes inside are one.
-fn quoted_argument(line: &[u8], at: usize, out: &mut [u8; 512], written: usize) -> Cut
-    requires { ⌜ Unread (now line) at (now out) written ⌝ }
-    ensures { λ r. ⌜ Parted quoted (now (line .entry)) at (now (out .entry)) written r (now (out .exit)) ⌝ }
-{
-    let mut i = at;
-    let mut w = written;
-    while i < line.len() {
-        let b = line[i];
-        if b != b'"' {
-            out[w] = b;
-            w += 1;
-            i += 1;
-            continue;
-        }
-        if quote_at(line, i + 1) {
-            out[w] = b;
-            w += 1;
-            i += 2;
-            continue;
-        }
-        return Cut {
-            at: i + 1,
-            written: w,
-        };
-    }
-    Cut { at: i, written: w }
-}
-
-// The next argument of a line, written behind what is written.
-pub fn next_argument(line: &[u8], at: usize, out: &mut [u8; 512], written: usize) -> Argument
-    requires { ⌜ Unread (now line) at (now out) written ⌝ }
-    ensures { λ r. ⌜ Takes (now (line .entry)) at (now (out .entry)) written r (now (out .exit)) ⌝ }
-{
-    let i = skip_spaces(line, at);
-    if i == line.len() {
-        return Argument::Nothing;
-    }
-    if line[i] == b'"' {
-        return Argument::There(quoted_argument(line, i + 1, &mut *out, written));
-    }
-    Argument::There(bare_argument(line, i, &mut *out, written))
-}
-
-// The arguments of a line, "past nine are dropped": their bytes one after the other, where each ends, and how many there are.
-pub fn arguments(line: &[u8], at: usize, out: &mut [u8; 512], ends: &mut [u16; 9]) -> usize
-    requires { ⌜ Unread (now line) at (now out) 0 × (length (now ends) ≡ 9) ⌝ }
-    ensures { λ r. ⌜ PartedAll (now (line .entry)) at r (now (out .exit)) (now (ends .exit)) ⌝ }
-{
-    let mut count = 0;
-    let mut i = at;
-    let mut w = 0;
-    while count < 9 {
-        match next_argument(line, i, &mut *out, w) {
-            Argument::There(cut) => {
-                ends[count] = cut.written as u16;
-                w = cut.written;
-                i = cut.at;
-                count += 1;
-            }
-            Argument::Nothing => {
-                return count;
-            }
-        }
-    }
-    count
 }

@@ -4,7 +4,7 @@ ghost use Prim.Native.Nat.{_≤_};
 ghost use lib.ListN.{length};
 use libc::STDIN_FILENO;
 use libc::STDOUT_FILENO;
-use registers::Shown;
+use references::Shown;
 use report::text;
 use rules::Mode;
 use scan::Scanned;

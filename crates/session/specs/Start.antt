@@ -12,7 +12,7 @@ use Rattle.rules.specs.Printers.{tenToTheInch}
 use Rattle.rules.specs.State.{start}
 use Rattle.rules.specs.Pages.{pages}
 use Rattle.limits.specs.Within.{Within, ten-within}
-use Rattle.settings.specs.declared.Setting.{Setting}
+use Rattle.lengths.specs.declared.Setting.{Setting}
 use Rattle.settings.specs.declared.Layout.{Layout}
 use Rattle.settings.specs.declared.Total.the-variants as total
 use Rattle.settings.specs.Layouts.{layoutOf, Limits}

@@ -1,12 +1,12 @@
 // A session: calls that take bytes of a source and write bytes of its pages.
 use dealing::Opening;
 use dealing::Status;
+use lengths::Setting;
 use measure::Cells;
 use measure::Rows;
 use page::Page;
 use rules::Name;
 use settings::Layout;
-use settings::Setting;
 use settings::Total;
 use source::Source;
 use stream::Answer;

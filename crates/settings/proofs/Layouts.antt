@@ -19,7 +19,7 @@ use Rattle.rules.specs.declared.Unbreaking.{Unbreaking}
 use Rattle.settings.specs.declared.Printer.{Printer}
 use Rattle.settings.specs.declared.Layout.{Layout}
 use Rattle.settings.specs.declared.NewLayout.{NewLayout}
-use Rattle.settings.specs.Views.{printer, settingIn, pageLengthIn}
+use Rattle.lengths.specs.Views.{printer, settingIn, pageLengthIn}
 use Rattle.settings.specs.Layouts.{printerOf, layoutOf, Limits, Laid, newLayoutIs, Ready, actedOf, Acted, performedOf, Performed}
 use Rattle.settings.specs.LayoutLaws.{acted-limits, acted-page, performed-limits, performed-above}
 

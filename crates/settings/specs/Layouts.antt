@@ -25,7 +25,7 @@ use Rattle.settings.specs.declared.Total.the-variants as total
 use Rattle.settings.specs.declared.Layout.{Layout}
 use Rattle.settings.specs.declared.NewLayout.{NewLayout}
 use Rattle.settings.specs.declared.NewLayout.the-variants as new-layout
-use Rattle.settings.specs.Views.{settingOf}
+use Rattle.lengths.specs.Views.{settingOf}
 
 -- the rules' printer
 abbrev pub printerOf : Printer → printers.Printer

@@ -1,4 +1,2 @@
-pub mod Views
-pub mod ViewLaws
 pub mod Layouts
 pub mod LayoutLaws

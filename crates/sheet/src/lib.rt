@@ -90,7 +90,7 @@ pub fn break_line(
 {
     let offset = layout.offset.now;
     let length = layout.page;
-    let written = fill::broken_row(cells, collected.length, offset, collected.indent, &mut *row);
+    let written = rows::broken_row(cells, collected.length, offset, collected.indent, &mut *row);
     let landed = springs::down(
         1,
         page,
@@ -130,7 +130,7 @@ pub fn blank(
     ensures { λ r. ⌜ Worked (λ ts s. rule.blank rows (heldOf ts held (now (bytes .entry))) s) (now (firsts .entry)) (now (seconds .entry)) texts planted (desk layout page collected (now (cells .entry)) stack (now (arena .entry)) (now (ends .entry))) (r .way) (r .written) (desk (r .layout) (r .page) (r .collected) (now (cells .entry)) (r .stack) (now (arena .exit)) (now (ends .exit))) (now (row .exit)) ⌝ }
 {
     let length = layout.page;
-    let written = fill::blank_rows(measure::rows_down(rows), &mut *row);
+    let written = rows::blank_rows(measure::rows_down(rows), &mut *row);
     let landed = springs::down(
         rows,
         page,

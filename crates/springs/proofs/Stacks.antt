@@ -19,7 +19,7 @@ use Rattle.rules.specs.TextLaws.{found-first, found-later}
 use Rattle.rules.specs.State.{State, Item, reading, refuse, withStack}
 use Rattle.rules.specs.Rows.{linesOf, theEnd, pushIf, call, userText, springText}
 use Rattle.texts.specs.Table.{textsOf, Lies}
-use Rattle.scan.specs.Around.{cutAt, argumentsOf, Arguments}
+use Rattle.arguments.specs.Around.{cutAt, argumentsOf, Arguments}
 use Rattle.input.specs.declared.What.{What}
 use Rattle.input.specs.declared.What.the-variants as what
 use Rattle.input.specs.declared.Stack.{Stack}

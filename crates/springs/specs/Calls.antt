@@ -15,7 +15,7 @@ use Rattle.rules.specs.Settings.{withPageLength}
 use Rattle.rules.specs.State.{State, Item, input, tables, close, refuse, withStack}
 use Rattle.rules.specs.Rows.{call, userText, springText}
 use Rattle.texts.specs.Table.{textsOf, Lies}
-use Rattle.scan.specs.Around.{argumentsOf}
+use Rattle.arguments.specs.Around.{argumentsOf}
 use Rattle.traps.specs.declared.Planted.{Planted}
 use Rattle.traps.specs.Table.{plantedOf}
 use Rattle.input.specs.declared.Stack.{Stack}

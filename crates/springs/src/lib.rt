@@ -14,7 +14,7 @@ ghost use Prim.Native.Nat.{_≤_};
 ghost use lib.ListN.{length};
 ghost use Rattle.measure.specs.Counts.{downOf};
 ghost use Rattle.rules.specs.Rows as rule;
-ghost use Rattle.scan.specs.Around.{Arguments};
+ghost use Rattle.arguments.specs.Around.{Arguments};
 ghost use Rattle.texts.specs.Table.{Names};
 ghost use Rattle.traps.specs.Table.{foundIs, plantedOf};
 ghost use Rattle.page.specs.Landing.{Sound, landingIs};

@@ -1,20 +1,20 @@
 // Reads operations on the registers and the traps, one to a line, and writes an answer to each: n NAME VALUE STEP sets a register, i NAME, + NAME and - NAME
 // refer to one, h PLACE NAME plants a trap, h PLACE removes one, x LENGTH ROW shows the trap at a row and the nearest below. The file stdout was answered by
 // the second formatter.
+use arithmetic::Value;
 use libc::STDIN_FILENO;
 use libc::STDOUT_FILENO;
 use measure::Pitch;
-use number::Down;
-use number::Value;
+use references::Referred;
+use references::Shown;
+use references::Which;
 use registers::Found;
-use registers::Referred;
-use registers::Shown;
 use registers::Stored;
-use registers::Which;
 use report::text;
 use report::wide;
 use rules::Name;
 use rules::Turn;
+use scales::Down;
 use traps::Planted;
 ghost use Prim.Native.Nat.{_≤_};
 ghost use lib.ListN.{length};
@@ -95,7 +95,7 @@ fn unsigned(bytes: &[u8]) -> bool {
     if byte_at(bytes, 0, b' ') < bytes.len() {
         return false;
     }
-    if number::signed(bytes) {
+    if scales::signed(bytes) {
         return false;
     }
     true
@@ -149,7 +149,7 @@ fn put_judged(
     requires { ⌜ Table (now firsts) (now seconds) (now values) (now steps) count ⌝ }
     ensures { λ r. ⌜ Table (now (firsts .exit)) (now (seconds .exit)) (now (values .exit)) (now (steps .exit)) r ⌝ }
 {
-    let Which::Other = registers::predefined(name) else {
+    let Which::Other = references::predefined(name) else {
         text(b"refused 7\n");
         return count;
     };
@@ -208,7 +208,7 @@ fn put_value(
         return count;
     }
     let step = step_of(&*firsts, &*seconds, &*values, &*steps, count, name);
-    let read = number::units(value, printer());
+    let read = scales::units(value, printer());
     put_judged(
         &mut *firsts,
         &mut *seconds,
@@ -244,8 +244,8 @@ fn put_both(
         return count;
     }
     let pitch = printer();
-    let read = number::units(value, pitch);
-    let by = number::units(step, pitch);
+    let read = scales::units(value, pitch);
+    let by = scales::units(step, pitch);
     put_judged(
         &mut *firsts,
         &mut *seconds,
@@ -348,7 +348,7 @@ fn refer(
         indent: 0,
         page_length: 2640,
     };
-    match registers::refer(
+    match references::refer(
         firsts,
         seconds,
         &mut *values,
@@ -483,7 +483,7 @@ fn plant(p: Planted, place: &[u8], name: Name) -> Planted
     requires { ⌜ Within p ⌝ }
     ensures { λ r. ⌜ Within r ⌝ }
 {
-    let Down::Are(rows) = number::rows(place, printer()) else {
+    let Down::Are(rows) = scales::rows(place, printer()) else {
         unknown();
         return p;
     };
@@ -495,7 +495,7 @@ fn remove(p: Planted, place: &[u8]) -> Planted
     requires { ⌜ Within p ⌝ }
     ensures { λ r. ⌜ Within r ⌝ }
 {
-    let Down::Are(rows) = number::rows(place, printer()) else {
+    let Down::Are(rows) = scales::rows(place, printer()) else {
         unknown();
         return p;
     };
@@ -532,14 +532,14 @@ fn show_name(name: Name) {
 fn show(p: Planted, page: usize, row: usize)
     requires { ⌜ Within p ⌝ }
 {
-    match traps::seen_at(p, page, row) {
+    match nearest::seen_at(p, page, row) {
         traps::Found::Text(name) => show_name(name),
         traps::Found::Nothing => text(b"none"),
     }
     text(b" ");
     io::print_decimal(
         STDOUT_FILENO,
-        traps::nearest_lent(p, page, row, page) as u64,
+        nearest::nearest_lent(p, page, row, page) as u64,
     );
     text(b"\n");
 }
@@ -585,11 +585,11 @@ fn show_line(p: Planted, rest: &[u8])
         unknown();
         return;
     }
-    let Value::Is(length) = number::units(&rest[0..end], pitch) else {
+    let Value::Is(length) = scales::units(&rest[0..end], pitch) else {
         unknown();
         return;
     };
-    let Value::Is(row) = number::units(&rest[end + 1..], pitch) else {
+    let Value::Is(row) = scales::units(&rest[end + 1..], pitch) else {
         unknown();
         return;
     };

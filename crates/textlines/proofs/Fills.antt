@@ -21,8 +21,8 @@ use Rattle.rules.specs.Rows.{down, goes, break, skip, startPage}
 use Rattle.rules.specs.declared.Breaking.the-variants.{Sp}
 use Rattle.rules.specs.declared.Trap.{Trap}
 use Rattle.rules.specs.TextLines.{othersOf, nextGap, filled, fillFrom, fill, gapHere, stands, fills, blank, textWay, counted, Way, wayOf, asItStands, blankFrom, textLine}
-use Rattle.fill.specs.Parts.{part, Places}
-use Rattle.fill.specs.Words.{isNone}
+use Rattle.words.specs.Parts.{part, Places}
+use Rattle.words.specs.Words.{isNone}
 use Rattle.fill.specs.Filled.{lineOf, placedOf, PlacedTo}
 use Rattle.fill.specs.declared.Placed as declared
 use Rattle.fill.specs.declared.Overflow.{Overflow}

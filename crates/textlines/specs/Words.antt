@@ -8,10 +8,10 @@ use Rattle.rules.specs.Bytes.{fixedBlank}
 use Rattle.rules.specs.Filling.{Word, word, leads}
 use Rattle.rules.specs.Filling as rule
 use Rattle.rules.specs.TextLines.{nextGap, Way, breaks, stands, fills, breaksIf}
-use Rattle.fill.specs.Parts.{Places}
+use Rattle.words.specs.Parts.{Places}
 use Rattle.fill.specs.Filled.{Line}
 use Rattle.fill.specs.declared.Overflow.{Overflow}
-use Rattle.fill.specs.declared.WordAt.{WordAt}
+use Rattle.words.specs.declared.WordAt.{WordAt}
 use Rattle.fill.specs.declared.Placed.{Placed}
 use Rattle.fill.specs.declared.Placed.the-variants.{All, Full}
 use Rattle.settings.specs.declared.Layout.{Layout}

@@ -1,8 +1,6 @@
 // What a text line does: its words are filled, or it is written as it stands.
-use fill::Next;
 use fill::Overflow;
 use fill::Placed;
-use fill::WordAt;
 use input::Stack;
 use input::What;
 use page::Page;
@@ -13,6 +11,8 @@ use sheet::Outcome;
 use springs::Held;
 use springs::Way;
 use traps::Planted;
+use words::Next;
+use words::WordAt;
 ghost use mathlib.Core.Path.{_≡_};
 ghost use mathlib.Core.Bool.{false};
 ghost use mathlib.Core.List.{_∷_};
@@ -22,7 +22,7 @@ ghost use Rattle.measure.specs.Counts.{acrossOf};
 ghost use Rattle.rules.specs.Filling.{words, leads};
 ghost use Rattle.rules.specs.TextLines as rule;
 ghost use Rattle.rules.specs.TextLines.{stands, fills, breaks};
-ghost use Rattle.fill.specs.Parts.{part, Places};
+ghost use Rattle.words.specs.Parts.{part, Places};
 ghost use Rattle.fill.specs.Filled.{placedOf, lineOf};
 ghost use Rattle.settings.specs.Layouts.{layoutOf};
 ghost use Rattle.fill.specs.declared.Placed.the-variants.{Full};
@@ -42,7 +42,7 @@ fn others_held(line: &[u8; 512], at: usize, to: usize, gap: u8) -> Held
     requires { ⌜ Places (now line) at to ⌝ }
     ensures { λ r. ⌜ r ≡ othersHeld (words (part (now (line .entry)) at to)) gap ⌝ }
 {
-    if fill::is_blank(line, at, to) {
+    if words::is_blank(line, at, to) {
         return Held::Nothing;
     }
     Held::Item(What::Others(gap))
@@ -53,7 +53,7 @@ fn gap_behind(line: &[u8; 512], at: usize, to: usize, gap: u8) -> usize
     requires { ⌜ Places (now line) at to ⌝ }
     ensures { λ r. ⌜ r ≡ gapBehind (words (part (now (line .entry)) at to)) gap ⌝ }
 {
-    if fill::is_blank(line, at, to) {
+    if words::is_blank(line, at, to) {
         return gap as usize;
     }
     1
@@ -118,7 +118,7 @@ fn overflow(
     let room = collected.room;
     let indent = collected.indent;
     let at = o.to;
-    let written = fill::full_row(
+    let written = rows::full_row(
         &*cells,
         o.length,
         room,
@@ -278,7 +278,7 @@ pub fn fill_rest(
     requires { ⌜ Begins planted (desk layout page collected (now cells) stack (now arena) (now ends)) (now line) (now row) (now firsts) (now seconds) texts × Places (now line) 0 to × (gap ≤ 2) ⌝ }
     ensures { λ r. ⌜ Worked (λ ts s. rule.fill (words (part (now (line .entry)) 0 to)) gap s) (now (firsts .entry)) (now (seconds .entry)) texts planted (desk layout page collected (now (cells .entry)) stack (now (arena .entry)) (now (ends .entry))) (r .way) (r .written) (desk (r .layout) (r .page) (r .collected) (now (cells .exit)) (r .stack) (now (arena .exit)) (now (ends .exit))) (now (row .exit)) ⌝ }
 {
-    let Next::Found(found) = fill::next_word(line, 0, to) else {
+    let Next::Found(found) = words::next_word(line, 0, to) else {
         return unchanged(layout, page, collected, stack);
     };
     if collected.there {
@@ -363,7 +363,7 @@ fn stand(
     let centred = 0 < layout.centred;
     let indent = settings::indent_now(layout);
     let room = settings::room_now(layout);
-    let written = fill::standing_row(line, 0, to, centred, room, offset, indent, &mut *row);
+    let written = rows::standing_row(line, 0, to, centred, room, offset, indent, &mut *row);
     let counted = settings::counted(layout);
     let rows = counted.page;
     let none = slice(line, 0, 0);
@@ -404,10 +404,10 @@ fn fill_line(
     requires { ⌜ Begins planted (desk layout page collected (now cells) stack (now arena) (now ends)) (now line) (now row) (now firsts) (now seconds) texts × Places (now line) 0 to × Follows (collected .there) (words (part (now line) 0 to)) ⌝ }
     ensures { λ r. ⌜ Worked (λ ts s. rule.textWay fills (words (part (now (line .entry)) 0 to)) (part (now (line .entry)) 0 to) s) (now (firsts .entry)) (now (seconds .entry)) texts planted (desk layout page collected (now (cells .entry)) stack (now (arena .entry)) (now (ends .entry))) (r .way) (r .written) (desk (r .layout) (r .page) (r .collected) (now (cells .exit)) (r .stack) (now (arena .exit)) (now (ends .exit))) (now (row .exit)) ⌝ }
 {
-    let Next::Found(found) = fill::next_word(line, 0, to) else {
+    let Next::Found(found) = words::next_word(line, 0, to) else {
         return unchanged(layout, page, collected, stack);
     };
-    let gap = fill::gap_after(line, 0, to) as u8;
+    let gap = words::gap_after(line, 0, to) as u8;
     if collected.there {
         let room = collected.room;
         let next = collected.next;
@@ -603,7 +603,7 @@ fn word_line(
         );
     }
     if collected.there {
-        if fill::leads(line, 0, to) {
+        if words::leads(line, 0, to) {
             return break_first(
                 line,
                 to,
@@ -695,7 +695,7 @@ pub fn text_line(
             texts,
         );
     }
-    if fill::is_blank(line, 0, to) {
+    if words::is_blank(line, 0, to) {
         return blank_line(
             layout,
             page,

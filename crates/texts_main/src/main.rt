@@ -105,7 +105,7 @@ fn define(
     requires { ⌜ Lies (now store) (now firsts) (now seconds) (now kinds) (now lengths) count ⌝ }
     ensures { λ r. ⌜ Lies (now (store .exit)) (now (firsts .exit)) (now (seconds .exit)) (now (kinds .exit)) (now (lengths .exit)) r ⌝ }
 {
-    match texts::define_string(
+    match definitions::define_string(
         store,
         &mut *firsts,
         &mut *seconds,
@@ -138,7 +138,7 @@ fn remove(
     requires { ⌜ Lies (now store) (now firsts) (now seconds) (now kinds) (now lengths) count ⌝ }
     ensures { λ r. ⌜ Lies (now (store .exit)) (now (firsts .exit)) (now (seconds .exit)) (now (kinds .exit)) (now (lengths .exit)) r ⌝ }
 {
-    let n = texts::remove(
+    let n = definitions::remove(
         store,
         &mut *firsts,
         &mut *seconds,
@@ -163,7 +163,7 @@ fn begin(
     requires { ⌜ Lies (now store) (now firsts) (now seconds) (now kinds) (now lengths) count ⌝ }
     ensures { λ r. ⌜ Ready (now (store .exit)) (now (firsts .exit)) (now (seconds .exit)) (now (kinds .exit)) (now (lengths .exit)) r ⌝ }
 {
-    match texts::open_macro(
+    match definitions::open_macro(
         store,
         &mut *firsts,
         &mut *seconds,
@@ -207,7 +207,7 @@ fn keep(
     requires { ⌜ (Lies (now store) (now firsts) (now seconds) (now kinds) (now lengths) count) × Opens (now store) (now lengths) count opened ⌝ }
     ensures { λ r. ⌜ Ready (now (store .exit)) (now (firsts .entry)) (now (seconds .entry)) (now (kinds .entry)) (now (lengths .entry)) r ⌝ }
 {
-    match texts::keep_line(store, lengths, count, opened, line) {
+    match definitions::keep_line(store, lengths, count, opened, line) {
         Kept::Longer(n) => {
             ok(lengths, count);
             Work {
@@ -242,7 +242,7 @@ fn close(
     requires { ⌜ (Lies (now store) (now firsts) (now seconds) (now kinds) (now lengths) count) × Opens (now store) (now lengths) count opened ⌝ }
     ensures { λ r. ⌜ Ready (now (store .entry)) (now (firsts .exit)) (now (seconds .exit)) (now (kinds .exit)) (now (lengths .exit)) r ⌝ }
 {
-    let n = texts::close_macro(
+    let n = definitions::close_macro(
         store,
         &mut *firsts,
         &mut *seconds,

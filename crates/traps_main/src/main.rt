@@ -25,7 +25,7 @@ fn row(digits: &[u8], place: i32, page: usize) {
     text(digits);
     text(b" of ");
     number(page);
-    match traps::row_of(place, page) {
+    match nearest::row_of(place, page) {
         Row::At(n) => {
             text(b": ");
             number(n);
@@ -43,12 +43,12 @@ fn seen(p: Planted, page: usize, at: usize)
     text(b" of ");
     number(page);
     text(b":");
-    match traps::seen_at(p, page, at) {
+    match nearest::seen_at(p, page, at) {
         Found::Text(name) => letter(name),
         Found::Nothing => text(b" none"),
     }
     text(b", nearest ");
-    number(traps::nearest(p, page, at, page));
+    number(nearest::nearest(p, page, at, page));
     text(b"\n");
 }
 
@@ -60,9 +60,9 @@ fn below(p: Planted, at: usize, best: usize)
     text(b" of 6 or ");
     number(best);
     text(b": ");
-    number(traps::nearest(p, 6, at, best));
+    number(nearest::nearest(p, 6, at, best));
     text(b", lent ");
-    number(traps::nearest_lent(p, 6, at, best));
+    number(nearest::nearest_lent(p, 6, at, best));
     text(b"\n");
 }
 

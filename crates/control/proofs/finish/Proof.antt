@@ -9,7 +9,7 @@ use Rattle.rules.specs.Rows.{goes, refuses}
 use Rattle.rules.specs.TextLines.{textLine}
 use Rattle.rules.specs.ControlLines.{meaningOf, obey}
 use Rattle.settings.specs.Layouts.{printerOf}
-use Rattle.fill.specs.Parts.{part}
+use Rattle.words.specs.Parts.{part}
 use Rattle.springs.specs.declared.Way.the-variants.{On, Refused}
 use Rattle.dealing.specs.Whole.{textsIn, stateIn, OpensIn}
 use Rattle.dealing.specs.WholeLaws.{desk-did, did-as, stay-did}

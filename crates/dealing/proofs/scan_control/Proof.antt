@@ -4,7 +4,7 @@ use lib.ListN.{drop}
 use denote.Ref.{now}
 use borrow.Author.Needs.{needs}
 use Rattle.texts.specs.Table.{textsOf}
-use Rattle.scan.specs.Around.{argumentsOf}
+use Rattle.arguments.specs.Around.{argumentsOf}
 use Rattle.keeping.proofs.Keeps.{all-from}
 use Rattle.settings.specs.Layouts.{printerOf, layoutOf}
 use Rattle.page.specs.Landing.{pageOf}

@@ -5,7 +5,7 @@ use native.Mathlib.Omega.{arith}
 use denote.Ref.{now}
 use lib.Seq.{length-sets}
 use Rattle.rules.specs.FillingLaws.{printed-length}
-use Rattle.fill.specs.Parts.{part}
+use Rattle.words.specs.Parts.{part}
 use Rattle.fill.proofs.Writing.{part-width, begin-cells, begin-length}
 use Rattle.fill.proofs.begin_line.Statement.{statement}
 use Rattle.fill.proofs.begin_line.Tie as tie

@@ -8,7 +8,7 @@ use lib.ListN.{length, length-set}
 use lib.Seq.{sets}
 use Rattle.rules.specs.Filling.{printed}
 use Rattle.rules.specs.FillingLaws.{printed-length}
-use Rattle.fill.specs.Parts.{part}
+use Rattle.words.specs.Parts.{part}
 use Rattle.fill.proofs.Writing.{write-mark, write-byte, count-mark, count-byte, printed-end}
 use Rattle.fill.proofs.put_word.Statement.{statement}
 use Rattle.fill.proofs.put_word.Tie as tie

@@ -6,8 +6,8 @@ use mathlib.Core.Path.{ap₂}
 use mathlib.Core.List.{[]}
 use mathlib.Core.List.{List}
 use Prim.Native.Nat.{ℕ}
-use Rattle.scan.specs.Around.{argumentsOf}
-use Rattle.texts.specs.Lines.{nextLine}
+use Rattle.arguments.specs.Around.{argumentsOf}
+use Rattle.bodies.specs.Lines.{nextLine}
 use Rattle.settings.specs.Layouts.{printerOf}
 use Rattle.input.specs.Frames.{topBytes, topEnds}
 use Rattle.dealing.specs.Statuses.{wholeOf}

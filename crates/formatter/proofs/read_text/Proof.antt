@@ -7,8 +7,8 @@ use mathlib.Core.Option.{Option}
 use mathlib.Core.List.{[], _∷_}
 use Rattle.rules.specs.Texts.{Text}
 use Rattle.rules.specs.Rows.{refuses}
-use Rattle.scan.specs.Around.{Arguments}
-use Rattle.texts.specs.Lines.{nextLine, TopInside}
+use Rattle.arguments.specs.Around.{Arguments}
+use Rattle.bodies.specs.Lines.{nextLine, TopInside}
 use Rattle.settings.specs.Layouts.{printerOf}
 use Rattle.input.specs.declared.What.the-variants as what
 use Rattle.input.specs.declared.Stack.{Stack}

@@ -12,7 +12,7 @@ use Rattle.rules.specs.TextLines.{textLine, fill}
 use Rattle.rules.specs.Acts.{act}
 use Rattle.rules.specs.ControlLines.{meaningOf, obey}
 use Rattle.settings.specs.Layouts.{printerOf}
-use Rattle.fill.specs.Parts.{part}
+use Rattle.words.specs.Parts.{part}
 use Rattle.input.specs.declared.What.the-variants as what
 use Rattle.springs.specs.declared.Way.the-variants.{On}
 use Rattle.springs.specs.Held.{PlainItem}

@@ -3,7 +3,7 @@ use native.Mathlib.Omega.{arith}
 use lib.ListN.{drop}
 use denote.Ref.{now}
 use borrow.Author.Needs.{needs}
-use Rattle.settings.specs.declared.Condition.the-variants.{Holds, Fails, Malformed}
+use Rattle.conditions.specs.declared.Condition.the-variants.{Holds, Fails, Malformed}
 use Rattle.sheet.specs.Desk.{desk}
 use Rattle.sheet.proofs.Work.{stays}
 use Rattle.keeping.proofs.Keeps.{all-from, if-none, if-holds, follows-on}

@@ -2,7 +2,7 @@
 use mathlib.Core.Path.{sym}
 use native.Mathlib.Omega.{arith}
 use denote.Ref.{now}
-use Rattle.scan.proofs.Buffers.{escaped-slash, escaped-mark, escaped-blank, escaped-other}
+use Rattle.copying.proofs.Buffers.{escaped-slash, escaped-mark, escaped-blank, escaped-other}
 use Rattle.lines.proofs.BackLaws.{put-none, put-one, put-as}
 use borrow.Author.Needs.{needs}
 use Rattle.lines.proofs.put_back.Statement.{statement}

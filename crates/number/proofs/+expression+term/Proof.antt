@@ -13,11 +13,11 @@ use borrow.Fn.Kinds.{In}
 use borrow.Fn.PlainCycle.{Measures, is, falls, and}
 use Rattle.measure.specs.RoundingLaws.{abs-neg}
 use Rattle.rules.specs.Numbers.{operate as operateOf}
-use Rattle.number.specs.Values.{judgedOf}
+use Rattle.arithmetic.specs.Values.{judgedOf}
 use Rattle.number.specs.Meaning.{TermIs, ExpressionIs}
 use Rattle.number.specs.declared.Joint.the-variants.{By, None}
 use Rattle.number.specs.declared.Read.the-variants.{Value, Refused}
-use Rattle.number.proofs.Laws.{small-32}
+use Rattle.arithmetic.proofs.Laws.{small-32}
 use Rattle.number.proofs.Cases.{JointIs, From, cut-first, start, done, cut, refused, turn, plain, minus-cut, minus-is, plus-is, deep, inner, shut, unshut, small}
 use Rattle.number.proofs.expression.Reads as expression
 use Rattle.number.proofs.expression.Kinds as expression-kinds
@@ -27,7 +27,7 @@ use Rattle.number.proofs.term.Kinds as term-kinds
 use Rattle.number.proofs.+expression+term.Lts-term as term-lts
 use Rattle.number.proofs.byte_at.Reads as byte-at-reads
 use Rattle.number.proofs.literal.Reads as literal-reads
-use Rattle.number.proofs.operate.Reads as operate-reads
+use Rattle.arithmetic.proofs.operate.Reads as operate-reads
 use Rattle.number.proofs.operator_at.Reads as operator-at-reads
 use Rattle.number.proofs.+expression+term.{statement}
 use Rattle.number.proofs.+expression+term.Tie.{close}

@@ -1,6 +1,6 @@
 -- `requests::define` meets its contract: by its first argument. Assumes nothing.
 use borrow.Author.Needs.{needs}
-use Rattle.scan.specs.Parting.{Took}
+use Rattle.arguments.specs.Parting.{Took}
 use Rattle.requests.proofs.TextLaws.{text-short, part-fits, defines-there, defines-none}
 use Rattle.requests.proofs.define.Statement.{statement}
 use Rattle.requests.proofs.define.Tie as tie

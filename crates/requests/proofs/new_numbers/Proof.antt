@@ -3,7 +3,7 @@ use mathlib.Core.Path.{sym, ap, _∙_}
 use mir.Facts.{toZ-ofZ}
 use mir.Syntax.{w32}
 use borrow.Author.Needs.{sfits-of, needs}
-use Rattle.number.specs.Values.{judgedOf}
+use Rattle.arithmetic.specs.Values.{judgedOf}
 use Rattle.settings.specs.Layouts.{printerOf}
 use Rattle.requests.proofs.RegisterLaws.{both-are, step-bad, new-bad}
 use Rattle.requests.proofs.new_numbers.Statement.{statement}

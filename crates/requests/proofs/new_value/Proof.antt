@@ -2,7 +2,7 @@
 use mathlib.Core.Path.{sym, ap, _∙_}
 use mir.Facts.{toZ-ofZ}
 use borrow.Author.Needs.{sfits-of, needs}
-use Rattle.number.specs.Values.{judgedOf}
+use Rattle.arithmetic.specs.Values.{judgedOf}
 use Rattle.settings.specs.Layouts.{printerOf}
 use Rattle.requests.proofs.RegisterLaws.{value-is, value-bad}
 use Rattle.requests.proofs.new_value.Statement.{statement}

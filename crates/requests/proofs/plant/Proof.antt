@@ -3,7 +3,7 @@ use mathlib.Core.Path.{sym, ap, _∙_}
 use native.Mathlib.Omega.{arith}
 use mir.Facts.{toZ-ofZ}
 use borrow.Author.Needs.{sfits-of, needs}
-use Rattle.number.specs.Values.{downOf}
+use Rattle.scales.specs.Rounded.{downOf}
 use Rattle.settings.specs.Layouts.{printerOf}
 use Rattle.requests.proofs.TrapLaws.{no-row, row-known, row-bad}
 use Rattle.requests.proofs.plant.Statement.{statement}

@@ -5,11 +5,11 @@ use mathlib.Core.Path.{_≡_, refl, sym, ap, _∙_}
 use types.Run.{OneOf, miss}
 use denote.Enum.Declared.{tagOf}
 use borrow.Author.Needs.{needs}
-use Rattle.registers.proofs.Which.{the-type}
-use Rattle.registers.specs.ReadOnly.{readOnlyOf}
-use Rattle.registers.specs.declared.Which.{Which}
+use Rattle.references.proofs.Which.{the-type}
+use Rattle.references.specs.ReadOnly.{readOnlyOf}
+use Rattle.references.specs.declared.Which.{Which}
 use Rattle.rules.specs.Bytes.{isThere}
-use Rattle.registers.specs.declared.Which.the-variants as which
+use Rattle.references.specs.declared.Which.the-variants as which
 use Rattle.requests.proofs.read_only.Statement.{statement}
 use Rattle.requests.proofs.read_only.Tie as tie
 

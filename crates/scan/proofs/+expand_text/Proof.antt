@@ -5,8 +5,8 @@ use native.Mathlib.Omega.{arith}
 use lib.ListN.{length}
 use denote.Ref.{now}
 use borrow.Author.Needs.{needs}
-use Rattle.scan.specs.Readings.{actionIn}
-use Rattle.scan.specs.Around.{around}
+use Rattle.escapes.specs.Readings.{actionIn}
+use Rattle.arguments.specs.Around.{around}
 use Rattle.scan.specs.Acts.{ActsTo}
 use Rattle.scan.specs.Expansion.{ReadEscape}
 use Rattle.scan.specs.declared.Acted.the-variants.{Enters}

@@ -1,6 +1,6 @@
 -- `scan::act` meets its contract: what each action comes to is what its function says. Assumes nothing.
 use Rattle.scan.proofs.Actions.{acted-writes, acted-gives, acted-ends, acted-bad}
-use Rattle.scan.specs.Around.{around}
+use Rattle.arguments.specs.Around.{around}
 use Rattle.rules.specs.declared.Register.{Register}
 use Rattle.registers.specs.Columns.{tableOf}
 use Rattle.rules.specs.Escapes.{Surroundings}

@@ -1,5 +1,5 @@
 -- `scan::begin_of` meets its contract. Assumes nothing.
-use Rattle.scan.specs.Around.{beginOf}
+use Rattle.arguments.specs.Around.{beginOf}
 use lib.ListN.{getD}
 use mathlib.Core.List.{List}
 use Prim.Native.Nat.{ℕ, zero, suc, _-_}

@@ -1,7 +1,7 @@
 -- `scan::copy_plain` meets its contract. The invariant: what the rules make of the text is what they make of it from i on. Assumes nothing.
 use borrow.Author.Needs.{needs}
 use Rattle.scan.proofs.Totals.{pass-start, pass-byte, stop-left, stop-room}
-use Rattle.scan.specs.Writes.{Passed}
+use Rattle.copying.specs.Writes.{Passed}
 use lib.ListN.{length}
 use Prim.Native.Nat.{_-_}
 use native.Mathlib.Omega.{arith}

@@ -2,8 +2,8 @@
 use Rattle.scan.proofs.Givens.{argument-is, argument-none, given-nothing, given-inside, given-plain, given-copy}
 use Rattle.scan.proofs.Givens.{argument-is, argument-none, given-nothing, given-inside}
 use mathlib.Core.List.{[]}
-use Rattle.scan.specs.Around.{argumentsOf}
-use Rattle.scan.proofs.Buffers.{put-none, put-as}
+use Rattle.arguments.specs.Around.{argumentsOf}
+use Rattle.copying.proofs.Buffers.{put-none, put-as}
 use denote.Ref.{now}
 use lib.ListN.{length, getD, take, drop}
 use Prim.Native.Nat.{ℕ, _-_, _≤_}

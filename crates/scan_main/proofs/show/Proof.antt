@@ -6,7 +6,7 @@ use native.Mathlib.Omega.{arith}
 use lib.ListN.{getD}
 use Rattle.registers.specs.Columns.{zipWith}
 use Rattle.texts.specs.Table.{sum}
-use Rattle.scan.specs.Around.{beginOf}
+use Rattle.arguments.specs.Around.{beginOf}
 use borrow.Author.Needs.{needs}
 use Rattle.scan_main.proofs.show.Statement.{statement}
 use Rattle.scan_main.proofs.show.Tie as tie

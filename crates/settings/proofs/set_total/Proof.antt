@@ -6,7 +6,7 @@ use native.Mathlib.Omega.{arith}
 use borrow.Author.Needs.{needs}
 use Rattle.rules.specs.Refusals.{Judged, value, _>>=_}
 use Rattle.rules.specs.Settings.{withTotal}
-use Rattle.settings.specs.ViewLaws.{total-is}
+use Rattle.lengths.specs.ViewLaws.{total-is}
 use Rattle.settings.specs.Layouts.{printerOf, layoutOf}
 use Rattle.settings.proofs.Layouts.{total-none, total-at}
 use Rattle.settings.proofs.set_total.Statement.{statement}

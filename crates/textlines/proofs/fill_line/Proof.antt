@@ -10,8 +10,8 @@ use Rattle.rules.specs.Filling.{Word, words, leads}
 use Rattle.rules.specs.TextLines.{fills, textWay}
 use Rattle.traps.specs.Table.{plantedOf}
 use Rattle.texts.specs.Table.{textsOf}
-use Rattle.fill.specs.Parts.{part}
-use Rattle.fill.specs.Words.{nextOf}
+use Rattle.words.specs.Parts.{part}
+use Rattle.words.specs.Words.{nextOf}
 use Rattle.springs.proofs.Stacks.{fits-few}
 use Rattle.sheet.specs.Desk.{desk, stateAt}
 use Rattle.textlines.specs.Words.{Follows}

@@ -11,7 +11,7 @@ use Rattle.rules.specs.Bytes.{fixedBlank}
 use Rattle.rules.specs.Settings as rule
 use Rattle.rules.specs.Filling.{words}
 use Rattle.traps.specs.Table.{plantedOf}
-use Rattle.fill.specs.Parts.{part}
+use Rattle.words.specs.Parts.{part}
 use Rattle.settings.specs.Layouts.{layoutOf}
 use Rattle.settings.specs.LayoutLaws.{indent-most}
 use Rattle.sheet.specs.declared.Collected.{Collected}

@@ -9,9 +9,9 @@ use Rattle.rules.specs.Filling.{Word, words, place, leads}
 use Rattle.rules.specs.TextLines.{fill}
 use Rattle.traps.specs.Table.{plantedOf}
 use Rattle.texts.specs.Table.{textsOf}
-use Rattle.fill.specs.Parts.{part}
+use Rattle.words.specs.Parts.{part}
 use Rattle.fill.specs.Filled.{lineOf}
-use Rattle.fill.specs.Words.{nextOf}
+use Rattle.words.specs.Words.{nextOf}
 use Rattle.springs.proofs.Stacks.{fits-few}
 use Rattle.sheet.specs.Desk.{desk, stateAt}
 use Rattle.textlines.proofs.Works.{worked-as}

@@ -3,7 +3,7 @@ use mathlib.Core.Path.{sym, _∙_}
 use borrow.Author.Needs.{needs}
 use denote.Ref.{now}
 use Rattle.rules.specs.Filling.{words}
-use Rattle.fill.specs.Parts.{part}
+use Rattle.words.specs.Parts.{part}
 use Rattle.textlines.proofs.Fills.{gap-none, gap-some}
 use Rattle.textlines.proofs.gap_behind.Statement.{statement}
 use Rattle.textlines.proofs.gap_behind.Tie as tie

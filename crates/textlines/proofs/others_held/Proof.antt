@@ -3,7 +3,7 @@ use mathlib.Core.Path.{sym, _∙_}
 use borrow.Author.Needs.{needs}
 use denote.Ref.{now}
 use Rattle.rules.specs.Filling.{words}
-use Rattle.fill.specs.Parts.{part}
+use Rattle.words.specs.Parts.{part}
 use Rattle.textlines.proofs.Fills.{held-none, held-some}
 use Rattle.textlines.proofs.others_held.Statement.{statement}
 use Rattle.textlines.proofs.others_held.Tie as tie

@@ -11,9 +11,9 @@ use Rattle.rules.specs.Settings as rule
 use Rattle.rules.specs.Filling.{words, fullRow}
 use Rattle.rules.specs.TextLines.{nextGap}
 use Rattle.traps.specs.Table.{plantedOf}
-use Rattle.fill.specs.Parts.{part}
+use Rattle.words.specs.Parts.{part}
 use Rattle.fill.specs.Filled.{lineOf}
-use Rattle.fill.proofs.Layouts.{full-is}
+use Rattle.rows.proofs.Layouts.{full-is}
 use Rattle.settings.specs.Layouts.{layoutOf}
 use Rattle.settings.specs.LayoutLaws.{indent-most}
 use Rattle.springs.specs.Held.{Plain}

@@ -1,7 +1,7 @@
 -- `textlines::slice` meets its contract. Assumes nothing.
 use mathlib.Core.Path.{refl}
 use borrow.Author.Needs.{needs}
-use Rattle.fill.specs.Parts.{part}
+use Rattle.words.specs.Parts.{part}
 use Rattle.textlines.proofs.slice.Statement.{statement}
 use Rattle.textlines.proofs.slice.Tie as tie
 

@@ -6,8 +6,8 @@ use borrow.Author.Needs.{needs}
 use Rattle.rules.specs.Settings as rule
 use Rattle.rules.specs.Filling.{words, standingRow}
 use Rattle.traps.specs.Table.{plantedOf}
-use Rattle.fill.specs.Parts.{part}
-use Rattle.fill.proofs.Layouts.{standing-is}
+use Rattle.words.specs.Parts.{part}
+use Rattle.rows.proofs.Layouts.{standing-is}
 use Rattle.settings.specs.Layouts.{layoutOf}
 use Rattle.settings.specs.LayoutLaws.{indent-most}
 use Rattle.springs.specs.declared.Held.the-variants as held

@@ -4,7 +4,7 @@ use native.Mathlib.Omega.{arith}
 use denote.Ref.{now}
 use borrow.Author.Needs.{needs}
 use Rattle.traps.specs.Table.{plantedOf}
-use Rattle.fill.specs.Parts.{part}
+use Rattle.words.specs.Parts.{part}
 use Rattle.sheet.specs.Desk.{desk}
 use Rattle.textlines.proofs.Works.{worked-as}
 use Rattle.textlines.proofs.Fills.{part-short, text-starts, text-blank, text-words}

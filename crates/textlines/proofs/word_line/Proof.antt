@@ -6,7 +6,7 @@ use borrow.Author.Needs.{needs}
 use Rattle.rules.specs.Filling.{words, leads}
 use Rattle.rules.specs.TextLines.{textWay, Way, asItStands}
 use Rattle.traps.specs.Table.{plantedOf}
-use Rattle.fill.specs.Parts.{part}
+use Rattle.words.specs.Parts.{part}
 use Rattle.settings.specs.Layouts.{layoutOf}
 use Rattle.sheet.specs.Desk.{desk, stateAt}
 use Rattle.textlines.specs.Words.{Follows}

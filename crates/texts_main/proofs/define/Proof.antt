@@ -1,4 +1,4 @@
--- `texts_main::define` leaves the texts as `texts::define_string` does. Assumes nothing.
+-- `texts_main::define` leaves the texts as `definitions::define_string` does. Assumes nothing.
 use native.Mathlib.Omega.{arith}
 use borrow.Author.Needs.{needs}
 use Rattle.texts_main.proofs.define.Statement.{statement}

@@ -1,0 +1,16 @@
+-- `bodies::closes_body` meets its contract. Assumes nothing.
+use mathlib.Core.Path.{_∙_}
+use denote.Ref.{now}
+use Rattle.bodies.proofs.LineLaws.{closing}
+use borrow.Author.Needs.{needs}
+use Rattle.bodies.proofs.closes_body.Statement.{statement}
+use Rattle.bodies.proofs.closes_body.Tie as tie
+
+is-pair-requires : tie.Need-is-pair-requires
+is-pair-requires c κs = search needs
+
+returns : tie.Need-returns
+returns c = c .is-pair .ensures ∙ closing (now (c .before .before .before .args .line))
+
+pub closes-body-spec : {M : Type 1} → statement M
+closes-body-spec = tie.close (tie.spec is-pair-requires returns)
