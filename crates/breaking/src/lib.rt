@@ -1,10 +1,10 @@
 // What a breaking request does: it starts the first page, or breaks, or acts.
-use arithmetic::Value;
 use input::Stack;
 use input::What;
 use page::Page;
 use rules::Breaking;
 use rules::Name;
+use scales::Down;
 use settings::Layout;
 use settings::NewLayout;
 use settings::Printer;
@@ -92,7 +92,7 @@ fn space(
     ensures { λ r. ⌜ Worked (λ ts s. spaces (printerOf printer) (now (argument .entry)) s) (now (firsts .entry)) (now (seconds .entry)) texts planted (desk layout page collected (now (cells .entry)) stack (now (arena .entry)) (now (ends .entry))) (r .way) (r .written) (desk (r .layout) (r .page) (r .collected) (now (cells .entry)) (r .stack) (now (arena .exit)) (now (ends .exit))) (now (row .exit)) ⌝ }
 {
     match settings::spacing(argument, printer) {
-        Value::Is(count) => sheet::skip(
+        Down::Are(count) => sheet::skip(
             count,
             layout,
             page,
@@ -107,7 +107,7 @@ fn space(
             seconds,
             texts,
         ),
-        Value::Bad => stay(Way::Refused(6), layout, page, collected, stack),
+        Down::Bad => stay(Way::Refused(6), layout, page, collected, stack),
     }
 }
 

@@ -21,7 +21,7 @@ use Rattle.springs.specs.Held.{isText}
 use Rattle.checks.specs.LimitChecks.{arePlaces, oddByte, areBytes, isGathered, layeredTo, isLayered}
 
 -- the trap at i, whose row passed its test with v
-pub places-at : (l : List Trap) (n i : ℕ) (d : Trap) (v : Bool) → i < n → n ≤ length l → registers.isWithin (getD l i d .place) ≡ v
+pub places-at : (l : List Trap) (n i : ℕ) (d : Trap) (v : Bool) → i < n → n ≤ length l → registers.isWithin (getD l i d .place .0) ≡ v
     → arePlaces (drop i (take n l)) ≡ (v && arePlaces (drop (i + 1) (take n l)))
 unfolding arePlaces
 places-at l n i d v h k e = ap arePlaces (front-next l n i d h k) ∙ ap (λ (b : Bool). b && arePlaces (drop (i + 1) (take n l))) e

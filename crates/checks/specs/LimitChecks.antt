@@ -31,7 +31,7 @@ pub record LentTables (textFirsts textSeconds : List ℕ) (values steps : List �
 -- "6: .. result outside ±1,000,000,000": the row of a trap is the result of an expression
 unfoldable pub arePlaces : List Trap → Bool
 arePlaces [] = true
-arePlaces (t ∷ ts) = registers.isWithin (t .place) && arePlaces ts
+arePlaces (t ∷ ts) = registers.isWithin (t .place .0) && arePlaces ts
 
 -- "the old text counts as gone when the new definition starts", and "A macro exists once closed": no text has the name of an open definition
 abbrev pub isGone : (there : Bool) → Name → List Name → Bool

@@ -74,13 +74,13 @@ places-sound : (l : List Trap) → arePlaces l ≡ true → Each BoundedTrap l
 unfolding arePlaces
 places-sound [] h = tt
 places-sound (t ∷ l) h =
-    let b = both (registers.isWithin (t .place)) (arePlaces l) h in (leb-true (natAbs (t .place)) 1000000000 (b .0), places-sound l (b .1))
+    let b = both (registers.isWithin (t .place .0)) (arePlaces l) h in (leb-true (natAbs (t .place .0)) 1000000000 (b .0), places-sound l (b .1))
 
 places-complete : (l : List Trap) → Each BoundedTrap l → arePlaces l ≡ true
 unfolding arePlaces
 places-complete [] h = refl
 places-complete (t ∷ l) h =
-    and-true (registers.isWithin (t .place)) (arePlaces l) (le-leb (natAbs (t .place)) 1000000000 (h .0)) (places-complete l (h .1))
+    and-true (registers.isWithin (t .place .0)) (arePlaces l) (le-leb (natAbs (t .place .0)) 1000000000 (h .0)) (places-complete l (h .1))
 
 -- gathered bytes
 

@@ -326,13 +326,14 @@ pub fn is_sound(
 }
 
 // The row of a trap: "result outside ±1,000,000,000"
-fn is_place(place: i32) -> bool
-    ensures { λ r. ⌜ r ≡ registers.isWithin place ⌝ }
+fn is_place(place: Rows) -> bool
+    ensures { λ r. ⌜ r ≡ registers.isWithin (place .0) ⌝ }
 {
-    if place < -1000000000 {
+    let n = place.0;
+    if n < -1000000000 {
         return false;
     }
-    if 1000000000 < place {
+    if 1000000000 < n {
         return false;
     }
     true

@@ -67,13 +67,13 @@ answer-back (closing.Refused n l) h m = rw (byte-back n h, count-back l m)
 traps-back : (ws : List ℤ) (ts : List Trap) (i : ℕ) → length ws ≡ i → AllNamed ts → trapsFrom (length ts) i (ws ++ trapWords ts) ≡ ts
 traps-back ws [] i e h = refl
 traps-back ws (t ∷ ts) i e h =
-    let here : List ℤ = t .place ∷ nameWord (t .name) ∷ [] in
+    let here : List ℤ = t .place .0 ∷ nameWord (t .name) ∷ [] in
     let all : (ws ++ here) ++ trapWords ts ≡ ws ++ trapWords (t ∷ ts) = append-assoc ws here (trapWords ts) in
-    let one : (ws ++ (t .place ∷ [])) ++ (nameWord (t .name) ∷ trapWords ts) ≡ ws ++ trapWords (t ∷ ts) = append-assoc ws (t .place ∷ []) (nameWord (t .name) ∷ trapWords ts) in
-    let next : length (ws ++ (t .place ∷ [])) ≡ i + 1 = omega (arith, length-append ws (t .place ∷ [])) in
+    let one : (ws ++ (t .place .0 ∷ [])) ++ (nameWord (t .name) ∷ trapWords ts) ≡ ws ++ trapWords (t ∷ ts) = append-assoc ws (t .place .0 ∷ []) (nameWord (t .name) ∷ trapWords ts) in
+    let next : length (ws ++ (t .place .0 ∷ [])) ≡ i + 1 = omega (arith, length-append ws (t .place .0 ∷ [])) in
     let far : length (ws ++ here) ≡ i + 2 = omega (arith, length-append ws here) in
-    let place : getD (ws ++ trapWords (t ∷ ts)) i (pos 0) ≡ t .place = getD-at ws (t .place) (nameWord (t .name) ∷ trapWords ts) (pos 0) i e in
-    let word : getD (ws ++ trapWords (t ∷ ts)) (i + 1) (pos 0) ≡ nameWord (t .name) = ap (λ (l : List ℤ). getD l (i + 1) (pos 0)) (sym one) ∙ getD-at (ws ++ (t .place ∷ [])) (nameWord (t .name)) (trapWords ts) (pos 0) (i + 1) next in
+    let place : getD (ws ++ trapWords (t ∷ ts)) i (pos 0) ≡ t .place .0 = getD-at ws (t .place .0) (nameWord (t .name) ∷ trapWords ts) (pos 0) i e in
+    let word : getD (ws ++ trapWords (t ∷ ts)) (i + 1) (pos 0) ≡ nameWord (t .name) = ap (λ (l : List ℤ). getD l (i + 1) (pos 0)) (sym one) ∙ getD-at (ws ++ (t .place .0 ∷ [])) (nameWord (t .name)) (trapWords ts) (pos 0) (i + 1) next in
     let name : nameAt (ws ++ trapWords (t ∷ ts)) (i + 1) ≡ t .name = ap (λ (z : ℤ). nameOf (min (natOf z) 65535)) word ∙ name-back (t .name) (h 0 (omega arith)) in
     let rest : trapsFrom (length ts) (i + 2) (ws ++ trapWords (t ∷ ts)) ≡ ts = ap (trapsFrom (length ts) (i + 2)) (sym all) ∙ traps-back (ws ++ here) ts (i + 2) far (λ j k. h (suc j) (omega arith)) in
     rw (name, place, rest)

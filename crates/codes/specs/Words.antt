@@ -100,7 +100,7 @@ closingWords k = closingTag k ∷ closingNumber k ∷ closingLine k ∷ []
 -- a trap's place and its name
 abbrev pub trapWords : List Trap → List ℤ
 trapWords [] = []
-trapWords (t ∷ ts) = t .place ∷ nameWord (t .name) ∷ trapWords ts
+trapWords (t ∷ ts) = t .place .0 ∷ nameWord (t .name) ∷ trapWords ts
 
 -- word 35, and words 36 to 67
 abbrev pub plantedWords : Planted → List ℤ
@@ -185,7 +185,7 @@ abbrev pub closingIn : List ℤ → Closing
 closingIn ws = closingBy (isSet (wordAt ws 32)) (countAt ws 32) (min (countAt ws 33) 255) (countAt ws 34)
 
 abbrev pub trapAt : List ℤ → ℕ → Trap
-trapAt ws i = record { place = wordAt ws i; name = nameAt ws (i + 1) }
+trapAt ws i = record { place = rowsAt ws i; name = nameAt ws (i + 1) }
 
 -- so many traps, from a word on
 abbrev pub trapsFrom : (count at : ℕ) → List ℤ → List Trap
@@ -212,7 +212,7 @@ numberOf closing.Done = 0
 numberOf (closing.Refused n l) = n
 
 abbrev pub blank : Trap
-blank = record { place = pos 0; name = record { first = 0; second = 0 } }
+blank = record { place = record { 0 = pos 0 }; name = record { first = 0; second = 0 } }
 
 -- the names of traps
 abbrev pub AllNamed : List Trap → Type 0

@@ -239,7 +239,7 @@ fn trap_at(words: &[i32; 68], at: usize) -> Trap
     ensures { λ r. ⌜ r ≡ trapAt (now (words .entry)) at ⌝ }
 {
     Trap {
-        place: words[at],
+        place: rows_at(words, at),
         name: name_at(words, at + 1),
     }
 }
@@ -428,10 +428,9 @@ fn put_closing(words: &mut [i32; 68], closing: Closing)
 
 fn put_trap(words: &mut [i32; 68], at: usize, trap: Trap)
     requires { ⌜ at < 67 ⌝ }
-    ensures { λ _. ⌜ (now (words .exit) ≡ set (set (now (words .entry)) at (trap .place)) (at + 1) (nameWord (trap .name))) × Named (trap .name) ⌝ }
+    ensures { λ _. ⌜ (now (words .exit) ≡ set (set (now (words .entry)) at (trap .place .0)) (at + 1) (nameWord (trap .name))) × Named (trap .name) ⌝ }
 {
-    let place = trap.place;
-    words[at] = place;
+    put_rows(words, at, trap.place);
     put_name(words, at + 1, trap.name);
 }
 

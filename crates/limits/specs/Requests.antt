@@ -44,18 +44,18 @@ use Rattle.limits.specs.Settings.{setting-fair, line-fair, page-fair, to
 plant-places : (z : ℤ) (n : Name) (ts : List Trap) → Bounded z → Each BoundedTrap ts → Each BoundedTrap (plant z n ts)
 unfolding plant
 plant-places z n [] b h = (b, tt)
-plant-places z n (t ∷ ts) b h = go (equalZ z (t .place)) refl (plant-places z n ts b (h .1))
+plant-places z n (t ∷ ts) b h = go (equalZ z (t .place .0)) refl (plant-places z n ts b (h .1))
   where
-    go : (x : Bool) → equalZ z (t .place) ≡ x → Each BoundedTrap (plant z n ts) → Each BoundedTrap (plant z n (t ∷ ts))
+    go : (x : Bool) → equalZ z (t .place .0) ≡ x → Each BoundedTrap (plant z n ts) → Each BoundedTrap (plant z n (t ∷ ts))
     go true e ih = rw (plant-here z n t ts e) (b, h .1)
     go false e ih = rw (plant-on z n t ts e) (h .0, ih)
 
 remove-places : (z : ℤ) (ts : List Trap) → Each BoundedTrap ts → Each BoundedTrap (removeTrap z ts)
 unfolding removeTrap
 remove-places z [] h = tt
-remove-places z (t ∷ ts) h = go (equalZ z (t .place)) refl (remove-places z ts (h .1))
+remove-places z (t ∷ ts) h = go (equalZ z (t .place .0)) refl (remove-places z ts (h .1))
   where
-    go : (x : Bool) → equalZ z (t .place) ≡ x → Each BoundedTrap (removeTrap z ts) → Each BoundedTrap (removeTrap z (t ∷ ts))
+    go : (x : Bool) → equalZ z (t .place .0) ≡ x → Each BoundedTrap (removeTrap z ts) → Each BoundedTrap (removeTrap z (t ∷ ts))
     go true e ih = rw (remove-here z t ts e) (h .1)
     go false e ih = rw (remove-on z t ts e) (h .0, ih)
 

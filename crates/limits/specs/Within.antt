@@ -39,7 +39,7 @@ pub record SourceByte (b : ℕ) : Type 0 where
 
 -- the row of a trap is the result of an expression: "6: .. result outside ±1,000,000,000"
 abbrev pub BoundedTrap : Trap → Type 0
-BoundedTrap t = Bounded (t .place)
+BoundedTrap t = Bounded (t .place .0)
 
 -- a text that is read lies on top, or nothing does
 abbrev pub OverText : List Item → Type 0

@@ -1,4 +1,5 @@
 // The trap that a row of the page meets, and the nearest below it.
+use measure::Rows;
 use rules::Trap;
 use traps::Found;
 use traps::Planted;
@@ -10,18 +11,19 @@ ghost use Rattle.rules.specs.Traps.{rowOf, isRow, nearer, seenAt, nearestTrap};
 ghost use Rattle.traps.specs.Table.{Within, plantedOf, rowIs, foundIs};
 
 // The row of a trap on a page of that many rows: one below 0 is counted up from the page end.
-pub fn row_of(place: i32, page: usize) -> Row
-    ensures { λ r. ⌜ rowIs r ≡ rowOf page place ⌝ }
+pub fn row_of(place: Rows, page: usize) -> Row
+    ensures { λ r. ⌜ rowIs r ≡ rowOf page (place .0) ⌝ }
 {
-    if place < 0 {
+    let n = place.0;
+    if n < 0 {
         // -1 is the last row: 0 rows are below it
-        let below = (-1 - place) as usize;
+        let below = (-1 - n) as usize;
         if below < page {
             return Row::At(page - (below + 1));
         }
         return Row::Asleep;
     }
-    let row = place as usize;
+    let row = n as usize;
     if row < page {
         return Row::At(row);
     }
@@ -30,7 +32,7 @@ pub fn row_of(place: i32, page: usize) -> Row
 
 // Does the trap stand at this row?
 fn stands_at(trap: Trap, page: usize, row: usize) -> bool
-    ensures { λ r. ⌜ r ≡ isRow row (rowOf page (trap .place)) ⌝ }
+    ensures { λ r. ⌜ r ≡ isRow row (rowOf page (trap .place .0)) ⌝ }
 {
     match row_of(trap.place, page) {
         Row::At(n) => row == n,
@@ -59,7 +61,7 @@ pub fn seen_at(p: Planted, page: usize, row: usize) -> Found
 
 // The trap's row, if it is below this row and above the best so far, or else the best so far.
 fn closer(trap: Trap, page: usize, row: usize, best: usize) -> usize
-    ensures { λ r. ⌜ r ≡ nearer row (rowOf page (trap .place)) best ⌝ }
+    ensures { λ r. ⌜ r ≡ nearer row (rowOf page (trap .place .0)) best ⌝ }
 {
     match row_of(trap.place, page) {
         Row::At(n) => {

@@ -3,15 +3,13 @@ use mathlib.Core.Path.{_≡_, refl, sym, ap, _∙_}
 use mathlib.Core.Bool.{Bool, true, false}
 use mathlib.Core.Option.{Option}
 use mathlib.Core.List.{List}
-use Prim.Native.Nat.{ℕ, zero, suc, _+_, _-_, _≤_, _<_, _^_, zero-le}
+use Prim.Native.Nat.{ℕ, zero, suc, _+_, _≤_, _<_}
 use native.Mathlib.Numerals.{add-one}
 use native.Mathlib.Omega.{arith}
 use lib.Dec.{ltb}
-use lib.IntN.{ℤ, pos, negsuc, natAbs}
-use lib.Signed.{ltZ, leZ}
-use borrow.Author.Tests.{lt-ltb, le-ltb, lt-leb, ltb-true}
-use mir.Syntax.{w32}
-use mir.Val.{SFits}
+use lib.IntN.{ℤ, pos, negsuc}
+use borrow.Author.Tests.{lt-ltb, le-ltb, ltb-true}
+use Rattle.measure.specs.Counts.{natOf}
 use Rattle.rules.specs.declared.Name.{Name}
 use Rattle.rules.specs.declared.Trap.{Trap}
 use Rattle.rules.specs.Traps.{Page, seenAt, nearestTrap}
@@ -43,28 +41,23 @@ module _ (p : Page) (pl : ℕ) (ts : List Trap) where
     onward h e = ap (λ t. endIf t p pl ts) (sym e) ∙ reach-is false (le-ltb (p .used + n) pl h)
 
 -- a count of 0 or less
-pub no-blanks : (z : ℤ) (b : ℕ) → leZ z (pos 0) ≡ true → 0 ≡ blanksOf z b
+pub no-blanks : (z : ℤ) (b : ℕ) → natOf z ≡ 0 → 0 ≡ blanksOf z b
 no-blanks (pos zero) b h = refl
-no-blanks (pos (suc n)) b h = absurd (let e : _≡_ {A = ℕ} 0 1 = cc (lt-leb (suc n) 0 (omega arith)) in omega arith)
+no-blanks (pos (suc n)) b h = absurd (omega arith)
 no-blanks (negsuc n) b h = refl
 
--- a count above 0
-pub record Positive (z : ℤ) : Type 0 where
-  pub size : ℕ
-  pub is : z ≡ pos (suc size)
-  pub low : suc size < 2 ^ 31
+-- a count of less than the rows below
+pub all-blanks : (z : ℤ) (b : ℕ) → natOf z < b → natOf z ≡ blanksOf z b
+all-blanks (pos zero) b h = refl
+all-blanks (pos (suc n)) b h = ap (λ t. fewer t (suc n) b) (sym (lt-ltb n b (omega arith)))
+all-blanks (negsuc n) b h = refl
 
-pub positive : (z : ℤ) → SFits w32 z → leZ z (pos 0) ≡ false → Positive z
-positive (pos zero) f h = absurd (let e : _≡_ {A = ℕ} 0 1 = cc in omega arith)
-positive (pos (suc n)) f h = record { size = n; is = refl; low = f .sfits }
-positive (negsuc n) f h = absurd (let e : _≡_ {A = ℕ} 0 1 = cc in omega arith)
-
-pub all-blanks : (n b : ℕ) → suc n < b → suc n ≡ blanksOf (pos (suc n)) b
-all-blanks n b h = ap (λ t. fewer t (suc n) b) (sym (lt-ltb n b (omega arith)))
-
-pub some-blanks : (n b : ℕ) → b ≤ suc n → b ≡ blanksOf (pos (suc n)) b
-some-blanks n b h = go (ltb n b) refl
+-- a count above 0 of no less than the rows below
+pub some-blanks : (z : ℤ) (b : ℕ) → 0 < natOf z → b ≤ natOf z → b ≡ blanksOf z b
+some-blanks (pos zero) b g h = absurd (omega arith)
+some-blanks (pos (suc n)) b g h = go (ltb n b) refl
   where
     go : (t : Bool) → ltb n b ≡ t → b ≡ fewer t (suc n) b
     go true e = omega (arith, ltb-true n b e)
     go false e = refl
+some-blanks (negsuc n) b g h = absurd (omega arith)

@@ -42,11 +42,11 @@ pub fn start_page(page: Page, length: Rows, planted: Planted) -> Moved
 }
 
 // So many rows down from where the page stands.
-pub fn move_down(page: Page, rows: u16, length: Rows, planted: Planted) -> Moved
+pub fn move_down(page: Page, rows: Rows, length: Rows, planted: Planted) -> Moved
     requires { ⌜ Sound page length planted ⌝ }
-    ensures { λ r. ⌜ landingIs r ≡ landingDown (pageOf page) (downOf length) rows (plantedOf planted) ⌝ }
+    ensures { λ r. ⌜ landingIs r ≡ landingDown (pageOf page) (downOf length) (downOf rows) (plantedOf planted) ⌝ }
 {
-    let to = measure::down(page.used) as usize + rows as usize;
+    let to = measure::down(page.used) as usize + measure::down(rows) as usize;
     let end = measure::down(length) as usize;
     if to < end {
         let moved = Page {
@@ -63,27 +63,27 @@ pub fn move_down(page: Page, rows: u16, length: Rows, planted: Planted) -> Moved
 }
 
 // The rows from here to the nearest trap or the page end.
-pub fn rows_below(page: Page, length: Rows, planted: Planted) -> u16
+pub fn rows_below(page: Page, length: Rows, planted: Planted) -> Rows
     requires { ⌜ Sound page length planted ⌝ }
-    ensures { λ r. ⌜ r ≡ below (pageOf page) (downOf length) (plantedOf planted) ⌝ }
+    ensures { λ r. ⌜ downOf r ≡ below (pageOf page) (downOf length) (plantedOf planted) ⌝ }
 {
     let used = measure::down(page.used) as usize;
     let end = measure::down(length) as usize;
-    (nearest::nearest_lent(planted, end, used, end) - used) as u16
+    measure::rows_down((nearest::nearest_lent(planted, end, used, end) - used) as u16)
 }
 
 // The blank rows that an sp writes: "sp stops at the nearest trap or page end and drops the rest; 0 or less moves nothing."
-pub fn blanks(count: i32, page: Page, length: Rows, planted: Planted) -> u16
+pub fn blanks(count: Rows, page: Page, length: Rows, planted: Planted) -> Rows
     requires { ⌜ Sound page length planted ⌝ }
-    ensures { λ r. ⌜ r ≡ blanksOf count (below (pageOf page) (downOf length) (plantedOf planted)) ⌝ }
+    ensures { λ r. ⌜ downOf r ≡ blanksOf (count .0) (below (pageOf page) (downOf length) (plantedOf planted)) ⌝ }
 {
-    if count <= 0 {
-        return 0;
+    let wanted = measure::down(count);
+    if wanted == 0 {
+        return Rows(0);
     }
-    let wanted = count as usize;
     let rows = rows_below(page, length, planted);
-    if wanted < rows as usize {
-        return wanted as u16;
+    if wanted < measure::down(rows) {
+        return count;
     }
     rows
 }

@@ -3,6 +3,7 @@ use arguments::Argument;
 use arithmetic::Value;
 use input::Stack;
 use lines::Named;
+use measure::Rows;
 use references::Which;
 use registers::Found;
 use registers::Stored;
@@ -60,9 +61,9 @@ pub enum Changed {
 }
 
 // Plants a name: "11: .. 17th trap".
-fn plant_name(place: i32, name: Name, planted: Planted) -> Plants
+fn plant_name(place: Rows, name: Name, planted: Planted) -> Plants
     requires { ⌜ Within planted ⌝ }
-    ensures { λ r. ⌜ PlantsAs planted (λ s. plantAt place (one name) s) r ⌝ }
+    ensures { λ r. ⌜ PlantsAs planted (λ s. plantAt (place .0) (one name) s) r ⌝ }
 {
     let p = traps::plant(planted, place, name);
     let new = p.planted;
@@ -79,9 +80,9 @@ fn plant_name(place: i32, name: Name, planted: Planted) -> Plants
 }
 
 // A row with a name plants, "no name removes".
-fn plant_at(place: i32, name: &[u8], planted: Planted) -> Plants
+fn plant_at(place: Rows, name: &[u8], planted: Planted) -> Plants
     requires { ⌜ Within planted ⌝ }
-    ensures { λ r. ⌜ PlantsAs planted (λ s. plantAt place (nameOf (now (name .entry))) s) r ⌝ }
+    ensures { λ r. ⌜ PlantsAs planted (λ s. plantAt (place .0) (nameOf (now (name .entry))) s) r ⌝ }
 {
     match lines::name_of(name) {
         Named::One(n) => plant_name(place, n, planted),
@@ -108,7 +109,7 @@ pub fn plant(row: &[u8], name: &[u8], planted: Planted, printer: Printer) -> Pla
         };
     }
     match scales::rows(row, printer.pitch) {
-        Down::Are(rows) => plant_at(rows.0, name, planted),
+        Down::Are(rows) => plant_at(rows, name, planted),
         Down::Bad => Plants {
             refused: 6,
             planted,

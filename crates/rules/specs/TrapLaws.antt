@@ -16,7 +16,7 @@ use Rattle.rules.specs.declared.Trap.{Trap}
 
 -- the trap of an N and a name
 abbrev pub trap : ℤ → Name → Trap
-trap p n = record { place = p; name = n }
+trap p n = record { place = record { 0 = p }; name = n }
 
 -- A number equals itself.
 pub equal-self : (p : ℤ) → equalZ p p ≡ true
@@ -40,30 +40,30 @@ equal-swap p q h = go (equalZ q p) refl
 -- No trap has this N.
 abbrev pub Lacks : ℤ → List Trap → Type 0
 Lacks p [] = Unit
-Lacks p (t ∷ ts) = (equalZ p (t .place) ≡ false) × Lacks p ts
+Lacks p (t ∷ ts) = (equalZ p (t .place .0) ≡ false) × Lacks p ts
 
 -- No two traps have one N.
 abbrev pub Single : List Trap → Type 0
 Single [] = Unit
-Single (t ∷ ts) = Lacks (t .place) ts × Single ts
+Single (t ∷ ts) = Lacks (t .place .0) ts × Single ts
 
 -- A trap with the N planted is replaced.
-pub plant-here : (p : ℤ) (n : Name) (t : Trap) (ts : List Trap) → equalZ p (t .place) ≡ true → plant p n (t ∷ ts) ≡ trap p n ∷ ts
+pub plant-here : (p : ℤ) (n : Name) (t : Trap) (ts : List Trap) → equalZ p (t .place .0) ≡ true → plant p n (t ∷ ts) ≡ trap p n ∷ ts
 unfolding plant
 plant-here p n t ts h = rw (plant, h)
 
 -- Any other stays before what is planted.
-pub plant-on : (p : ℤ) (n : Name) (t : Trap) (ts : List Trap) → equalZ p (t .place) ≡ false → plant p n (t ∷ ts) ≡ t ∷ plant p n ts
+pub plant-on : (p : ℤ) (n : Name) (t : Trap) (ts : List Trap) → equalZ p (t .place .0) ≡ false → plant p n (t ∷ ts) ≡ t ∷ plant p n ts
 unfolding plant
 plant-on p n t ts h = rw (plant, h)
 
 -- A trap with the N removed goes.
-pub remove-here : (p : ℤ) (t : Trap) (ts : List Trap) → equalZ p (t .place) ≡ true → removeTrap p (t ∷ ts) ≡ ts
+pub remove-here : (p : ℤ) (t : Trap) (ts : List Trap) → equalZ p (t .place .0) ≡ true → removeTrap p (t ∷ ts) ≡ ts
 unfolding removeTrap
 remove-here p t ts h = rw (removeTrap, h)
 
 -- Any other stays.
-pub remove-on : (p : ℤ) (t : Trap) (ts : List Trap) → equalZ p (t .place) ≡ false → removeTrap p (t ∷ ts) ≡ t ∷ removeTrap p ts
+pub remove-on : (p : ℤ) (t : Trap) (ts : List Trap) → equalZ p (t .place .0) ≡ false → removeTrap p (t ∷ ts) ≡ t ∷ removeTrap p ts
 unfolding removeTrap
 remove-on p t ts h = rw (removeTrap, h)
 
@@ -74,12 +74,12 @@ plant-new p n [] h = refl
 plant-new p n (t ∷ ts) h = rw (plant-on p n t ts (h .0), plant-new p n ts (h .1))
 
 -- A search that goes forwards: the first trap of the N is replaced in its place.
-pub plant-at : (p : ℤ) (n : Name) (a b : List Trap) (t : Trap) → Lacks p a → equalZ p (t .place) ≡ true → plant p n (a ++ t ∷ b) ≡ a ++ trap p n ∷ b
+pub plant-at : (p : ℤ) (n : Name) (a b : List Trap) (t : Trap) → Lacks p a → equalZ p (t .place .0) ≡ true → plant p n (a ++ t ∷ b) ≡ a ++ trap p n ∷ b
 plant-at p n [] b t h e = plant-here p n t b e
 plant-at p n (u ∷ a) b t h e = rw (plant-on p n u (a ++ t ∷ b) (h .0)) (ap (λ l. u ∷ l) (plant-at p n a b t (h .1) e))
 
 -- It alone is removed.
-pub remove-at : (p : ℤ) (a b : List Trap) (t : Trap) → Lacks p a → equalZ p (t .place) ≡ true → removeTrap p (a ++ t ∷ b) ≡ a ++ b
+pub remove-at : (p : ℤ) (a b : List Trap) (t : Trap) → Lacks p a → equalZ p (t .place .0) ≡ true → removeTrap p (a ++ t ∷ b) ≡ a ++ b
 remove-at p [] b t h e = remove-here p t b e
 remove-at p (u ∷ a) b t h e = rw (remove-on p u (a ++ t ∷ b) (h .0)) (ap (λ l. u ∷ l) (remove-at p a b t (h .1) e))
 
@@ -90,7 +90,7 @@ remove-none p [] h = refl
 remove-none p (t ∷ ts) h = rw (remove-on p t ts (h .0), remove-none p ts (h .1))
 
 -- One trap more that has another N.
-pub lacks-end : (p : ℤ) (ts : List Trap) (t : Trap) → Lacks p ts → equalZ p (t .place) ≡ false → Lacks p (ts ++ t ∷ [])
+pub lacks-end : (p : ℤ) (ts : List Trap) (t : Trap) → Lacks p ts → equalZ p (t .place .0) ≡ false → Lacks p (ts ++ t ∷ [])
 lacks-end p [] t h e = (e, tt)
 lacks-end p (u ∷ ts) t h e = (h .0, lacks-end p ts t (h .1) e)
 
@@ -98,9 +98,9 @@ lacks-end p (u ∷ ts) t h e = (h .0, lacks-end p ts t (h .1) e)
 pub plant-length : (p : ℤ) (n : Name) (ts : List Trap) → length (plant p n ts) ≤ suc (length ts)
 unfolding plant
 plant-length p n [] = omega arith
-plant-length p n (t ∷ ts) = go (equalZ p (t .place)) refl (plant-length p n ts)
+plant-length p n (t ∷ ts) = go (equalZ p (t .place .0)) refl (plant-length p n ts)
   where
-    go : (b : Bool) → equalZ p (t .place) ≡ b → length (plant p n ts) ≤ suc (length ts) → length (plant p n (t ∷ ts)) ≤ suc (suc (length ts))
+    go : (b : Bool) → equalZ p (t .place .0) ≡ b → length (plant p n ts) ≤ suc (length ts) → length (plant p n (t ∷ ts)) ≤ suc (suc (length ts))
     go true e ih = rw (plant-here p n t ts e) (omega arith)
     go false e ih = rw (plant-on p n t ts e) (omega arith)
 
@@ -108,9 +108,9 @@ plant-length p n (t ∷ ts) = go (equalZ p (t .place)) refl (plant-length p n ts
 pub remove-length : (p : ℤ) (ts : List Trap) → length (removeTrap p ts) ≤ length ts
 unfolding removeTrap
 remove-length p [] = omega arith
-remove-length p (t ∷ ts) = go (equalZ p (t .place)) refl (remove-length p ts)
+remove-length p (t ∷ ts) = go (equalZ p (t .place .0)) refl (remove-length p ts)
   where
-    go : (b : Bool) → equalZ p (t .place) ≡ b → length (removeTrap p ts) ≤ length ts → length (removeTrap p (t ∷ ts)) ≤ suc (length ts)
+    go : (b : Bool) → equalZ p (t .place .0) ≡ b → length (removeTrap p ts) ≤ length ts → length (removeTrap p (t ∷ ts)) ≤ suc (length ts)
     go true e ih = rw (remove-here p t ts e) (omega arith)
     go false e ih = rw (remove-on p t ts e) (omega arith)
 
@@ -118,9 +118,9 @@ remove-length p (t ∷ ts) = go (equalZ p (t .place)) refl (remove-length p ts)
 pub lacks-plant : (q p : ℤ) (n : Name) (ts : List Trap) → equalZ q p ≡ false → Lacks q ts → Lacks q (plant p n ts)
 unfolding plant
 lacks-plant q p n [] d h = (d, tt)
-lacks-plant q p n (t ∷ ts) d h = go (equalZ p (t .place)) refl (lacks-plant q p n ts d (h .1))
+lacks-plant q p n (t ∷ ts) d h = go (equalZ p (t .place .0)) refl (lacks-plant q p n ts d (h .1))
   where
-    go : (b : Bool) → equalZ p (t .place) ≡ b → Lacks q (plant p n ts) → Lacks q (plant p n (t ∷ ts))
+    go : (b : Bool) → equalZ p (t .place .0) ≡ b → Lacks q (plant p n ts) → Lacks q (plant p n (t ∷ ts))
     go true e ih = rw (plant-here p n t ts e) (d, h .1)
     go false e ih = rw (plant-on p n t ts e) (h .0, ih)
 
@@ -128,19 +128,19 @@ lacks-plant q p n (t ∷ ts) d h = go (equalZ p (t .place)) refl (lacks-plant q 
 pub single-plant : (p : ℤ) (n : Name) (ts : List Trap) → Single ts → Single (plant p n ts)
 unfolding plant
 single-plant p n [] h = (tt, tt)
-single-plant p n (t ∷ ts) h = go (equalZ p (t .place)) refl (single-plant p n ts (h .1))
+single-plant p n (t ∷ ts) h = go (equalZ p (t .place .0)) refl (single-plant p n ts (h .1))
   where
-    go : (b : Bool) → equalZ p (t .place) ≡ b → Single (plant p n ts) → Single (plant p n (t ∷ ts))
-    go true e ih = rw (plant-here p n t ts e) (subst (λ k. Lacks k ts) (sym (equal-one p (t .place) e)) (h .0), h .1)
-    go false e ih = rw (plant-on p n t ts e) (lacks-plant (t .place) p n ts (equal-swap p (t .place) e) (h .0), ih)
+    go : (b : Bool) → equalZ p (t .place .0) ≡ b → Single (plant p n ts) → Single (plant p n (t ∷ ts))
+    go true e ih = rw (plant-here p n t ts e) (subst (λ k. Lacks k ts) (sym (equal-one p (t .place .0) e)) (h .0), h .1)
+    go false e ih = rw (plant-on p n t ts e) (lacks-plant (t .place .0) p n ts (equal-swap p (t .place .0) e) (h .0), ih)
 
 -- An N that no trap has is still had by none after any is removed.
 pub lacks-remove : (q p : ℤ) (ts : List Trap) → Lacks q ts → Lacks q (removeTrap p ts)
 unfolding removeTrap
 lacks-remove q p [] h = tt
-lacks-remove q p (t ∷ ts) h = go (equalZ p (t .place)) refl (lacks-remove q p ts (h .1))
+lacks-remove q p (t ∷ ts) h = go (equalZ p (t .place .0)) refl (lacks-remove q p ts (h .1))
   where
-    go : (b : Bool) → equalZ p (t .place) ≡ b → Lacks q (removeTrap p ts) → Lacks q (removeTrap p (t ∷ ts))
+    go : (b : Bool) → equalZ p (t .place .0) ≡ b → Lacks q (removeTrap p ts) → Lacks q (removeTrap p (t ∷ ts))
     go true e ih = rw (remove-here p t ts e) (h .1)
     go false e ih = rw (remove-on p t ts e) (h .0, ih)
 
@@ -148,29 +148,29 @@ lacks-remove q p (t ∷ ts) h = go (equalZ p (t .place)) refl (lacks-remove q p 
 pub single-remove : (p : ℤ) (ts : List Trap) → Single ts → Single (removeTrap p ts)
 unfolding removeTrap
 single-remove p [] h = tt
-single-remove p (t ∷ ts) h = go (equalZ p (t .place)) refl (single-remove p ts (h .1))
+single-remove p (t ∷ ts) h = go (equalZ p (t .place .0)) refl (single-remove p ts (h .1))
   where
-    go : (b : Bool) → equalZ p (t .place) ≡ b → Single (removeTrap p ts) → Single (removeTrap p (t ∷ ts))
+    go : (b : Bool) → equalZ p (t .place .0) ≡ b → Single (removeTrap p ts) → Single (removeTrap p (t ∷ ts))
     go true e ih = rw (remove-here p t ts e) (h .1)
-    go false e ih = rw (remove-on p t ts e) (lacks-remove (t .place) p ts (h .0), ih)
+    go false e ih = rw (remove-on p t ts e) (lacks-remove (t .place .0) p ts (h .0), ih)
 
 -- Uprooting leaves no trap of the N.
 pub gone-remove : (p : ℤ) (ts : List Trap) → Single ts → Lacks p (removeTrap p ts)
 unfolding removeTrap
 gone-remove p [] h = tt
-gone-remove p (t ∷ ts) h = go (equalZ p (t .place)) refl (gone-remove p ts (h .1))
+gone-remove p (t ∷ ts) h = go (equalZ p (t .place .0)) refl (gone-remove p ts (h .1))
   where
-    go : (b : Bool) → equalZ p (t .place) ≡ b → Lacks p (removeTrap p ts) → Lacks p (removeTrap p (t ∷ ts))
-    go true e ih = rw (remove-here p t ts e) (subst (λ k. Lacks k ts) (sym (equal-one p (t .place) e)) (h .0))
+    go : (b : Bool) → equalZ p (t .place .0) ≡ b → Lacks p (removeTrap p ts) → Lacks p (removeTrap p (t ∷ ts))
+    go true e ih = rw (remove-here p t ts e) (subst (λ k. Lacks k ts) (sym (equal-one p (t .place .0) e)) (h .0))
     go false e ih = rw (remove-on p t ts e) (e, ih)
 
 -- A row's trap is the first that stands at it.
-pub seen-first : (pl r : ℕ) (t : Trap) (ts : List Trap) → isRow r (rowOf pl (t .place)) ≡ true → seenAt pl r (t ∷ ts) ≡ some (t .name)
+pub seen-first : (pl r : ℕ) (t : Trap) (ts : List Trap) → isRow r (rowOf pl (t .place .0)) ≡ true → seenAt pl r (t ∷ ts) ≡ some (t .name)
 unfolding seenAt
 seen-first pl r t ts h = rw (seenAt, h)
 
 -- A trap that does not stand at the row is passed over.
-pub seen-later : (pl r : ℕ) (t : Trap) (ts : List Trap) → isRow r (rowOf pl (t .place)) ≡ false → seenAt pl r (t ∷ ts) ≡ seenAt pl r ts
+pub seen-later : (pl r : ℕ) (t : Trap) (ts : List Trap) → isRow r (rowOf pl (t .place .0)) ≡ false → seenAt pl r (t ∷ ts) ≡ seenAt pl r ts
 unfolding seenAt
 seen-later pl r t ts h = rw (seenAt, h)
 
@@ -178,9 +178,9 @@ seen-later pl r t ts h = rw (seenAt, h)
 pub seen-at : (pl r : ℕ) (a b : List Trap) → seenAt pl r a ≡ none → seenAt pl r (a ++ b) ≡ seenAt pl r b
 unfolding seenAt
 seen-at pl r [] b h = refl
-seen-at pl r (t ∷ a) b h = go (isRow r (rowOf pl (t .place))) refl (seen-at pl r a b)
+seen-at pl r (t ∷ a) b h = go (isRow r (rowOf pl (t .place .0))) refl (seen-at pl r a b)
   where
-    go : (x : Bool) → isRow r (rowOf pl (t .place)) ≡ x → (seenAt pl r a ≡ none → seenAt pl r (a ++ b) ≡ seenAt pl r b)
+    go : (x : Bool) → isRow r (rowOf pl (t .place .0)) ≡ x → (seenAt pl r a ≡ none → seenAt pl r (a ++ b) ≡ seenAt pl r b)
         → seenAt pl r (t ∷ (a ++ b)) ≡ seenAt pl r b
     go true e ih = let j = seen-first pl r t a e in let z : _≡_ {A = ℕ} 0 1 = cc in absurd (omega arith)
     go false e ih = seen-later pl r t (a ++ b) e ∙ ih (sym (seen-later pl r t a e) ∙ h)
@@ -189,9 +189,9 @@ seen-at pl r (t ∷ a) b h = go (isRow r (rowOf pl (t .place))) refl (seen-at pl
 pub seen-kept : (pl r : ℕ) (a b : List Trap) (n : Name) → seenAt pl r a ≡ some n → seenAt pl r (a ++ b) ≡ some n
 unfolding seenAt
 seen-kept pl r [] b n h = let z : _≡_ {A = ℕ} 0 1 = cc in absurd (omega arith)
-seen-kept pl r (t ∷ a) b n h = go (isRow r (rowOf pl (t .place))) refl (seen-kept pl r a b n)
+seen-kept pl r (t ∷ a) b n h = go (isRow r (rowOf pl (t .place .0))) refl (seen-kept pl r a b n)
   where
-    go : (x : Bool) → isRow r (rowOf pl (t .place)) ≡ x → (seenAt pl r a ≡ some n → seenAt pl r (a ++ b) ≡ some n) → seenAt pl r (t ∷ (a ++ b)) ≡ some n
+    go : (x : Bool) → isRow r (rowOf pl (t .place .0)) ≡ x → (seenAt pl r a ≡ some n → seenAt pl r (a ++ b) ≡ some n) → seenAt pl r (t ∷ (a ++ b)) ≡ some n
     go true e ih = seen-first pl r t (a ++ b) e ∙ (sym (seen-first pl r t a e) ∙ h)
     go false e ih = seen-later pl r t (a ++ b) e ∙ ih (sym (seen-later pl r t a e) ∙ h)
 
@@ -199,12 +199,12 @@ seen-kept pl r (t ∷ a) b n h = go (isRow r (rowOf pl (t .place))) refl (seen-k
 pub seen-plant-other : (pl r : ℕ) (p : ℤ) (n : Name) (ts : List Trap) → isRow r (rowOf pl p) ≡ false → seenAt pl r (plant p n ts) ≡ seenAt pl r ts
 unfolding plant
 seen-plant-other pl r p n [] h = seen-later pl r (trap p n) [] h
-seen-plant-other pl r p n (t ∷ ts) h = go (equalZ p (t .place)) (isRow r (rowOf pl (t .place))) refl refl (seen-plant-other pl r p n ts h)
+seen-plant-other pl r p n (t ∷ ts) h = go (equalZ p (t .place .0)) (isRow r (rowOf pl (t .place .0))) refl refl (seen-plant-other pl r p n ts h)
   where
-    go : (a b : Bool) → equalZ p (t .place) ≡ a → isRow r (rowOf pl (t .place)) ≡ b → seenAt pl r (plant p n ts) ≡ seenAt pl r ts
+    go : (a b : Bool) → equalZ p (t .place .0) ≡ a → isRow r (rowOf pl (t .place .0)) ≡ b → seenAt pl r (plant p n ts) ≡ seenAt pl r ts
         → seenAt pl r (plant p n (t ∷ ts)) ≡ seenAt pl r (t ∷ ts)
     go true b e f ih =
-        rw (plant-here p n t ts e, seen-later pl r (trap p n) ts h, seen-later pl r t ts (subst (λ k. isRow r (rowOf pl k) ≡ false) (equal-one p (t .place) e) h))
+        rw (plant-here p n t ts e, seen-later pl r (trap p n) ts h, seen-later pl r t ts (subst (λ k. isRow r (rowOf pl k) ≡ false) (equal-one p (t .place .0) e) h))
     go false true e f ih = rw (plant-on p n t ts e, seen-first pl r t (plant p n ts) f, seen-first pl r t ts f)
     go false false e f ih = rw (plant-on p n t ts e, seen-later pl r t (plant p n ts) f, seen-later pl r t ts f) ih
 
@@ -212,9 +212,9 @@ seen-plant-other pl r p n (t ∷ ts) h = go (equalZ p (t .place)) (isRow r (rowO
 pub seen-plant : (pl r : ℕ) (p : ℤ) (n : Name) (ts : List Trap) → isRow r (rowOf pl p) ≡ true → seenAt pl r ts ≡ none → seenAt pl r (plant p n ts) ≡ some n
 unfolding plant
 seen-plant pl r p n [] h i = seen-first pl r (trap p n) [] h
-seen-plant pl r p n (t ∷ ts) h i = go (equalZ p (t .place)) (isRow r (rowOf pl (t .place))) refl refl (seen-plant pl r p n ts h)
+seen-plant pl r p n (t ∷ ts) h i = go (equalZ p (t .place .0)) (isRow r (rowOf pl (t .place .0))) refl refl (seen-plant pl r p n ts h)
   where
-    go : (a b : Bool) → equalZ p (t .place) ≡ a → isRow r (rowOf pl (t .place)) ≡ b → (seenAt pl r ts ≡ none → seenAt pl r (plant p n ts) ≡ some n)
+    go : (a b : Bool) → equalZ p (t .place .0) ≡ a → isRow r (rowOf pl (t .place .0)) ≡ b → (seenAt pl r ts ≡ none → seenAt pl r (plant p n ts) ≡ some n)
         → seenAt pl r (plant p n (t ∷ ts)) ≡ some n
     go true b e f ih = rw (plant-here p n t ts e) (seen-first pl r (trap p n) ts h)
     go false true e f ih = let j = seen-first pl r t ts f in let z : _≡_ {A = ℕ} 0 1 = cc in absurd (omega arith)
@@ -228,11 +228,11 @@ seen-plant-second pl r p n m ts h i = rw (plant-new p n ts h) (seen-kept pl r ts
 pub seen-remove-other : (pl r : ℕ) (p : ℤ) (ts : List Trap) → isRow r (rowOf pl p) ≡ false → seenAt pl r (removeTrap p ts) ≡ seenAt pl r ts
 unfolding removeTrap
 seen-remove-other pl r p [] h = refl
-seen-remove-other pl r p (t ∷ ts) h = go (equalZ p (t .place)) (isRow r (rowOf pl (t .place))) refl refl (seen-remove-other pl r p ts h)
+seen-remove-other pl r p (t ∷ ts) h = go (equalZ p (t .place .0)) (isRow r (rowOf pl (t .place .0))) refl refl (seen-remove-other pl r p ts h)
   where
-    go : (a b : Bool) → equalZ p (t .place) ≡ a → isRow r (rowOf pl (t .place)) ≡ b → seenAt pl r (removeTrap p ts) ≡ seenAt pl r ts
+    go : (a b : Bool) → equalZ p (t .place .0) ≡ a → isRow r (rowOf pl (t .place .0)) ≡ b → seenAt pl r (removeTrap p ts) ≡ seenAt pl r ts
         → seenAt pl r (removeTrap p (t ∷ ts)) ≡ seenAt pl r (t ∷ ts)
-    go true b e f ih = rw (remove-here p t ts e, seen-later pl r t ts (subst (λ k. isRow r (rowOf pl k) ≡ false) (equal-one p (t .place) e) h))
+    go true b e f ih = rw (remove-here p t ts e, seen-later pl r t ts (subst (λ k. isRow r (rowOf pl k) ≡ false) (equal-one p (t .place .0) e) h))
     go false true e f ih = rw (remove-on p t ts e, seen-first pl r t (removeTrap p ts) f, seen-first pl r t ts f)
     go false false e f ih = rw (remove-on p t ts e, seen-later pl r t (removeTrap p ts) f, seen-later pl r t ts f) ih
 
@@ -276,41 +276,41 @@ nearer-between r q (some n) best h i = ne-eqb q n (λ e. go (ltb r n) (ltb n bes
 pub nearest-append : (pl r best : ℕ) (a b : List Trap) → nearestTrap pl r best (a ++ b) ≡ nearestTrap pl r (nearestTrap pl r best a) b
 unfolding nearestTrap
 nearest-append pl r best [] b = refl
-nearest-append pl r best (t ∷ a) b = nearest-append pl r (nearer r (rowOf pl (t .place)) best) a b
+nearest-append pl r best (t ∷ a) b = nearest-append pl r (nearer r (rowOf pl (t .place .0)) best) a b
 
 -- The nearest trap is below the row, if the best to begin with is.
 pub nearest-above : (pl r best : ℕ) (ts : List Trap) → r < best → r < nearestTrap pl r best ts
 unfolding nearestTrap
 nearest-above pl r best [] h = h
-nearest-above pl r best (t ∷ ts) h = nearest-above pl r (nearer r (rowOf pl (t .place)) best) ts (nearer-above r (rowOf pl (t .place)) best h)
+nearest-above pl r best (t ∷ ts) h = nearest-above pl r (nearer r (rowOf pl (t .place .0)) best) ts (nearer-above r (rowOf pl (t .place .0)) best h)
 
 -- It is at most the best to begin with.
 pub nearest-most : (pl r best : ℕ) (ts : List Trap) → nearestTrap pl r best ts ≤ best
 unfolding nearestTrap
 nearest-most pl r best [] = omega arith
 nearest-most pl r best (t ∷ ts) =
-    omega (arith, nearest-most pl r (nearer r (rowOf pl (t .place)) best) ts, nearer-most r (rowOf pl (t .place)) best)
+    omega (arith, nearest-most pl r (nearer r (rowOf pl (t .place .0)) best) ts, nearer-most r (rowOf pl (t .place .0)) best)
 
 -- Where it is less than that, a trap is there.
 pub nearest-there : (pl r best : ℕ) (ts : List Trap) → nearestTrap pl r best ts < best → (n : Name) × (seenAt pl (nearestTrap pl r best ts) ts ≡ some n)
 unfolding nearestTrap
 nearest-there pl r best [] h = absurd (omega arith)
-nearest-there pl r best (t ∷ ts) h = go (isRow near (rowOf pl (t .place))) (ltb near first) refl refl (nearest-there pl r first ts)
+nearest-there pl r best (t ∷ ts) h = go (isRow near (rowOf pl (t .place .0))) (ltb near first) refl refl (nearest-there pl r first ts)
   where
     first : ℕ
-    first = nearer r (rowOf pl (t .place)) best
+    first = nearer r (rowOf pl (t .place .0)) best
 
     near : ℕ
     near = nearestTrap pl r first ts
 
-    go : (a b : Bool) → isRow near (rowOf pl (t .place)) ≡ a → ltb near first ≡ b → (near < first → (n : Name) × (seenAt pl near ts ≡ some n))
+    go : (a b : Bool) → isRow near (rowOf pl (t .place .0)) ≡ a → ltb near first ≡ b → (near < first → (n : Name) × (seenAt pl near ts ≡ some n))
         → (n : Name) × (seenAt pl near (t ∷ ts) ≡ some n)
     go true b e f ih = (t .name, seen-first pl near t ts e)
     go false true e f ih = let g = ih (ltb-true near first f) in (g .0, seen-later pl near t ts e ∙ g .1)
     go false false e f ih =
         let same : near ≡ first = omega (arith, ltb-false near first f, nearest-most pl r first ts) in
-        let there = nearer-there r (rowOf pl (t .place)) best (omega arith) in
-        let z : true ≡ false = sym there ∙ subst (λ x. isRow x (rowOf pl (t .place)) ≡ false) same e in
+        let there = nearer-there r (rowOf pl (t .place .0)) best (omega arith) in
+        let z : true ≡ false = sym there ∙ subst (λ x. isRow x (rowOf pl (t .place .0)) ≡ false) same e in
         let y : _≡_ {A = ℕ} 0 1 = cc in absurd (omega arith)
 
 -- No trap is between the row and it.
@@ -318,6 +318,6 @@ pub nearest-between : (pl r q best : ℕ) (ts : List Trap) → r < q → q < nea
 unfolding nearestTrap seenAt
 nearest-between pl r q best [] h i = refl
 nearest-between pl r q best (t ∷ ts) h i =
-    let first = nearer r (rowOf pl (t .place)) best in
-    seen-later pl q t ts (nearer-between r q (rowOf pl (t .place)) best h (omega (arith, nearest-most pl r first ts)))
+    let first = nearer r (rowOf pl (t .place .0)) best in
+    seen-later pl q t ts (nearer-between r q (rowOf pl (t .place .0)) best h (omega (arith, nearest-most pl r first ts)))
     ∙ nearest-between pl r q first ts h i

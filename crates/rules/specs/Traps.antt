@@ -43,7 +43,7 @@ isRow r (some n) = eqb r n
 -- "of two at one row the earlier planted is seen"
 unfoldable pub seenAt : (pl row : Down) → List Trap → Option Name
 seenAt pl r [] = none
-seenAt pl r (t ∷ ts) = elim (isRow r (rowOf pl (t .place))) [ true ↦ some (t .name) | false ↦ seenAt pl r ts ]
+seenAt pl r (t ∷ ts) = elim (isRow r (rowOf pl (t .place .0))) [ true ↦ some (t .name) | false ↦ seenAt pl r ts ]
 
 -- "The nearest trap": the first row below this one that has a trap, or else the row `best`
 abbrev pub lower : Bool → Down → Down → Down
@@ -58,17 +58,17 @@ nearer r (some n) best = lower (ltb r n && ltb n best) n best
 -- the nearest of the traps below a row
 unfoldable pub nearestTrap : (pl row best : Down) → List Trap → Down
 nearestTrap pl r best [] = best
-nearestTrap pl r best (t ∷ ts) = nearestTrap pl r (nearer r (rowOf pl (t .place)) best) ts
+nearestTrap pl r best (t ∷ ts) = nearestTrap pl r (nearer r (rowOf pl (t .place .0)) best) ts
 
 -- "the same N is replaced and keeps its place in the order; no name removes"
 unfoldable pub plant : ℤ → Name → List Trap → List Trap
-plant p n [] = record { place = p; name = n } ∷ []
-plant p n (t ∷ ts) = elim (equalZ p (t .place)) [ true ↦ record { place = p; name = n } ∷ ts | false ↦ t ∷ plant p n ts ]
+plant p n [] = record { place = record { 0 = p }; name = n } ∷ []
+plant p n (t ∷ ts) = elim (equalZ p (t .place .0)) [ true ↦ record { place = record { 0 = p }; name = n } ∷ ts | false ↦ t ∷ plant p n ts ]
 
 -- "no name removes"
 unfoldable pub removeTrap : ℤ → List Trap → List Trap
 removeTrap p [] = []
-removeTrap p (t ∷ ts) = elim (equalZ p (t .place)) [ true ↦ ts | false ↦ t ∷ removeTrap p ts ]
+removeTrap p (t ∷ ts) = elim (equalZ p (t .place .0)) [ true ↦ ts | false ↦ t ∷ removeTrap p ts ]
 
 -- blank rows, as printed
 abbrev pub blankRows : Down → List ℕ

@@ -1,4 +1,5 @@
 // The types that the rules of document 01 and the code share. What the rules say is in specs/, in document 01's order.
+use measure::Rows;
 
 // A name of one or two bytes; the second byte of a one-byte name is 0.
 pub struct Name {
@@ -15,7 +16,7 @@ pub struct Register {
 
 // A planted trap: its row, a negative one counted up from the page end, and the name of its text.
 pub struct Trap {
-    pub place: i32,
+    pub place: Rows,
     pub name: Name,
 }
 

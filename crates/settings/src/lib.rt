@@ -18,7 +18,7 @@ ghost use Rattle.rules.specs.Settings.{steady as steadyOf, startLayout, withTot
 ghost use Rattle.rules.specs.Acts.{countOf, pageLength, spacing as spacingOf};
 ghost use Rattle.rules.specs.Filling.{indentNow, begun as begunOf};
 ghost use Rattle.rules.specs.TextLines.{asItStands, counted as countedOf};
-ghost use Rattle.arithmetic.specs.Values.{judgedOf};
+ghost use Rattle.scales.specs.Rounded.{downOf as roundedOf};
 ghost use Rattle.settings.specs.Layouts.{printerOf, TenToTheInch, SoundPrinter, totalOf, layoutOf, Limits, Laid, newLayoutIs, Ready, actedOf, Acted, performedOf, Performed, Room};
 
 // What a session is told of its printer: the pitch, the cells of the starting line and the rows of the starting page.
@@ -307,17 +307,14 @@ pub fn perform(
 }
 
 // The rows that an sp asks for, 1 where its argument is missing.
-pub fn spacing(argument: &[u8], printer: Printer) -> Value
+pub fn spacing(argument: &[u8], printer: Printer) -> Down
     requires { ⌜ SoundPrinter printer ⌝ }
-    ensures { λ r. ⌜ judgedOf r ≡ spacingOf (printerOf printer) (now (argument .entry)) ⌝ }
+    ensures { λ r. ⌜ roundedOf r ≡ spacingOf (printerOf printer) (now (argument .entry)) ⌝ }
 {
     if argument.len() == 0 {
-        return Value::Is(1);
+        return Down::Are(Rows(1));
     }
-    match scales::rows(argument, printer.pitch) {
-        Down::Are(rows) => Value::Is(rows.0),
-        Down::Bad => Value::Bad,
-    }
+    scales::rows(argument, printer.pitch)
 }
 
 // The indent printed: the ti total if one is kept.

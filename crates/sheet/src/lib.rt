@@ -92,7 +92,7 @@ pub fn break_line(
     let length = layout.page;
     let written = rows::broken_row(cells, collected.length, offset, collected.indent, &mut *row);
     let landed = springs::down(
-        1,
+        Rows(1),
         page,
         length,
         planted,
@@ -110,7 +110,7 @@ pub fn break_line(
 
 // Blank rows, and the move down.
 pub fn blank(
-    rows: u16,
+    rows: Rows,
     held: Held,
     bytes: &[u8],
     layout: Layout,
@@ -126,11 +126,11 @@ pub fn blank(
     seconds: &[u8; 64],
     texts: usize,
 ) -> Outcome
-    requires { ⌜ Begins planted (desk layout page collected (now cells) stack (now arena) (now ends)) (now bytes) (now row) (now firsts) (now seconds) texts × Plain held × (rows ≤ 500) ⌝ }
-    ensures { λ r. ⌜ Worked (λ ts s. rule.blank rows (heldOf ts held (now (bytes .entry))) s) (now (firsts .entry)) (now (seconds .entry)) texts planted (desk layout page collected (now (cells .entry)) stack (now (arena .entry)) (now (ends .entry))) (r .way) (r .written) (desk (r .layout) (r .page) (r .collected) (now (cells .entry)) (r .stack) (now (arena .exit)) (now (ends .exit))) (now (row .exit)) ⌝ }
+    requires { ⌜ Begins planted (desk layout page collected (now cells) stack (now arena) (now ends)) (now bytes) (now row) (now firsts) (now seconds) texts × Plain held × (downOf rows ≤ 500) ⌝ }
+    ensures { λ r. ⌜ Worked (λ ts s. rule.blank (downOf rows) (heldOf ts held (now (bytes .entry))) s) (now (firsts .entry)) (now (seconds .entry)) texts planted (desk layout page collected (now (cells .entry)) stack (now (arena .entry)) (now (ends .entry))) (r .way) (r .written) (desk (r .layout) (r .page) (r .collected) (now (cells .entry)) (r .stack) (now (arena .exit)) (now (ends .exit))) (now (row .exit)) ⌝ }
 {
     let length = layout.page;
-    let written = rows::blank_rows(measure::rows_down(rows), &mut *row);
+    let written = rows::blank_rows(rows, &mut *row);
     let landed = springs::down(
         rows,
         page,
@@ -150,7 +150,7 @@ pub fn blank(
 
 // "sp stops at the nearest trap or page end and drops the rest; 0 or less moves nothing."
 pub fn skip(
-    count: i32,
+    count: Rows,
     layout: Layout,
     page: Page,
     collected: Collected,
@@ -165,11 +165,11 @@ pub fn skip(
     texts: usize,
 ) -> Outcome
     requires { ⌜ Begins planted (desk layout page collected (now cells) stack (now arena) (now ends)) [] (now row) (now firsts) (now seconds) texts ⌝ }
-    ensures { λ r. ⌜ Worked (λ ts s. rule.skip count s) (now (firsts .entry)) (now (seconds .entry)) texts planted (desk layout page collected (now (cells .entry)) stack (now (arena .entry)) (now (ends .entry))) (r .way) (r .written) (desk (r .layout) (r .page) (r .collected) (now (cells .entry)) (r .stack) (now (arena .exit)) (now (ends .exit))) (now (row .exit)) ⌝ }
+    ensures { λ r. ⌜ Worked (λ ts s. rule.skip (count .0) s) (now (firsts .entry)) (now (seconds .entry)) texts planted (desk layout page collected (now (cells .entry)) stack (now (arena .entry)) (now (ends .entry))) (r .way) (r .written) (desk (r .layout) (r .page) (r .collected) (now (cells .entry)) (r .stack) (now (arena .exit)) (now (ends .exit))) (now (row .exit)) ⌝ }
 {
     let length = layout.page;
     let rows = page::blanks(count, page, length, planted);
-    if rows == 0 {
+    if measure::down(rows) == 0 {
         return lead_to(
             layout,
             collected,
@@ -201,11 +201,11 @@ pub fn skip(
 }
 
 // What is left of a bp after blank rows, if they end within the page.
-fn left_of(from: u32, page: Page, rows: u16, length: Rows) -> Held
+fn left_of(from: u32, page: Page, rows: Rows, length: Rows) -> Held
     requires { ⌜ (downOf (page .used) < downOf length) × (downOf length ≤ 500) ⌝ }
-    ensures { λ r. ⌜ r ≡ leftIf (ltb (downOf (page .used) + rows) (downOf length)) from ⌝ }
+    ensures { λ r. ⌜ r ≡ leftIf (ltb (downOf (page .used) + downOf rows) (downOf length)) from ⌝ }
 {
-    let to = measure::down(page.used) as usize + rows as usize;
+    let to = measure::down(page.used) as usize + measure::down(rows) as usize;
     if to < measure::down(length) as usize {
         return Held::Item(What::Ejects(from));
     }

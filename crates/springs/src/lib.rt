@@ -239,7 +239,7 @@ fn land(
 
 // "A written row moves down by one and springs the trap it reaches."
 pub fn down(
-    rows: u16,
+    rows: Rows,
     page: Page,
     length: Rows,
     planted: Planted,
@@ -253,7 +253,7 @@ pub fn down(
     texts: usize,
 ) -> Landed
     requires { ⌜ Sound page length planted × Ready stack (now arena) (now ends) (now bytes) × Plain held × Names (now firsts) (now seconds) texts ⌝ }
-    ensures { λ r. ⌜ MovedTo (rule.down rows) page length planted held (now (bytes .entry)) stack (now (arena .entry)) (now (ends .entry)) (now (firsts .entry)) (now (seconds .entry)) texts r (now (arena .exit)) (now (ends .exit)) ⌝ }
+    ensures { λ r. ⌜ MovedTo (rule.down (downOf rows)) page length planted held (now (bytes .entry)) stack (now (arena .entry)) (now (ends .entry)) (now (firsts .entry)) (now (seconds .entry)) texts r (now (arena .exit)) (now (ends .exit)) ⌝ }
 {
     let moved = page::move_down(page, rows, length, planted);
     land(

@@ -5,6 +5,7 @@ use arithmetic::Value;
 use libc::STDIN_FILENO;
 use libc::STDOUT_FILENO;
 use measure::Pitch;
+use measure::Rows;
 use references::Referred;
 use references::Shown;
 use references::Which;
@@ -455,7 +456,7 @@ fn on_registers(
     count
 }
 
-fn plant_at(p: Planted, place: i32, name: Name) -> Planted
+fn plant_at(p: Planted, place: Rows, name: Name) -> Planted
     requires { ⌜ Within p ⌝ }
     ensures { λ r. ⌜ Within r ⌝ }
 {
@@ -469,7 +470,7 @@ fn plant_at(p: Planted, place: i32, name: Name) -> Planted
     q
 }
 
-fn remove_at(p: Planted, place: i32) -> Planted
+fn remove_at(p: Planted, place: Rows) -> Planted
     requires { ⌜ Within p ⌝ }
     ensures { λ r. ⌜ Within r ⌝ }
 {
@@ -487,7 +488,7 @@ fn plant(p: Planted, place: &[u8], name: Name) -> Planted
         unknown();
         return p;
     };
-    plant_at(p, rows.0, name)
+    plant_at(p, rows, name)
 }
 
 // h PLACE
@@ -499,7 +500,7 @@ fn remove(p: Planted, place: &[u8]) -> Planted
         unknown();
         return p;
     };
-    remove_at(p, rows.0)
+    remove_at(p, rows)
 }
 
 // What stands behind h.

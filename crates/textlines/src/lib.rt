@@ -3,6 +3,7 @@ use fill::Overflow;
 use fill::Placed;
 use input::Stack;
 use input::What;
+use measure::Rows;
 use page::Page;
 use rules::Breaking;
 use settings::Layout;
@@ -140,7 +141,7 @@ fn overflow(
     let held = others_held(line, at, to, gap);
     let rest = slice(line, at, to);
     let landed = springs::down(
-        1,
+        Rows(1),
         page,
         rows,
         planted,
@@ -368,7 +369,7 @@ fn stand(
     let rows = counted.page;
     let none = slice(line, 0, 0);
     let landed = springs::down(
-        1,
+        Rows(1),
         page,
         rows,
         planted,
@@ -491,7 +492,7 @@ fn blank_line(
         );
     }
     sheet::skip(
-        1,
+        Rows(1),
         layout,
         page,
         collected,

@@ -14,22 +14,22 @@ use Rattle.traps.specs.TableLaws.{front-next, front-end}
 use Rattle.traps.specs.Checks.{lacks, single, isTable}
 
 module _ (l : List Trap) (n i : ℕ) (d : Trap) (h : i < n) (k : n ≤ length l) where
-  pub lacks-here : (p : ℤ) → equalZ p (getD l i d .place) ≡ true → lacks p (drop i (take n l)) ≡ false
+  pub lacks-here : (p : ℤ) → equalZ p (getD l i d .place .0) ≡ true → lacks p (drop i (take n l)) ≡ false
   unfolding lacks
   lacks-here p e = ap (lacks p) (front-next l n i d h k) ∙ ap (λ b. not b && lacks p (drop (i + 1) (take n l))) e
 
-  pub lacks-on : (p : ℤ) → equalZ p (getD l i d .place) ≡ false → lacks p (drop i (take n l)) ≡ lacks p (drop (i + 1) (take n l))
+  pub lacks-on : (p : ℤ) → equalZ p (getD l i d .place .0) ≡ false → lacks p (drop i (take n l)) ≡ lacks p (drop (i + 1) (take n l))
   unfolding lacks
   lacks-on p e = ap (lacks p) (front-next l n i d h k) ∙ ap (λ b. not b && lacks p (drop (i + 1) (take n l))) e
 
-  single-cons : single (drop i (take n l)) ≡ (lacks (getD l i d .place) (drop (i + 1) (take n l)) && single (drop (i + 1) (take n l)))
+  single-cons : single (drop i (take n l)) ≡ (lacks (getD l i d .place .0) (drop (i + 1) (take n l)) && single (drop (i + 1) (take n l)))
   unfolding single
   single-cons = ap single (front-next l n i d h k)
 
-  pub single-on : lacks (getD l i d .place) (drop (i + 1) (take n l)) ≡ true → single (drop i (take n l)) ≡ single (drop (i + 1) (take n l))
+  pub single-on : lacks (getD l i d .place .0) (drop (i + 1) (take n l)) ≡ true → single (drop i (take n l)) ≡ single (drop (i + 1) (take n l))
   single-on e = single-cons ∙ ap (λ b. b && single (drop (i + 1) (take n l))) e
 
-  pub single-stop : lacks (getD l i d .place) (drop (i + 1) (take n l)) ≡ false → single (drop i (take n l)) ≡ false
+  pub single-stop : lacks (getD l i d .place .0) (drop (i + 1) (take n l)) ≡ false → single (drop i (take n l)) ≡ false
   single-stop e = single-cons ∙ ap (λ b. b && single (drop (i + 1) (take n l))) e
 
 pub lacks-end : (l : List Trap) (n i : ℕ) (p : ℤ) → n ≤ i → lacks p (drop i (take n l)) ≡ true

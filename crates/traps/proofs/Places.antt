@@ -39,8 +39,8 @@ above (pos n) f t = record { small = f .sfits; plain = refl; row = λ page. refl
 above (negsuc n) f t = absurd (let e : _≡_ {A = ℕ} 0 1 = cc in omega arith)
 
 -- the rules' row of a place, where `row_of` answered s
-pub row-told : (z : ℤ) (page : ℕ) {r s : Row} → SFits w32 z → rowIs r ≡ rowOf page (toZ w32 (ofZ w32 z)) → r ≡ s → rowOf page z ≡ rowIs s
-row-told z page h e k = sym (rw (toZ-ofZ h, k) at e)
+pub row-told : (z : ℤ) (page : ℕ) {r s : Row} → rowIs r ≡ rowOf page z → r ≡ s → rowOf page z ≡ rowIs s
+row-told z page e k = sym (rw k at e)
 
 -- two places are equal exactly where their bits are
 pub same : (a b : ℤ) → SFits w32 a → SFits w32 b → ofZ w32 a ≡ ofZ w32 b → equalZ a b ≡ true
@@ -55,7 +55,7 @@ differ a b h = go (equalZ a b) refl
 
 -- what stands behind an array's end
 abbrev pub blank : Trap
-blank = record { place = pos 0; name = record { first = 0; second = 0 } }
+blank = record { place = record { 0 = pos 0 }; name = record { first = 0; second = 0 } }
 
 -- an array's length, as a struct that has it tells it
 pub sized : {X Y : Type 0} (f : X → Y) (l : List X) (n : ℕ) → length (map f l) ≡ n → length l ≡ n

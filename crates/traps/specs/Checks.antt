@@ -15,12 +15,12 @@ use Rattle.traps.specs.Table.{Within, plantedOf}
 -- whether no trap has this N
 unfoldable pub lacks : ℤ → List Trap → Bool
 lacks p [] = true
-lacks p (t ∷ ts) = not (equalZ p (t .place)) && lacks p ts
+lacks p (t ∷ ts) = not (equalZ p (t .place .0)) && lacks p ts
 
 -- whether no two traps have one N
 unfoldable pub single : List Trap → Bool
 single [] = true
-single (t ∷ ts) = lacks (t .place) ts && single ts
+single (t ∷ ts) = lacks (t .place .0) ts && single ts
 
 -- at most 16 traps, no two of one N
 abbrev pub isTable : Planted → Bool
@@ -38,23 +38,23 @@ lacks-sound : (p : ℤ) (ts : List Trap) → lacks p ts ≡ true → Lacks p ts
 unfolding lacks
 lacks-sound p [] h = tt
 lacks-sound p (t ∷ ts) h =
-    let b = both (not (equalZ p (t .place))) (lacks p ts) h in (not-true (equalZ p (t .place)) (b .0), lacks-sound p ts (b .1))
+    let b = both (not (equalZ p (t .place .0))) (lacks p ts) h in (not-true (equalZ p (t .place .0)) (b .0), lacks-sound p ts (b .1))
 
 lacks-complete : (p : ℤ) (ts : List Trap) → Lacks p ts → lacks p ts ≡ true
 unfolding lacks
 lacks-complete p [] h = refl
-lacks-complete p (t ∷ ts) h = and-true (not (equalZ p (t .place))) (lacks p ts) (ap not (h .0)) (lacks-complete p ts (h .1))
+lacks-complete p (t ∷ ts) h = and-true (not (equalZ p (t .place .0))) (lacks p ts) (ap not (h .0)) (lacks-complete p ts (h .1))
 
 single-sound : (ts : List Trap) → single ts ≡ true → Single ts
 unfolding single
 single-sound [] h = tt
 single-sound (t ∷ ts) h =
-    let b = both (lacks (t .place) ts) (single ts) h in (lacks-sound (t .place) ts (b .0), single-sound ts (b .1))
+    let b = both (lacks (t .place .0) ts) (single ts) h in (lacks-sound (t .place .0) ts (b .0), single-sound ts (b .1))
 
 single-complete : (ts : List Trap) → Single ts → single ts ≡ true
 unfolding single
 single-complete [] h = refl
-single-complete (t ∷ ts) h = and-true (lacks (t .place) ts) (single ts) (lacks-complete (t .place) ts (h .0)) (single-complete ts (h .1))
+single-complete (t ∷ ts) h = and-true (lacks (t .place .0) ts) (single ts) (lacks-complete (t .place .0) ts (h .0)) (single-complete ts (h .1))
 
 -- A table that passes the test keeps to its limits.
 pub table-sound : (p : Planted) → isTable p ≡ true → Within p × Single (plantedOf p)

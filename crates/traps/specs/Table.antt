@@ -23,7 +23,7 @@ Within p = p .count ≤ 16
 
 -- no trap is planted
 abbrev pub emptyTable : Planted
-emptyTable = record { traps = replicate 16 (record { place = pos 0; name = record { first = 0; second = 0 } }); count = 0 }
+emptyTable = record { traps = replicate 16 (record { place = record { 0 = pos 0 }; name = record { first = 0; second = 0 } }); count = 0 }
 
 -- the traps in the order in which they were planted
 abbrev pub plantedOf : Planted → List Trap
@@ -44,7 +44,7 @@ foundIs Nothing = none
 -- the index of the first trap of an N, or else the length
 unfoldable pub indexOf : ℤ → List Trap → ℕ
 indexOf p [] = 0
-indexOf p (t ∷ ts) = elim (equalZ p (t .place)) [ true ↦ 0 | false ↦ suc (indexOf p ts) ]
+indexOf p (t ∷ ts) = elim (equalZ p (t .place .0)) [ true ↦ 0 | false ↦ suc (indexOf p ts) ]
 
 -- the list without what stands at an index
 abbrev pub without : ℕ → List Trap → List Trap

@@ -32,14 +32,14 @@ front-end l n i h = drop-of-length-le (take n l) {i = i} (omega (arith, length-t
 
 -- What the rules' searches make of the trap that the loop is at.
 module _ (l : List Trap) (n i : ℕ) (d : Trap) (h : i < n) (k : n ≤ length l) where
-  pub seen-here : (pl r : ℕ) → isRow r (rowOf pl (getD l i d .place)) ≡ true → seenAt pl r (drop i (take n l)) ≡ some (getD l i d .name)
+  pub seen-here : (pl r : ℕ) → isRow r (rowOf pl (getD l i d .place .0)) ≡ true → seenAt pl r (drop i (take n l)) ≡ some (getD l i d .name)
   seen-here pl r e = rw (front-next l n i d h k) (seen-first pl r (getD l i d) (drop (i + 1) (take n l)) e)
 
-  pub seen-on : (pl r : ℕ) → isRow r (rowOf pl (getD l i d .place)) ≡ false → seenAt pl r (drop i (take n l)) ≡ seenAt pl r (drop (i + 1) (take n l))
+  pub seen-on : (pl r : ℕ) → isRow r (rowOf pl (getD l i d .place .0)) ≡ false → seenAt pl r (drop i (take n l)) ≡ seenAt pl r (drop (i + 1) (take n l))
   seen-on pl r e = rw (front-next l n i d h k) (seen-later pl r (getD l i d) (drop (i + 1) (take n l)) e)
 
   pub nearest-on : (pl r best : ℕ)
-      → nearestTrap pl r best (drop i (take n l)) ≡ nearestTrap pl r (nearer r (rowOf pl (getD l i d .place)) best) (drop (i + 1) (take n l))
+      → nearestTrap pl r best (drop i (take n l)) ≡ nearestTrap pl r (nearer r (rowOf pl (getD l i d .place .0)) best) (drop (i + 1) (take n l))
   unfolding nearestTrap
   nearest-on pl r best = rw (front-next l n i d h k)
 
@@ -52,20 +52,20 @@ unfolding nearestTrap
 nearest-end l n i pl r best h = rw (front-end l n i h)
 
 -- The index of a trap that has the N, and of one that comes later.
-pub index-here : (p : ℤ) (t : Trap) (ts : List Trap) → equalZ p (t .place) ≡ true → indexOf p (t ∷ ts) ≡ 0
+pub index-here : (p : ℤ) (t : Trap) (ts : List Trap) → equalZ p (t .place .0) ≡ true → indexOf p (t ∷ ts) ≡ 0
 unfolding indexOf
 index-here p t ts h = rw (indexOf, h)
 
-pub index-on : (p : ℤ) (t : Trap) (ts : List Trap) → equalZ p (t .place) ≡ false → indexOf p (t ∷ ts) ≡ suc (indexOf p ts)
+pub index-on : (p : ℤ) (t : Trap) (ts : List Trap) → equalZ p (t .place .0) ≡ false → indexOf p (t ∷ ts) ≡ suc (indexOf p ts)
 unfolding indexOf
 index-on p t ts h = rw (indexOf, h)
 
 -- The same of the trap that the loop is at.
 module _ (l : List Trap) (n i : ℕ) (d : Trap) (h : i < n) (k : n ≤ length l) where
-  pub index-is : (p : ℤ) → equalZ p (getD l i d .place) ≡ true → i + indexOf p (drop i (take n l)) ≡ i
+  pub index-is : (p : ℤ) → equalZ p (getD l i d .place .0) ≡ true → i + indexOf p (drop i (take n l)) ≡ i
   index-is p e = rw (front-next l n i d h k, index-here p (getD l i d) (drop (i + 1) (take n l)) e) (omega arith)
 
-  pub index-after : (p : ℤ) → equalZ p (getD l i d .place) ≡ false → i + indexOf p (drop i (take n l)) ≡ (i + 1) + indexOf p (drop (i + 1) (take n l))
+  pub index-after : (p : ℤ) → equalZ p (getD l i d .place .0) ≡ false → i + indexOf p (drop i (take n l)) ≡ (i + 1) + indexOf p (drop (i + 1) (take n l))
   index-after p e = rw (front-next l n i d h k, index-on p (getD l i d) (drop (i + 1) (take n l)) e) (omega arith)
 
 pub index-end : (l : List Trap) (n i : ℕ) (p : ℤ) → n ≤ i → i + indexOf p (drop i (take n l)) ≡ i
@@ -76,9 +76,9 @@ index-end l n i p h = rw (front-end l n i h) (omega arith)
 pub plant-index : (p : ℤ) (n : Name) (ts : List Trap) → plant p n ts ≡ take (indexOf p ts) ts ++ trap p n ∷ drop (suc (indexOf p ts)) ts
 unfolding indexOf plant
 plant-index p n [] = refl
-plant-index p n (t ∷ ts) = go (equalZ p (t .place)) refl (plant-index p n ts)
+plant-index p n (t ∷ ts) = go (equalZ p (t .place .0)) refl (plant-index p n ts)
   where
-    go : (b : Bool) → equalZ p (t .place) ≡ b → plant p n ts ≡ take (indexOf p ts) ts ++ trap p n ∷ drop (suc (indexOf p ts)) ts
+    go : (b : Bool) → equalZ p (t .place .0) ≡ b → plant p n ts ≡ take (indexOf p ts) ts ++ trap p n ∷ drop (suc (indexOf p ts)) ts
         → plant p n (t ∷ ts) ≡ take (indexOf p (t ∷ ts)) (t ∷ ts) ++ trap p n ∷ drop (suc (indexOf p (t ∷ ts))) (t ∷ ts)
     go true e ih = rw (index-here p t ts e) (plant-here p n t ts e)
     go false e ih = rw (index-on p t ts e) (plant-on p n t ts e ∙ ap (λ l. t ∷ l) ih)
@@ -86,9 +86,9 @@ plant-index p n (t ∷ ts) = go (equalZ p (t .place)) refl (plant-index p n ts)
 pub remove-index : (p : ℤ) (ts : List Trap) → removeTrap p ts ≡ without (indexOf p ts) ts
 unfolding indexOf removeTrap
 remove-index p [] = refl
-remove-index p (t ∷ ts) = go (equalZ p (t .place)) refl (remove-index p ts)
+remove-index p (t ∷ ts) = go (equalZ p (t .place .0)) refl (remove-index p ts)
   where
-    go : (b : Bool) → equalZ p (t .place) ≡ b → removeTrap p ts ≡ without (indexOf p ts) ts → removeTrap p (t ∷ ts) ≡ without (indexOf p (t ∷ ts)) (t ∷ ts)
+    go : (b : Bool) → equalZ p (t .place .0) ≡ b → removeTrap p ts ≡ without (indexOf p ts) ts → removeTrap p (t ∷ ts) ≡ without (indexOf p (t ∷ ts)) (t ∷ ts)
     go true e ih = rw (index-here p t ts e) (remove-here p t ts e)
     go false e ih = rw (index-on p t ts e) (remove-on p t ts e ∙ ap (λ l. t ∷ l) ih)
 

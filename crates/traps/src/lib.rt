@@ -1,4 +1,5 @@
 // The table of planted traps: at most 16, in the order in which they were planted.
+use measure::Rows;
 use rules::Name;
 use rules::Trap;
 ghost use mathlib.Core.Path.{_≡_};
@@ -34,7 +35,7 @@ pub fn empty() -> Planted
     ensures { λ r. ⌜ r ≡ emptyTable ⌝ }
 {
     let blank = Trap {
-        place: 0,
+        place: Rows(0),
         name: Name {
             first: 0,
             second: 0,
@@ -47,16 +48,16 @@ pub fn empty() -> Planted
 }
 
 // The index of the trap planted at a place, or else the count.
-fn index_of(p: Planted, place: i32) -> usize
+fn index_of(p: Planted, place: Rows) -> usize
     requires { ⌜ Within p ⌝ }
-    ensures { λ r. ⌜ r ≡ indexOf place (plantedOf p) ⌝ }
+    ensures { λ r. ⌜ r ≡ indexOf (place .0) (plantedOf p) ⌝ }
 {
     let traps = p.traps;
     let count = p.count;
     let mut i: usize = 0;
     while i < count {
         let trap = traps[i];
-        if place == trap.place {
+        if place.0 == trap.place.0 {
             return i;
         }
         i += 1;
@@ -65,9 +66,9 @@ fn index_of(p: Planted, place: i32) -> usize
 }
 
 // Plants a name at a place: the trap that is there is replaced, and a new one comes last.
-pub fn plant(p: Planted, place: i32, name: Name) -> Planting
+pub fn plant(p: Planted, place: Rows, name: Name) -> Planting
     requires { ⌜ Within p ⌝ }
-    ensures { λ r. ⌜ r ≡ plantingOf p place name ⌝ }
+    ensures { λ r. ⌜ r ≡ plantingOf p (place .0) name ⌝ }
 {
     let at = index_of(p, place);
     let count = p.count;
@@ -121,24 +122,24 @@ fn close_up(p: Planted, at: usize) -> Planted
 }
 
 // Removes the trap planted at a place, if there is one.
-pub fn remove(p: Planted, place: i32) -> Planted
+pub fn remove(p: Planted, place: Rows) -> Planted
     requires { ⌜ Within p ⌝ }
-    ensures { λ r. ⌜ r ≡ holding p (removeTrap place (plantedOf p)) ⌝ }
+    ensures { λ r. ⌜ r ≡ holding p (removeTrap (place .0) (plantedOf p)) ⌝ }
 {
     close_up(p, index_of(p, place))
 }
 
 // Whether no trap from an index on is planted at a place.
-fn lacks_place(p: Planted, start: usize, place: i32) -> bool
+fn lacks_place(p: Planted, start: usize, place: Rows) -> bool
     requires { ⌜ Within p ⌝ }
-    ensures { λ r. ⌜ r ≡ lacks place (drop start (plantedOf p)) ⌝ }
+    ensures { λ r. ⌜ r ≡ lacks (place .0) (drop start (plantedOf p)) ⌝ }
 {
     let traps = p.traps;
     let count = p.count;
     let mut i = start;
     while i < count {
         let trap = traps[i];
-        if place == trap.place {
+        if place.0 == trap.place.0 {
             return false;
         }
         i += 1;

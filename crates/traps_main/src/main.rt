@@ -2,6 +2,7 @@
 ghost use Prim.Native.Nat.{_≤_};
 ghost use Rattle.traps.specs.Table.{Within};
 use libc::STDOUT_FILENO;
+use measure::Rows;
 use rules::Name;
 use traps::Found;
 use traps::Planted;
@@ -25,7 +26,7 @@ fn row(digits: &[u8], place: i32, page: usize) {
     text(digits);
     text(b" of ");
     number(page);
-    match nearest::row_of(place, page) {
+    match nearest::row_of(Rows(place), page) {
         Row::At(n) => {
             text(b": ");
             number(n);
@@ -86,7 +87,7 @@ fn plant(p: Planted, place: i32, first: u8) -> Planted
     requires { ⌜ Within p ⌝ }
     ensures { λ r. ⌜ Within r ⌝ }
 {
-    let planting = traps::plant(p, place, Name { first, second: 0 });
+    let planting = traps::plant(p, Rows(place), Name { first, second: 0 });
     if planting.full {
         text(b"full\n");
     }
@@ -98,7 +99,7 @@ fn remove(p: Planted, place: i32) -> Planted
     requires { ⌜ Within p ⌝ }
     ensures { λ r. ⌜ Within r ⌝ }
 {
-    let q = traps::remove(p, place);
+    let q = traps::remove(p, Rows(place));
     table(q);
     q
 }

@@ -1,13 +1,8 @@
 -- `breaking::space` meets its contract. Assumes nothing.
-use mathlib.Core.Path.{ap, _∙_}
-use lib.IntN.{ℤ}
-use mir.Facts.{toZ-ofZ}
 use denote.Ref.{now}
-use borrow.Author.Needs.{needs, sfits-of}
-use Rattle.traps.specs.Table.{plantedOf}
+use borrow.Author.Needs.{needs}
 use Rattle.settings.specs.Layouts.{printerOf}
-use Rattle.rules.specs.Rows as rule
-use Rattle.sheet.specs.Desk.{desk, stateAt}
+use Rattle.sheet.specs.Desk.{desk}
 use Rattle.sheet.proofs.Work.{stays, same-work}
 use Rattle.breaking.proofs.Works.{spaced-by, space-refused}
 use Rattle.breaking.proofs.space.Statement.{statement}
@@ -34,7 +29,7 @@ returns c =
     let d = desk (a .layout) (a .page) (a .collected) (now (a .cells)) (a .stack) (now (a .arena)) (now (a .ends)) in
     let e = rw (c .before .before .before .before .before .count .given .1) at (c .before .before .before .before .before .before .before .spacing .ensures) in
     same-work (now (a .firsts)) (now (a .seconds)) (a .texts) (a .planted) d _ _ (a .page) _ _ _ _ (c .skip .ensures)
-    (λ ts x. ap (λ (z : ℤ). rule.skip z (stateAt ts (plantedOf (a .planted)) d x)) (toZ-ofZ (sfits-of (c .before .before .before .before .known-told .given .0 .1))) ∙ spaced-by (printerOf (a .printer)) (now (a .argument)) _ _ e)
+    (λ ts x. spaced-by (printerOf (a .printer)) (now (a .argument)) _ _ e)
 
 returns-2 : tie.Need-returns-2
 returns-2 c =

@@ -4,9 +4,8 @@ use mathlib.Core.Path.{_≡_, refl, sym, _∙_}
 use mathlib.Core.Bool.{Bool, true, false, _&&_}
 use native.Mathlib.Omega.{arith}
 use lib.ListN.{take, drop}
-use borrow.Author.Needs.{sfits-of, needs}
+use borrow.Author.Needs.{needs}
 use borrow.Author.Tests.{not-true, not-false}
-use mir.Facts.{toZ-ofZ}
 use Rattle.traps.proofs.Places.{sized, blank}
 use Rattle.checks.specs.LimitChecks.{arePlaces}
 use Rattle.checks.proofs.LimitWalks.{places-at, places-end}
@@ -33,13 +32,13 @@ is-place-requires c κs = search needs
 
 -- where the test of the row gave v, all pass if v is true and the rows behind it do
 step : (c : tie.After-is-place Inv-loop μ-loop) (v : Bool) → c .is-place .result ≡ v
-    → let l = c .before .before .before .before in let a = l .before .before .args in
+    → let l = c .before .before .before in let a = l .before .before .args in
     arePlaces (take (a .planted .count) (a .planted .traps)) ≡ (v && arePlaces (drop (l .loop .i + 1) (take (a .planted .count) (a .planted .traps))))
 step c v e =
-    let t = c .before .before .before in let l = t .before in let s = l .before .before in let p = s .args .planted in
+    let t = c .before .before in let l = t .before in let s = l .before .before in let p = s .args .planted in
     let n = sized _ (p .traps) 16 (s .good .0 .1 .1 .0 .1 .0 .1) in
     l .loop .inv .1 ∙ places-at (p .traps) (p .count) (l .loop .i) blank v (t .loop-test .taken) (omega (arith, s .pre))
-    (sym (rw (toZ-ofZ (sfits-of (c .before .struct-told .given .0 .1))) at (c .is-place .ensures)) ∙ e)
+    (sym (c .is-place .ensures) ∙ e)
 
 returns : tie.Need-returns Inv-loop μ-loop
 returns c = sym (step (c .before) false (not-true _ (c .if1 .taken)))

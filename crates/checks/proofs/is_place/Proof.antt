@@ -1,6 +1,7 @@
 -- `checks::is_place` meets its contract, by its two tests. Assumes nothing.
 use mathlib.Core.Path.{_≡_, sym}
 use lib.IntN.{natAbs}
+use borrow.Author.Needs.{sfits-of}
 use borrow.Author.Tests.{le-leb}
 use mir.Syntax.{w32}
 use mir.Val.{toZ, ofZ}
@@ -10,19 +11,19 @@ use Rattle.registers.proofs.CheckLaws.{below-outside, above-outside}
 use Rattle.checks.proofs.is_place.Statement.{statement}
 use Rattle.checks.proofs.is_place.Tie as tie
 
-place-is : (s : tie.Start) → toZ w32 (ofZ w32 (s .args .place)) ≡ s .args .place
-place-is s = toZ-ofZ (s .fits .place)
+place-is : (s : tie.After-struct-told) → toZ w32 (ofZ w32 (s .before .args .place .0)) ≡ s .before .args .place .0
+place-is s = toZ-ofZ (sfits-of (s .struct-told .given .0 .1))
 
 returns : tie.Need-returns
-returns c = below-outside (c .before .args .place) (rw (place-is (c .before)) at (c .if1 .taken))
+returns c = below-outside (c .before .before .args .place .0) (rw (place-is (c .before)) at (c .if1 .taken))
 
 returns-2 : tie.Need-returns-2
-returns-2 c = above-outside (c .before .before .args .place) (rw (place-is (c .before .before)) at (c .if2 .taken))
+returns-2 c = above-outside (c .before .before .before .args .place .0) (rw (place-is (c .before .before)) at (c .if2 .taken))
 
 returns-3 : tie.Need-returns-3
 returns-3 c =
-    let s = c .before .before in
-    sym (le-leb (natAbs (s .args .place)) 1000000000 (bounded (s .args .place) (rw (place-is s) at (c .before .if1 .left)) (rw (place-is s) at (c .if2 .left))))
+    let s = c .before .before in let z = s .before .args .place .0 in
+    sym (le-leb (natAbs z) 1000000000 (bounded z (rw (place-is s) at (c .before .if1 .left)) (rw (place-is s) at (c .if2 .left))))
 
 pub is-place-spec : {M : Type 1} → statement M
 is-place-spec = tie.close (tie.spec returns returns-2 returns-3)

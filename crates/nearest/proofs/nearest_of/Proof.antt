@@ -150,8 +150,8 @@ module _ {M : Type 1} (𝓤 : URA M) (H : Heap 𝓤) (A : Atoms 𝓤) (W : Given
         qed W [] ∵ nothing ! $ owned ! usize (Is usize) (uint-makes 𝓤 H A W w64) found (u ∷ []) is $ fjoin ! $ owned ! usize (Is usize) (uint-makes 𝓤 H A W w64) ro _ (refl, gr) $ fjoin ! $ owned ! usize (Is usize) (uint-makes 𝓤 H A W w64) pl _ (refl, gp) $ fjoin ! $
         owned ! T.the-row (Is T.the-row) (LL.makes T.the-type T′.the-plain 𝓤 H A) tr (tvals tr) it $ fjoin ! $ nothing ! $ join ! $ frame ! $ done !
 
-    said : (r : ℕ) → ent 𝓤 (ensured 𝓤 H A closer.ended (closer.clauses 𝓤 H A mem run) tt given-args tt r) (fact 𝓤 (r ≡ nearer ro (rowOf pl (tr .place)) found))
-    said r = exE 𝓤 _ (λ ws. snd∗ 𝓤 (sem 𝓤 H A (lasts closer.ended tt given-args ws)) (fact 𝓤 (r ≡ nearer ro (rowOf pl (tr .place)) found)))
+    said : (r : ℕ) → ent 𝓤 (ensured 𝓤 H A closer.ended (closer.clauses 𝓤 H A mem run) tt given-args tt r) (fact 𝓤 (r ≡ nearer ro (rowOf pl (tr .place .0)) found))
+    said r = exE 𝓤 _ (λ ws. snd∗ 𝓤 (sem 𝓤 H A (lasts closer.ended tt given-args ws)) (fact 𝓤 (r ≡ nearer ro (rowOf pl (tr .place .0)) found)))
 
   -- ---- the loop
   -- what holds at its head
@@ -214,7 +214,7 @@ module _ {M : Type 1} (𝓤 : URA M) (H : Heap 𝓤) (A : Atoms 𝓤) (W : Given
         calls-at ! (fmOf 𝓤 H (W .laws) 𝓣) (CloserC 𝓤 H A mem run) known (to (s .found) (s .u) (getD ys (s .i) blank))
         (and-then ! (load ! (from ! (stop !)) (look ! 3 refl)) (and-then ! (load ! (from ! (stop !)) (look ! 19 refl)) (and-then ! (load ! (from ! (stop !)) (look ! 17 refl)) (and-then ! (load ! (from ! (stop !)) (look ! 13 refl)) (no-more !))))) (λ v.
         use1 W (later (some (λ (r : ℕ). (‵ ftrue ⊛ ‵ (usize .own r (v ∷ []))) ⊛ raw (ensured 𝓤 H A closer.ended (closer.clauses 𝓤 H A mem run) tt (given-args (s .found) (s .u) (getD ys (s .i) blank)) tt r)))) (id⊢ 𝓤 _) $ await ! tt $ pick ! (λ r.
-        split ! $ move ! (1 ∷ []) $ use1 W (raw (fact 𝓤 (r ≡ nearer ro (rowOf pl (getD ys (s .i) blank .place)) (s .found)))) (said (s .found) (s .u) (getD ys (s .i) blank) r) $ heard ! (r ≡ nearer ro (rowOf pl (getD ys (s .i) blank .place)) (s .found)) (λ e.
+        split ! $ move ! (1 ∷ []) $ use1 W (raw (fact 𝓤 (r ≡ nearer ro (rowOf pl (getD ys (s .i) blank .place .0)) (s .found)))) (said (s .found) (s .u) (getD ys (s .i) blank) r) $ heard ! (r ≡ nearer ro (rowOf pl (getD ys (s .i) blank .place .0)) (s .found)) (λ e.
         split ! $ drop ! $ facts ! usize (Is usize) (shows 𝓤 H A usize) r (v ∷ []) (λ is.
         land ! (from ! (stop !)) (store ! 12 refl (uint-lawful 𝓤 H A W w64 .typed r _ is .0)) $
         assigns-last ! (bin ! (load ! (from ! (stop !)) (look ! 10 refl)) (lit ! tt) (record { fits = fits (next less r v is e) })) (from ! (stop !)) (store ! 10 refl (tt, record { fits = fits (next less r v is e) })) $
@@ -232,7 +232,7 @@ module _ {M : Type 1} (𝓤 : URA M) (H : Heap 𝓤) (A : Atoms 𝓤) (W : Given
         scaled : Holds (ltb (s .i) n) → s .i * 8 < 2 ^ 64
         scaled less = omega (arith, ltb→lt (s .i) n less, gn .1)
 
-        next : Holds (ltb (s .i) n) → (r : ℕ) (v : Val) → Is usize r (v ∷ []) → r ≡ nearer ro (rowOf pl (getD ys (s .i) blank .place)) (s .found) → St
+        next : Holds (ltb (s .i) n) → (r : ℕ) (v : Val) → Is usize r (v ∷ []) → r ≡ nearer ro (rowOf pl (getD ys (s .i) blank .place .0)) (s .found) → St
         next less r v is e = record {
           i = s .i + 1;
           found = r;

@@ -15,14 +15,26 @@ use Rattle.page.proofs.move_down.Tie as tie
 down-requires : tie.Need-down-requires
 down-requires c κs = search needs
 
-add-to : tie.Need-add-to
-add-to c = record { fits = omega (arith, c .down .ensures, c .before .pre .above, c .before .pre .short, c .before .fits .rows .fits) }
+cast-to : tie.Need-cast-to
+cast-to c = search needs
 
 down-requires-2 : tie.Need-down-requires-2
 down-requires-2 c κs = search needs
 
+cast-to-2 : tie.Need-cast-to-2
+cast-to-2 c = search needs
+
+add-to : tie.Need-add-to
+add-to c = search needs
+
+down-requires-3 : tie.Need-down-requires-3
+down-requires-3 c κs = search needs
+
+cast-end : tie.Need-cast-end
+cast-end c = search needs
+
 cast-rows-down : tie.Need-cast-rows-down
-cast-rows-down c = record { fits = omega (arith, c .before .down2 .ensures, c .before .before .before .pre .short) }
+cast-rows-down c = search needs
 
 rows-down-requires : tie.Need-rows-down-requires
 rows-down-requires c κs = search needs
@@ -33,19 +45,19 @@ seen-at-requires c κs = search needs
 returns : tie.Need-returns
 returns c =
     let y = c .before .before .before .before in
-    let a = y .before .args in
-    let to = y .down .result + a .rows in
+    let a = y .before .before .args in
+    let to = y .before .down .result + y .down2 .result in
     let ts = plantedOf (a .planted) in
-    let e = c .before .before .before .down2 .ensures in
+    let e = c .before .before .before .down3 .ensures in
     ap (λ (u : Rows). on (pageOf (record { number = a .page .number; used = u; last = a .page .last })) (foundIs (c .seen-at .result))) (c .before .rows-down .ensures)
-    ∙ within (pageOf (a .page)) (downOf (a .length)) ts (a .rows) to _ (ap (λ (n : ℕ). n + a .rows) (y .down .ensures)) (omega (arith, e))
+    ∙ within (pageOf (a .page)) (downOf (a .length)) ts (downOf (a .rows)) to _ (omega (arith, y .before .down .ensures, y .down2 .ensures)) (omega (arith, e))
     (c .seen-at .ensures ∙ ap (λ (n : ℕ). seenAt n to ts) e)
 
 returns-2 : tie.Need-returns-2
 returns-2 c =
     let y = c .before .before .before in
-    let a = y .before .args in
-    at-end (pageOf (a .page)) (downOf (a .length)) (plantedOf (a .planted)) (a .rows) (omega (arith, y .down .ensures, c .before .before .down2 .ensures)) (c .if2 .taken)
+    let a = y .before .before .args in
+    at-end (pageOf (a .page)) (downOf (a .length)) (plantedOf (a .planted)) (downOf (a .rows)) (omega (arith, y .before .down .ensures, y .down2 .ensures, c .before .before .down3 .ensures)) (c .if2 .taken)
 
 start-page-requires : tie.Need-start-page-requires
 start-page-requires c κs = search needs
@@ -53,15 +65,9 @@ start-page-requires c κs = search needs
 returns-3 : tie.Need-returns-3
 returns-3 c =
     let y = c .before .before .before .before in
-    let a = y .before .args in
+    let a = y .before .before .args in
     c .start-page .ensures
-    ∙ onward (pageOf (a .page)) (downOf (a .length)) (plantedOf (a .planted)) (a .rows) (omega (arith, y .down .ensures, c .before .before .before .down2 .ensures)) (c .before .if2 .left)
-
-cast-to : tie.Need-cast-to
-cast-to c = search needs
-
-cast-end : tie.Need-cast-end
-cast-end c = search needs
+    ∙ onward (pageOf (a .page)) (downOf (a .length)) (plantedOf (a .planted)) (downOf (a .rows)) (omega (arith, y .before .down .ensures, y .down2 .ensures, c .before .before .before .down3 .ensures)) (c .before .if2 .left)
 
 pub move-down-spec : {M : Type 1} → statement M
 move-down-spec =
@@ -69,8 +75,10 @@ move-down-spec =
     (tie.spec
     down-requires
     cast-to
-    add-to
     down-requires-2
+    cast-to-2
+    add-to
+    down-requires-3
     cast-end
     cast-rows-down
     rows-down-requires

@@ -13,8 +13,14 @@ use Rattle.page.proofs.rows_below.Tie as tie
 down-requires : tie.Need-down-requires
 down-requires c κs = search needs
 
+cast-used : tie.Need-cast-used
+cast-used c = search needs
+
 down-requires-2 : tie.Need-down-requires-2
 down-requires-2 c κs = search needs
+
+cast-end : tie.Need-cast-end
+cast-end c = search needs
 
 nearest-lent-requires : tie.Need-nearest-lent-requires
 nearest-lent-requires c κs = search needs
@@ -27,24 +33,21 @@ nearest c =
     c .nearest-lent .ensures ∙ ap (λ (n : ℕ). nearestTrap n (c .before .before .down .result) n ts) (c .before .down2 .ensures)
     ∙ ap (λ (n : ℕ). nearestTrap l n l ts) (c .before .before .down .ensures)
 
-sub-result : tie.Need-sub-result
-sub-result c =
+sub-rows-down : tie.Need-sub-rows-down
+sub-rows-down c =
     let a = c .before .before .before .args in
     omega (arith, nearest c, c .before .before .down .ensures, nearest-above (downOf (a .length)) (downOf (a .page .used)) (downOf (a .length)) (plantedOf (a .planted)) (c .before .before .before .pre .above))
 
-cast-result : tie.Need-cast-result
-cast-result c =
+cast-rows-down : tie.Need-cast-rows-down
+cast-rows-down c =
     let a = c .before .before .before .args in
     record { fits = omega (arith, nearest c, nearest-most (downOf (a .length)) (downOf (a .page .used)) (downOf (a .length)) (plantedOf (a .planted)), c .before .before .before .pre .short) }
 
+rows-down-requires : tie.Need-rows-down-requires
+rows-down-requires c κs = search needs
+
 returns : tie.Need-returns
-returns c = omega (arith, nearest c, c .before .before .down .ensures)
-
-cast-used : tie.Need-cast-used
-cast-used c = search needs
-
-cast-end : tie.Need-cast-end
-cast-end c = search needs
+returns c = omega (arith, ap downOf (c .rows-down .ensures), nearest (c .before), c .before .before .before .down .ensures)
 
 pub rows-below-spec : {M : Type 1} → statement M
 rows-below-spec =
@@ -55,6 +58,7 @@ rows-below-spec =
     down-requires-2
     cast-end
     nearest-lent-requires
-    sub-result
-    cast-result
+    sub-rows-down
+    cast-rows-down
+    rows-down-requires
     returns)

@@ -1,8 +1,7 @@
 -- `requests::plant` meets its contract: by its row. Assumes nothing.
 use mathlib.Core.Path.{sym, ap, _∙_}
 use native.Mathlib.Omega.{arith}
-use mir.Facts.{toZ-ofZ}
-use borrow.Author.Needs.{sfits-of, needs}
+use borrow.Author.Needs.{needs}
 use Rattle.scales.specs.Rounded.{downOf}
 use Rattle.settings.specs.Layouts.{printerOf}
 use Rattle.requests.proofs.TrapLaws.{no-row, row-known, row-bad}
@@ -28,11 +27,11 @@ enum-told c = search needs
 
 returns-2 : tie.Need-returns-2
 returns-2 c =
-    let s = c .before .before .before .before .before .before .before .before .before in
-    row-known (printerOf (s .args .printer)) (s .args .planted) (s .args .name .now) (s .pre .within) (s .args .row .now) (c .before .before .before .rows2 .given .0 .0 .0) _
-    (omega (arith, c .before .before .before .before .before .before .if1 .left))
-    (ap downOf (sym (c .before .before .before .rows2 .given .1)) ∙ c .before .before .before .before .before .rows .ensures)
-    (rw (toZ-ofZ (sfits-of (c .before .struct-told .given .0 .1))) at (c .plant-at .ensures))
+    let s = c .before .before .before .before .before .before .before .before in
+    row-known (printerOf (s .args .printer)) (s .args .planted) (s .args .name .now) (s .pre .within) (s .args .row .now) (c .before .before .rows2 .given .0 .0 .0) _
+    (omega (arith, c .before .before .before .before .before .if1 .left))
+    (ap downOf (sym (c .before .before .rows2 .given .1)) ∙ c .before .before .before .before .rows .ensures)
+    (c .plant-at .ensures)
 
 returns-3 : tie.Need-returns-3
 returns-3 c =

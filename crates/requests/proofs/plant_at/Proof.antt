@@ -1,6 +1,5 @@
 -- `requests::plant_at` meets its contract: by what its name is. Assumes nothing.
 use mathlib.Core.Path.{sym, ap, _∙_}
-use mir.Facts.{toZ-ofZ}
 use borrow.Author.Needs.{needs}
 use Rattle.lines.specs.Lines.{namedIs}
 use Rattle.requests.proofs.TrapLaws.{by-name, removed, unnamed}
@@ -28,19 +27,19 @@ enum-told-2 c = search needs
 returns : tie.Need-returns
 returns c =
     let s = c .before .before .before .before .before .before in
-    by-name (s .args .planted) (s .args .place) (s .args .name .now) (s .pre) (c .before .before .n .given .0 .0) _
-    (ap namedIs (sym (c .before .before .n .given .1)) ∙ c .before .before .before .before .name-of .ensures) (rw (toZ-ofZ (s .fits .place)) at (c .plant-name .ensures))
+    by-name (s .args .planted) (s .args .place .0) (s .args .name .now) (s .pre) (c .before .before .n .given .0 .0) _
+    (ap namedIs (sym (c .before .before .n .given .1)) ∙ c .before .before .before .before .name-of .ensures) (c .plant-name .ensures)
 
 returns-2 : tie.Need-returns-2
 returns-2 c =
     let s = c .before .before .before .before .before in
-    removed (s .args .planted) (s .args .place) (s .args .name .now) (s .pre) _ (ap namedIs (sym (c .before .enum-told .given .1)) ∙ c .before .before .before .name-of .ensures)
-    (rw (toZ-ofZ (s .fits .place)) at (c .remove .ensures))
+    removed (s .args .planted) (s .args .place .0) (s .args .name .now) (s .pre) _ (ap namedIs (sym (c .before .enum-told .given .1)) ∙ c .before .before .before .name-of .ensures)
+    (c .remove .ensures)
 
 returns-3 : tie.Need-returns-3
 returns-3 c =
     let s = c .before .before .before .before in
-    unnamed (s .args .planted) (s .args .place) (s .args .name .now) (s .pre) (ap namedIs (sym (c .enum-told2 .given .1)) ∙ c .before .before .name-of .ensures)
+    unnamed (s .args .planted) (s .args .place .0) (s .args .name .now) (s .pre) (ap namedIs (sym (c .enum-told2 .given .1)) ∙ c .before .before .name-of .ensures)
 
 pub plant-at-spec : {M : Type 1} → statement M
 plant-at-spec =

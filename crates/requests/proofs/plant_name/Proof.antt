@@ -1,5 +1,4 @@
 -- `requests::plant_name` meets its contract: by whether there are more than 16 traps. Assumes nothing.
-use mir.Facts.{toZ-ofZ}
 use borrow.Author.Needs.{needs}
 use Rattle.requests.proofs.TrapLaws.{planted-full, planted-new}
 use Rattle.requests.proofs.plant_name.Statement.{statement}
@@ -11,12 +10,12 @@ plant-requires c κs = search needs
 returns : tie.Need-returns
 returns c =
     let s = c .before .before .before in
-    planted-full (s .args .planted) (s .args .place) (s .args .name) (s .pre) _ (rw (toZ-ofZ (s .fits .place)) at (c .before .before .plant .ensures)) (c .if1 .taken)
+    planted-full (s .args .planted) (s .args .place .0) (s .args .name) (s .pre) _ (c .before .before .plant .ensures) (c .if1 .taken)
 
 returns-2 : tie.Need-returns-2
 returns-2 c =
     let s = c .before .before .before in
-    planted-new (s .args .planted) (s .args .place) (s .args .name) (s .pre) _ (rw (toZ-ofZ (s .fits .place)) at (c .before .before .plant .ensures)) (c .if1 .left)
+    planted-new (s .args .planted) (s .args .place .0) (s .args .name) (s .pre) _ (c .before .before .plant .ensures) (c .if1 .left)
 
 pub plant-name-spec : {M : Type 1} → statement M
 plant-name-spec = tie.close (tie.spec plant-requires returns returns-2)

@@ -1,6 +1,5 @@
 -- `sheet::blank` meets its contract. Assumes nothing.
-use mathlib.Core.Path.{_≡_, refl, ap}
-use native.Mathlib.Omega.{arith}
+use mathlib.Core.Path.{refl}
 use denote.Ref.{now}
 use borrow.Author.Needs.{needs}
 use Rattle.measure.specs.Counts.{downOf}
@@ -10,11 +9,8 @@ use Rattle.sheet.proofs.Work.{moves}
 use Rattle.sheet.proofs.blank.Statement.{statement}
 use Rattle.sheet.proofs.blank.Tie as tie
 
-rows-down-requires : tie.Need-rows-down-requires
-rows-down-requires c κs = search needs
-
 blank-rows-requires : tie.Need-blank-rows-requires
-blank-rows-requires c κs = let y = c .before .before .before .before in (y .pre .0 .long, omega (arith, ap downOf (c .before .rows-down .ensures), y .pre .2))
+blank-rows-requires c κs = search needs
 
 down-requires : tie.Need-down-requires
 down-requires c κs = search needs
@@ -24,14 +20,14 @@ lead-to-requires c κs = search needs
 
 returns : tie.Need-returns
 returns c =
-    let y = c .before .before .before .before .before .before .before .before .before in let a = y .args in let b = y .pre .0 in
+    let y = c .before .before .before .before .before .before .before .before in let a = y .args in let b = y .pre .0 in
     let d = desk (a .layout) (a .page) (a .collected) (now (a .cells)) (a .stack) (now (a .arena)) (now (a .ends)) in
-    let w = rw (c .before .before .before .before .before .before .rows-down .ensures) at (c .before .before .before .before .blank-rows .ensures) in
+    let w = c .before .before .before .before .blank-rows .ensures in
     rw (c .lead-to .ensures)
-    (moves (now (a .firsts)) (now (a .seconds)) (a .texts) (a .planted) d _ _ (rule.down (a .rows)) (a .collected) (a .held) (now (a .bytes)) _ _ _ _ _ _ (c .before .down .ensures) (w .0) (w .1) (b .long)
+    (moves (now (a .firsts)) (now (a .seconds)) (a .texts) (a .planted) d _ _ (rule.down (downOf (a .rows))) (a .collected) (a .held) (now (a .bytes)) _ _ _ _ _ _ (c .before .down .ensures) (w .0) (w .1) (b .long)
     (b .sound) (λ ts x. refl))
 
 pub blank-spec : {M : Type 1} → statement M
 blank-spec =
     tie.close
-    (tie.spec rows-down-requires blank-rows-requires down-requires lead-to-requires returns)
+    (tie.spec blank-rows-requires down-requires lead-to-requires returns)

@@ -40,15 +40,15 @@ blank-requires : tie.Need-blank-requires
 blank-requires c κs =
     let y = c .before .before .before .before .before .before .before .before .before in let a = y .args in
     let p = pageOf (a .page) in let l = downOf (a .layout .page) in let t = plantedOf (a .planted) in
-    (record { sound = y .pre .sound; items = y .pre .items; short = omega arith; long = y .pre .long; names = y .pre .names }, subst Plain (sym (c .before .before .before .before .left-of .ensures)) (left-plain (ltb (downOf (a .page .used) + c .before .before .before .before .before .rows-below .result) l) (a .from)), omega (arith, c .before .before .before .before .before .rows-below .ensures, rows-few p l t, y .pre .sound .limits .page-most))
+    (record { sound = y .pre .sound; items = y .pre .items; short = omega arith; long = y .pre .long; names = y .pre .names }, subst Plain (sym (c .before .before .before .before .left-of .ensures)) (left-plain (ltb (downOf (a .page .used) + downOf (c .before .before .before .before .before .rows-below .result)) l) (a .from)), omega (arith, c .before .before .before .before .before .rows-below .ensures, rows-few p l t, y .pre .sound .limits .page-most))
 
 returns-2 : tie.Need-returns-2
 returns-2 c =
     let y = c .before .before .before .before .before .before .before .before .before .before in let a = y .args in
     let d = desk (a .layout) (a .page) (a .collected) (now (a .cells)) (a .stack) (now (a .arena)) (now (a .ends)) in
     let r = c .before .before .before .before .before .before .rows-below in let h = c .before .before .before .before .before .left-of in
-    same-work (now (a .firsts)) (now (a .seconds)) (a .texts) (a .planted) d _ (λ ts s. rule.blank (r .result) (heldOf ts (h .result) []) s) (a .page) _ _ _ _ (c .blank .ensures)
-    (λ ts x. rw (h .ensures) (eject-is d (plantedOf (a .planted)) ts x (a .from) (r .result) _ (eq-eqb _ _ (c .before .before .before .before .before .before .before .before .if1 .left)) (r .ensures)))
+    same-work (now (a .firsts)) (now (a .seconds)) (a .texts) (a .planted) d _ (λ ts s. rule.blank (downOf (r .result)) (heldOf ts (h .result) []) s) (a .page) _ _ _ _ (c .blank .ensures)
+    (λ ts x. rw (h .ensures) (eject-is d (plantedOf (a .planted)) ts x (a .from) (downOf (r .result)) _ (eq-eqb _ _ (c .before .before .before .before .before .before .before .before .if1 .left)) (r .ensures)))
 
 pub eject-spec : {M : Type 1} → statement M
 eject-spec =

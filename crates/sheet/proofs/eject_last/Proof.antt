@@ -29,8 +29,8 @@ returns c =
     let y = c .before .before .before .before .before .before .before in let a = y .args in
     let d = desk (a .layout) (a .page) (a .collected) (now (a .cells)) (a .stack) (now (a .arena)) (now (a .ends)) in
     let r = c .before .before .before .before .before .rows-below in
-    same-work (now (a .firsts)) (now (a .seconds)) (a .texts) (a .planted) d _ (λ ts s. rule.blank (r .result) [] s) (a .page) _ _ _ _ (c .blank .ensures)
-    (λ ts x. eject-last-is d (plantedOf (a .planted)) ts x (r .result) (r .ensures))
+    same-work (now (a .firsts)) (now (a .seconds)) (a .texts) (a .planted) d _ (λ ts s. rule.blank (downOf (r .result)) [] s) (a .page) _ _ _ _ (c .blank .ensures)
+    (λ ts x. eject-last-is d (plantedOf (a .planted)) ts x (downOf (r .result)) (r .ensures))
 
 pub eject-last-spec : {M : Type 1} → statement M
 eject-last-spec =

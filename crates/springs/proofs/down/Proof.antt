@@ -23,13 +23,13 @@ land-requires c κs = search needs
 returns : tie.Need-returns
 returns c =
     let y = c .before .before .before .before .before in let a = y .args in let m = c .before .before .before .move-down in
-    moved (landingIs (m .result)) (rule.down (a .rows)) (a .page) (a .length) (a .planted) (a .held) (now (a .bytes)) (a .stack) (now (a .arena)) (now (a .ends)) (now (a .firsts)) (now (a .seconds)) (a .texts) _ _ _ (c .land .ensures)
+    moved (landingIs (m .result)) (rule.down (downOf (a .rows))) (a .page) (a .length) (a .planted) (a .held) (now (a .bytes)) (a .stack) (now (a .arena)) (now (a .ends)) (now (a .firsts)) (now (a .seconds)) (a .texts) _ _ _ (c .land .ensures)
     (λ held x e f g.
-    let q : landingIs (m .result) ≡ landingDown (x .page) (x .layout .page) (a .rows) (x .tables .traps) = rw (e, f, g) (m .ensures) in
-    ap (λ (l : Landing). landed l held x) q ∙ down-lands held x (a .rows))
+    let q : landingIs (m .result) ≡ landingDown (x .page) (x .layout .page) (downOf (a .rows)) (x .tables .traps) = rw (e, f, g) (m .ensures) in
+    ap (λ (l : Landing). landed l held x) q ∙ down-lands held x (downOf (a .rows)))
     (y .pre .0 .above)
-    (subst (LandsWithin (downOf (a .length))) (sym (m .ensures)) (down-within (pageOf (a .page)) (downOf (a .length)) (plantedOf (a .planted)) (y .pre .0 .above) (a .rows)))
-    (λ h. subst LandsNumbered (sym (m .ensures)) (down-numbered (pageOf (a .page)) (downOf (a .length)) (plantedOf (a .planted)) h (a .rows)))
+    (subst (LandsWithin (downOf (a .length))) (sym (m .ensures)) (down-within (pageOf (a .page)) (downOf (a .length)) (plantedOf (a .planted)) (y .pre .0 .above) (downOf (a .rows))))
+    (λ h. subst LandsNumbered (sym (m .ensures)) (down-numbered (pageOf (a .page)) (downOf (a .length)) (plantedOf (a .planted)) h (downOf (a .rows))))
 
 pub down-spec : {M : Type 1} → statement M
 down-spec = tie.close (tie.spec move-down-requires land-requires returns)

@@ -4,9 +4,6 @@ use mathlib.Core.Path.{_≡_, sym, _∙_}
 use native.Mathlib.Omega.{arith}
 use lib.ListN.{length, take, drop, getD}
 use borrow.Author.Needs.{sfits-of, needs}
-use mir.Facts.{toZ-ofZ}
-use mir.Syntax.{w32}
-use mir.Val.{toZ}
 use Rattle.traps.specs.Table.{indexOf}
 use Rattle.traps.specs.TableLaws.{index-is, index-after, index-end}
 use Rattle.traps.proofs.Places.{sized, blank, same, differ}
@@ -14,7 +11,7 @@ use Rattle.traps.proofs.index_of.Statement.{statement}
 use Rattle.traps.proofs.index_of.Tie as tie
 
 abbrev Inv-loop : tie.InvT-loop
-Inv-loop place traps count i₀ i = (i ≤ count) × (indexOf (toZ w32 place) (take count traps) ≡ i + indexOf (toZ w32 place) (drop i (take count traps)))
+Inv-loop place traps count i₀ i = (i ≤ count) × (indexOf (place .0) (take count traps) ≡ i + indexOf (place .0) (drop i (take count traps)))
 
 abbrev μ-loop : tie.MeasureT-loop
 μ-loop place traps count i₀ i = count - i
@@ -33,12 +30,11 @@ array-copy-out-trap c = search needs
 
 returns : tie.Need-returns Inv-loop μ-loop
 returns c =
-    let p = c .before .before .before .before .before in
+    let p = c .before .before .before .before .before .before .before in
     let a = p .before .before .args in
     let n = long (p .before .before) in
-    let f = p .before .before .fits .place in
-    let e = same (a .place) _ f (sfits-of (c .before .struct-told .given .0 .1)) (c .if1 .taken) in
-    sym ((rw (toZ-ofZ f) at (p .loop .inv .1)) ∙ index-is (a .p .traps) (a .p .count) (p .loop .i) blank (c .before .before .before .before .loop-test .taken) (omega arith) (a .place) e)
+    let e = same (a .place .0) _ (sfits-of (c .before .before .before .struct-told .given .0 .1)) (sfits-of (c .before .struct-told2 .given .0 .1 .1 .0 .1)) (c .if1 .taken) in
+    sym (p .loop .inv .1 ∙ index-is (a .p .traps) (a .p .count) (p .loop .i) blank (c .before .before .before .before .before .before .loop-test .taken) (omega arith) (a .place .0) e)
 
 add-i : tie.Need-add-i Inv-loop μ-loop
 add-i c = search needs
@@ -48,18 +44,17 @@ loop-less c = search needs
 
 loop-again : tie.Need-loop-again Inv-loop μ-loop
 loop-again c =
-    let p = c .before .before .before .before .before in
+    let p = c .before .before .before .before .before .before .before in
     let a = p .before .before .args in
     let n = long (p .before .before) in
-    let f = p .before .before .fits .place in
-    let e = index-after (a .p .traps) (a .p .count) (p .loop .i) blank (c .before .before .before .before .loop-test .taken) (omega arith) (a .place) (differ (a .place) (getD (a .p .traps) (p .loop .i) blank .place) (c .if1 .left)) in
-    (search needs, rw (toZ-ofZ f) ((rw (toZ-ofZ f) at (p .loop .inv .1)) ∙ e))
+    let e = index-after (a .p .traps) (a .p .count) (p .loop .i) blank (c .before .before .before .before .before .before .loop-test .taken) (omega arith) (a .place .0) (differ (a .place .0) (getD (a .p .traps) (p .loop .i) blank .place .0) (c .if1 .left)) in
+    (search needs, p .loop .inv .1 ∙ e)
 
 returns-2 : tie.Need-returns-2 Inv-loop μ-loop
 returns-2 c =
     let p = c .before in
     let a = p .before .before .args in
-    sym ((rw (toZ-ofZ (p .before .before .fits .place)) at (p .loop .inv .1)) ∙ index-end (a .p .traps) (a .p .count) (p .loop .i) (a .place) (omega arith))
+    sym (p .loop .inv .1 ∙ index-end (a .p .traps) (a .p .count) (p .loop .i) (a .place .0) (omega arith))
 
 pub index-of-spec : {M : Type 1} → statement M
 index-of-spec =

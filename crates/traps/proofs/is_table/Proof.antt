@@ -4,8 +4,6 @@ use mathlib.Core.Path.{_≡_, sym, _∙_}
 use mathlib.Core.Bool.{Bool, true, false}
 use native.Mathlib.Omega.{arith}
 use lib.ListN.{length, take, drop, getD}
-use borrow.Author.Needs.{sfits-of, needs}
-use mir.Facts.{toZ-ofZ}
 use Rattle.traps.specs.Checks.{lacks, single, isTable}
 use Rattle.traps.proofs.Places.{sized, blank}
 use Rattle.traps.proofs.CheckLaws.{single-on, single-stop, single-end, table-many, table-few}
@@ -23,9 +21,9 @@ long c = sized _ (c .args .p .traps) 16 (c .good .0 .1 .1 .0 .1 .0 .1)
 
 -- whether the traps behind the one at i lack its place, where the search gave v
 rest : (c : tie.After-lacks-place Inv-loop μ-loop) (v : Bool) → c .lacks-place .result ≡ v
-    → let l = c .before .before .before .before in let a = l .before .before .before .args in
-    lacks (getD (a .p .traps) (l .loop .i) blank .place) (drop (l .loop .i + 1) (take (a .p .count) (a .p .traps))) ≡ v
-rest c v e = sym (rw (toZ-ofZ (sfits-of (c .before .struct-told .given .0 .1))) at (c .lacks-place .ensures)) ∙ e
+    → let l = c .before .before .before in let a = l .before .before .before .args in
+    lacks (getD (a .p .traps) (l .loop .i) blank .place .0) (drop (l .loop .i + 1) (take (a .p .count) (a .p .traps))) ≡ v
+rest c v e = sym (c .lacks-place .ensures) ∙ e
 
 returns : tie.Need-returns Inv-loop μ-loop
 returns c = sym (table-many (c .before .before .args .p) (omega arith))
@@ -50,15 +48,15 @@ loop-less c = omega arith
 
 loop-again : tie.Need-loop-again Inv-loop μ-loop
 loop-again c =
-    let l = c .before .before .before .before .before in let s = l .before .before .before in
+    let l = c .before .before .before .before in let s = l .before .before .before in
     let n = long s in
-    (omega arith, l .loop .inv .1 ∙ single-on (s .args .p .traps) (s .args .p .count) (l .loop .i) blank (c .before .before .before .before .loop-test .taken) (omega (arith, l .before .if1 .left)) (rest (c .before) true (c .if2 .taken)))
+    (omega arith, l .loop .inv .1 ∙ single-on (s .args .p .traps) (s .args .p .count) (l .loop .i) blank (c .before .before .before .loop-test .taken) (omega (arith, l .before .if1 .left)) (rest (c .before) true (c .if2 .taken)))
 
 returns-2 : tie.Need-returns-2 Inv-loop μ-loop
 returns-2 c =
-    let l = c .before .before .before .before .before in let s = l .before .before .before in
+    let l = c .before .before .before .before in let s = l .before .before .before in
     let n = long s in
-    sym (l .loop .inv .1 ∙ single-stop (s .args .p .traps) (s .args .p .count) (l .loop .i) blank (c .before .before .before .before .loop-test .taken) (omega (arith, l .before .if1 .left)) (rest (c .before) false (c .if2 .left)))
+    sym (l .loop .inv .1 ∙ single-stop (s .args .p .traps) (s .args .p .count) (l .loop .i) blank (c .before .before .before .loop-test .taken) (omega (arith, l .before .if1 .left)) (rest (c .before) false (c .if2 .left)))
 
 returns-3 : tie.Need-returns-3 Inv-loop μ-loop
 returns-3 c =

@@ -4,9 +4,6 @@ use mathlib.Core.Path.{_≡_, refl, sym, _∙_}
 use native.Mathlib.Omega.{arith}
 use lib.ListN.{length, take, drop, getD}
 use borrow.Author.Needs.{sfits-of, needs}
-use mir.Facts.{toZ-ofZ}
-use mir.Syntax.{w32}
-use mir.Val.{toZ}
 use Rattle.traps.specs.Checks.{lacks}
 use Rattle.traps.proofs.Places.{sized, blank, same, differ}
 use Rattle.traps.proofs.CheckLaws.{lacks-here, lacks-on, lacks-end}
@@ -14,7 +11,7 @@ use Rattle.traps.proofs.lacks_place.Statement.{statement}
 use Rattle.traps.proofs.lacks_place.Tie as tie
 
 abbrev Inv-loop : tie.InvT-loop
-Inv-loop start place traps count i₀ i = lacks (toZ w32 place) (drop start (take count traps)) ≡ lacks (toZ w32 place) (drop i (take count traps))
+Inv-loop start place traps count i₀ i = lacks (place .0) (drop start (take count traps)) ≡ lacks (place .0) (drop i (take count traps))
 
 abbrev μ-loop : tie.MeasureT-loop
 μ-loop start place traps count i₀ i = count - i
@@ -33,12 +30,11 @@ array-copy-out-trap c = search needs
 
 returns : tie.Need-returns Inv-loop μ-loop
 returns c =
-    let p = c .before .before .before .before .before in
+    let p = c .before .before .before .before .before .before .before in
     let a = p .before .before .args in
     let n = long (p .before .before) in
-    let f = p .before .before .fits .place in
-    let e = same (a .place) _ f (sfits-of (c .before .struct-told .given .0 .1)) (c .if1 .taken) in
-    sym ((rw (toZ-ofZ f) at (p .loop .inv)) ∙ lacks-here (a .p .traps) (a .p .count) (p .loop .i) blank (c .before .before .before .before .loop-test .taken) (omega arith) (a .place) e)
+    let e = same (a .place .0) _ (sfits-of (c .before .before .before .struct-told .given .0 .1)) (sfits-of (c .before .struct-told2 .given .0 .1 .1 .0 .1)) (c .if1 .taken) in
+    sym (p .loop .inv ∙ lacks-here (a .p .traps) (a .p .count) (p .loop .i) blank (c .before .before .before .before .before .before .loop-test .taken) (omega arith) (a .place .0) e)
 
 add-i : tie.Need-add-i Inv-loop μ-loop
 add-i c = search needs
@@ -48,18 +44,17 @@ loop-less c = search needs
 
 loop-again : tie.Need-loop-again Inv-loop μ-loop
 loop-again c =
-    let p = c .before .before .before .before .before in
+    let p = c .before .before .before .before .before .before .before in
     let a = p .before .before .args in
     let n = long (p .before .before) in
-    let f = p .before .before .fits .place in
-    let e = lacks-on (a .p .traps) (a .p .count) (p .loop .i) blank (c .before .before .before .before .loop-test .taken) (omega arith) (a .place) (differ (a .place) (getD (a .p .traps) (p .loop .i) blank .place) (c .if1 .left)) in
-    rw (toZ-ofZ f) ((rw (toZ-ofZ f) at (p .loop .inv)) ∙ e)
+    let e = lacks-on (a .p .traps) (a .p .count) (p .loop .i) blank (c .before .before .before .before .before .before .loop-test .taken) (omega arith) (a .place .0) (differ (a .place .0) (getD (a .p .traps) (p .loop .i) blank .place .0) (c .if1 .left)) in
+    p .loop .inv ∙ e
 
 returns-2 : tie.Need-returns-2 Inv-loop μ-loop
 returns-2 c =
     let p = c .before in
     let a = p .before .before .args in
-    sym ((rw (toZ-ofZ (p .before .before .fits .place)) at (p .loop .inv)) ∙ lacks-end (a .p .traps) (a .p .count) (p .loop .i) (a .place) (omega arith))
+    sym (p .loop .inv ∙ lacks-end (a .p .traps) (a .p .count) (p .loop .i) (a .place .0) (omega arith))
 
 pub lacks-place-spec : {M : Type 1} → statement M
 lacks-place-spec =

@@ -3,7 +3,6 @@ use mathlib.Core.Path.{_≡_}
 use native.Mathlib.Omega.{arith}
 use lib.ListN.{length}
 use borrow.Author.Needs.{needs}
-use mir.Facts.{toZ-ofZ}
 use Rattle.traps.specs.TableLaws.{plant-old, plant-last, plant-full}
 use Rattle.traps.proofs.Places.{sized}
 use Rattle.traps.proofs.plant.Statement.{statement}
@@ -24,8 +23,7 @@ array-set-from-traps c = search needs
 returns : tie.Need-returns
 returns c =
     let s = c .before .before .before in
-    let f = s .fits .place in
-    rw (toZ-ofZ f) (plant-old (s .args .p) (long s) (s .pre) (s .args .place) (s .args .name) (c .before .before .index-of .result) (rw (toZ-ofZ f) at (c .before .before .index-of .ensures)) (omega arith))
+    plant-old (s .args .p) (long s) (s .pre) (s .args .place .0) (s .args .name) (c .before .before .index-of .result) (c .before .before .index-of .ensures) (omega arith)
 
 mul-traps-2 : tie.Need-mul-traps-2
 mul-traps-2 c = search needs
@@ -39,14 +37,12 @@ add-t14 c = search needs
 returns-2 : tie.Need-returns-2
 returns-2 c =
     let s = c .before .before .before .before in
-    let f = s .fits .place in
-    rw (toZ-ofZ f) (plant-last (s .args .p) (long s) (s .pre) (s .args .place) (s .args .name) (c .before .before .before .index-of .result) (rw (toZ-ofZ f) at (c .before .before .before .index-of .ensures)) (omega arith) (omega arith))
+    plant-last (s .args .p) (long s) (s .pre) (s .args .place .0) (s .args .name) (c .before .before .before .index-of .result) (c .before .before .before .index-of .ensures) (omega arith) (omega arith)
 
 returns-3 : tie.Need-returns-3
 returns-3 c =
     let s = c .before .before .before .before in
-    let f = s .fits .place in
-    plant-full (s .args .p) (long s) (s .pre) (s .args .place) (s .args .name) (c .before .before .before .index-of .result) (rw (toZ-ofZ f) at (c .before .before .before .index-of .ensures)) (omega arith) (omega arith)
+    plant-full (s .args .p) (long s) (s .pre) (s .args .place .0) (s .args .name) (c .before .before .before .index-of .result) (c .before .before .before .index-of .ensures) (omega arith) (omega arith)
 
 pub plant-spec : {M : Type 1} → statement M
 plant-spec =

@@ -1,7 +1,6 @@
 -- `traps::remove` meets its contract. Assumes nothing.
 use mathlib.Core.Path.{_∙_}
 use borrow.Author.Needs.{needs}
-use mir.Facts.{toZ-ofZ}
 use Rattle.traps.specs.TableLaws.{remove-by}
 use Rattle.traps.proofs.remove.Statement.{statement}
 use Rattle.traps.proofs.remove.Tie as tie
@@ -13,7 +12,7 @@ close-up-requires : tie.Need-close-up-requires
 close-up-requires c κs = search needs
 
 returns : tie.Need-returns
-returns c = c .close-up .ensures ∙ remove-by (c .before .before .args .p) (c .before .before .args .place) (c .before .index-of .result) (rw (toZ-ofZ (c .before .before .fits .place)) at (c .before .index-of .ensures))
+returns c = c .close-up .ensures ∙ remove-by (c .before .before .args .p) (c .before .before .args .place .0) (c .before .index-of .result) (c .before .index-of .ensures)
 
 pub remove-spec : {M : Type 1} → statement M
 remove-spec = tie.close (tie.spec index-of-requires close-up-requires returns)
