@@ -13,8 +13,8 @@ use Rattle.rules.specs.Texts.{Text}
 use Rattle.rules.specs.State.{State, Item, control, again, acts}
 use Rattle.rules.specs.Rows.{Next, heldIf}
 use Rattle.rules.specs.ControlLines.{requests, heldAfter, heldFirst, startOrBreak, obey}
-use Rattle.input.specs.declared.What.{What}
-use Rattle.input.specs.declared.What.the-variants as what
+use Rattle.frames.specs.declared.What.{What}
+use Rattle.frames.specs.declared.What.the-variants as what
 use Rattle.springs.specs.declared.Held.{Held}
 use Rattle.springs.specs.declared.Held.the-variants as held
 use Rattle.springs.specs.Held.{heldOf, Plain}

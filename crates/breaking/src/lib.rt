@@ -1,6 +1,6 @@
 // What a breaking request does: it starts the first page, or breaks, or acts.
+use frames::What;
 use input::Stack;
-use input::What;
 use page::Page;
 use rules::Breaking;
 use rules::Name;
@@ -149,7 +149,7 @@ fn act_on(
             seconds,
             texts,
         ),
-        Work::Ejects => sheet::eject(
+        Work::Ejects => ejecting::eject(
             page.number,
             layout,
             page,
@@ -165,7 +165,7 @@ fn act_on(
             texts,
         ),
         Work::Lays => {
-            let new = settings::act(request, layout, argument, printer);
+            let new = line_settings::act(request, layout, argument, printer);
             settle(new, layout, page, collected, stack)
         }
     }

@@ -11,19 +11,20 @@ use Rattle.stream.specs.declared.Answer.{Answer}
 use Rattle.stream.specs.declared.Answer.the-variants as answer
 use Rattle.limits.specs.Within.{Within}
 use Rattle.rules.specs.State.{State}
-use Rattle.turns.specs.declared.Record.{Record}
-use Rattle.turns.specs.declared.Reply.{Reply}
-use Rattle.turns.specs.declared.Place.{Place}
-use Rattle.turns.specs.declared.Closing.{Closing}
-use Rattle.turns.specs.declared.Closing.the-variants.{Open, Done, Refused}
-use Rattle.turns.specs.View.{closedAs, Legal}
-use Rattle.turns.specs.Contract.{Closes, Ended, EndedBy, Does}
-use Rattle.turns.specs.declared.Ran.{Ran}
-use Rattle.turns.specs.Turns.{recordOf, replyFrom, stays}
+use Rattle.turning.specs.declared.Record.{Record}
+use Rattle.turning.specs.declared.Reply.{Reply}
+use Rattle.turning.specs.declared.Place.{Place}
+use Rattle.turning.specs.declared.Closing.{Closing}
+use Rattle.turning.specs.declared.Closing.the-variants.{Open, Done, Refused}
+use Rattle.turning.specs.View.{closedAs, Legal}
+use Rattle.turning.specs.Contract.{Closes, Ended, EndedBy, Does}
+use Rattle.turning.specs.declared.Ran.{Ran}
+use Rattle.turning.specs.Turns.{recordOf, replyFrom, stays}
 use Rattle.session.specs.Contract.{Nothing, Called, served, turned}
-use Rattle.codes.specs.Words.{Short, placeIn, PlaceWritten}
+use Rattle.decoding.specs.Words.{Short, placeIn, PlaceWritten}
 use Rattle.codes.specs.Kept.{recordIn, wordsIn, again, Typed, Kept, kept, kept-same}
-use Rattle.cabinet.specs.Calls.{codeOf, numberOf, lineOf, isTurned, isLast, CalledFrom}
+use Rattle.replies.specs.Replies.{codeOf, numberOf, lineOf, isLast}
+use Rattle.cabinet.specs.Calls.{isTurned, CalledFrom}
 
 true-false : true ≡ false → ⊥
 true-false e = let z : _≡_ {A = ℕ} 0 1 = cc (e) in omega arith

@@ -10,17 +10,18 @@ use lib.IntN.{ℤ}
 use Rattle.stream.specs.declared.Answer.the-variants as answer
 use Rattle.source.specs.Gathering.{Appends}
 use Rattle.source.specs.GatheringLaws.{Inside, inside-is}
-use Rattle.turns.specs.declared.Record.{Record}
-use Rattle.turns.specs.declared.Place.{Place}
-use Rattle.turns.specs.View.{Legal}
-use Rattle.turns.specs.Turns.{recordOf}
-use Rattle.turns.specs.Inside.{InsideCall, withBlock}
+use Rattle.turning.specs.declared.Record.{Record}
+use Rattle.turning.specs.declared.Place.{Place}
+use Rattle.turning.specs.View.{Legal}
+use Rattle.turning.specs.Turns.{recordOf}
+use Rattle.turning.specs.Inside.{InsideCall, withBlock}
 use Rattle.session.specs.Contract.{Called}
 use Rattle.session.proofs.Limits.{call-inside}
-use Rattle.codes.specs.Words.{placeIn}
+use Rattle.decoding.specs.Words.{placeIn}
 use Rattle.codes.specs.Length.{there, withLength, length-written}
 use Rattle.codes.specs.Kept.{recordIn}
-use Rattle.cabinet.specs.Calls.{isLast, BlockTaken, CalledFrom}
+use Rattle.replies.specs.Replies.{isLast}
+use Rattle.cabinet.specs.Calls.{BlockTaken, CalledFrom}
 
 module _ (ws : List ℤ) (g cs row bs ps tf ts ks ls fs ss : List ℕ) (vs us : List ℤ) (st bl : List ℕ) (mark : ℕ) (out : List ℕ) (pl : Place) (e : pl ≡ placeIn ws) (last : Bool) (m : last ≡ isLast mark)
     (l : Legal (recordOf pl g cs row bs ps tf ts ks ls fs ss vs us) st) (h : InsideCall bl last (pl .status .stack .depth) (pl .source) (pl .waiting) (pl .closing)) where

@@ -1,6 +1,6 @@
 -- What a call from C promises: that of the session's call, over the records that words and arrays stand for. Assumes nothing.
 use mathlib.Core.Path.{_≡_}
-use mathlib.Core.Bool.{Bool, true, false, not}
+use mathlib.Core.Bool.{Bool, true, false}
 use mathlib.Core.List.{List}
 use Prim.Native.Nat.{ℕ, _+_}
 use lib.Dec.{eqb}
@@ -9,29 +9,10 @@ use lib.Seq.{paste}
 use lib.IntN.{ℤ}
 use Rattle.stream.specs.declared.Answer.{Answer}
 use Rattle.stream.specs.declared.Answer.the-variants as answer
-use Rattle.turns.specs.declared.Record.{Record}
+use Rattle.turning.specs.declared.Record.{Record}
 use Rattle.session.specs.Contract.{Called}
-use Rattle.codes.specs.Words.{wordOf}
-
--- the code of an answer
-abbrev pub codeOf : Answer → ℕ
-codeOf answer.NeedsInput = 0
-codeOf answer.NeedsRoom = 1
-codeOf answer.Done = 2
-codeOf (answer.Refused n l) = 3
-
--- its number and source line, if it is a refusal
-abbrev pub numberOf : Answer → ℕ
-numberOf answer.NeedsInput = 0
-numberOf answer.NeedsRoom = 0
-numberOf answer.Done = 0
-numberOf (answer.Refused n l) = n
-
-abbrev pub lineOf : Answer → ℕ
-lineOf answer.NeedsInput = 0
-lineOf answer.NeedsRoom = 0
-lineOf answer.Done = 0
-lineOf (answer.Refused n l) = l
+use Rattle.decoding.specs.Words.{wordOf}
+use Rattle.replies.specs.Replies.{codeOf, numberOf, lineOf, isLast}
 
 -- refusal 1
 abbrev pub isTurned : Answer → Bool
@@ -39,10 +20,6 @@ isTurned answer.NeedsInput = false
 isTurned answer.NeedsRoom = false
 isTurned answer.Done = false
 isTurned (answer.Refused n l) = eqb n 1
-
--- any byte but 0 marks the last block
-abbrev pub isLast : ℕ → Bool
-isLast m = not (eqb m 0)
 
 -- a block goes behind the first bytes of a line, so many: the word of their count, and the gathered bytes
 pub record BlockTaken (block : List ℕ) (start : ℕ) (ws : List ℤ) (g : List ℕ) (ws' : List ℤ) (g' : List ℕ) : Type 0 where

@@ -8,12 +8,13 @@ use lib.IntN.{ℤ}
 use Rattle.stream.specs.Condition3.{Call, Condition3}
 use Rattle.rules.specs.Printers.{tenToTheInch}
 use Rattle.rules.specs.Pages.{pages}
-use Rattle.turns.specs.declared.Record.{Record}
+use Rattle.turning.specs.declared.Record.{Record}
 use Rattle.session.specs.Calls.{seen}
 use Rattle.session.specs.Calls as session
 use Rattle.session.specs.Start.{startRecord}
 use Rattle.session.specs.Start as start
-use Rattle.cabinet.specs.Calls.{isLast, CalledFrom}
+use Rattle.replies.specs.Replies.{isLast}
+use Rattle.cabinet.specs.Calls.{CalledFrom}
 
 -- A list of calls from C, from this record and this store on, with the bytes d of the document not yet taken; as the session's `Calls`.
 pub data Calls : Record → (store d : List ℕ) → List Call → Type 0 where

@@ -1,11 +1,10 @@
 // The session for C: a record is 68 words and 13 arrays of numbers, any bytes make one, and the arrays are lent where they lie.
-use stream::Answer;
 ghost use mathlib.Core.Path.{_≡_};
 ghost use Rattle.session.specs.Limits.{Sized};
 ghost use Rattle.session.specs.Start.{startRecord};
 ghost use Rattle.source.specs.Gathering.{Appends};
 ghost use Rattle.codes.specs.Kept.{recordIn};
-ghost use Rattle.cabinet.specs.Calls.{codeOf, numberOf, lineOf, isLast, BlockTaken, CalledFrom};
+ghost use Rattle.cabinet.specs.Calls.{BlockTaken, CalledFrom};
 
 // The version of this interface.
 #[no_mangle]
@@ -13,49 +12,6 @@ pub extern "C" fn rockavine_version() -> u32
     ensures { λ r. ⌜ r ≡ 1 ⌝ }
 {
     1
-}
-
-// The number of an answer for C.
-fn code_of(answer: Answer) -> u32
-    ensures { λ r. ⌜ r ≡ codeOf answer ⌝ }
-{
-    match answer {
-        Answer::NeedsInput => 0,
-        Answer::NeedsRoom => 1,
-        Answer::Done => 2,
-        Answer::Refused(_, _) => 3,
-    }
-}
-
-// The number of a refusal, 0 if it is none.
-fn number_of(answer: Answer) -> u8
-    ensures { λ r. ⌜ r ≡ numberOf answer ⌝ }
-{
-    match answer {
-        Answer::NeedsInput => 0,
-        Answer::NeedsRoom => 0,
-        Answer::Done => 0,
-        Answer::Refused(number, _) => number,
-    }
-}
-
-// The source line of a refusal, 0 if it is none.
-fn line_of(answer: Answer) -> u32
-    ensures { λ r. ⌜ r ≡ lineOf answer ⌝ }
-{
-    match answer {
-        Answer::NeedsInput => 0,
-        Answer::NeedsRoom => 0,
-        Answer::Done => 0,
-        Answer::Refused(_, line) => line,
-    }
-}
-
-// Any byte but 0 marks the last block.
-fn is_last(mark: u8) -> bool
-    ensures { λ r. ⌜ r ≡ isLast mark ⌝ }
-{
-    mark != 0
 }
 
 // The starting record.
@@ -160,9 +116,9 @@ pub extern "C" fn rockavine_call_parts(
     let waiting = place.waiting;
     let closing = place.closing;
     // most calls with few bytes: a line is neither begun nor ended, and the record stays as it is but for that line
-    if turns::is_inside(
+    if turning::is_inside(
         block,
-        is_last(last),
+        replies::is_last(last),
         place.status.stack.depth,
         source,
         waiting,
@@ -177,7 +133,7 @@ pub extern "C" fn rockavine_call_parts(
     }
     let ran = session::serve(
         block,
-        is_last(last),
+        replies::is_last(last),
         place,
         out,
         gathered,
@@ -199,8 +155,8 @@ pub extern "C" fn rockavine_call_parts(
     let after = ran.place;
     *taken = ran.taken;
     *written = ran.written;
-    *number = number_of(answer);
-    *line = line_of(answer);
+    *number = replies::number_of(answer);
+    *line = replies::line_of(answer);
     codes::write_place(words, after);
-    code_of(answer)
+    replies::code_of(answer)
 }

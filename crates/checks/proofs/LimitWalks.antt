@@ -9,7 +9,7 @@ use lib.ListN.{length, take, drop, getD}
 use borrow.Author.Tests.{leb-true, le-leb, lt-leb, ne-eqb}
 use Rattle.rules.specs.declared.Trap.{Trap}
 use Rattle.rules.specs.RefusalLaws.{both}
-use Rattle.registers.specs.Checks as registers
+use Rattle.register_checks.specs.Checks as registers
 use Rattle.texts.specs.Table.{namesOf, Names}
 use Rattle.texts.specs.Checks as texts
 use Rattle.traps.specs.declared.Planted.{Planted}

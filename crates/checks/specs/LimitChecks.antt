@@ -9,7 +9,7 @@ use Rattle.measure.specs.Counts.{acrossOf}
 use Rattle.rules.specs.declared.Name.{Name}
 use Rattle.rules.specs.declared.Trap.{Trap}
 use Rattle.rules.specs.Rows.{theEnd}
-use Rattle.registers.specs.Checks as registers
+use Rattle.register_checks.specs.Checks as registers
 use Rattle.texts.specs.Places.{placeOf}
 use Rattle.texts.specs.Table.{namesOf}
 use Rattle.texts.specs.Checks as texts
@@ -20,8 +20,8 @@ use Rattle.settings.specs.declared.Layout.{Layout}
 use Rattle.input.specs.declared.Stack.{Stack}
 use Rattle.input.specs.Frames.{entryAt, topEntry}
 use Rattle.springs.specs.Held.{isText, limitBy}
-use Rattle.dealing.specs.declared.Status.{Status}
-use Rattle.checks.specs.Checks.{isAt}
+use Rattle.whole.specs.declared.Status.{Status}
+use Rattle.soundness.specs.Checks.{isAt}
 
 -- what the types of the lent arrays of the tables say of their lengths
 pub record LentTables (textFirsts textSeconds : List ℕ) (values steps : List ℤ) : Type 0 where

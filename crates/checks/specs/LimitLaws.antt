@@ -21,7 +21,7 @@ use Rattle.rules.specs.Texts.{Text, textOf}
 use Rattle.rules.specs.TextLaws.{Distinct}
 use Rattle.rules.specs.Rows.{theEnd}
 use Rattle.rules.specs.State.{Item, Definition, State, close}
-use Rattle.registers.specs.Checks as registers
+use Rattle.register_checks.specs.Checks as registers
 use Rattle.texts.specs.declared.Place.{Place}
 use Rattle.texts.specs.declared.Place.the-variants.{At, Not}
 use Rattle.texts.specs.Places.{placeOf}
@@ -33,20 +33,20 @@ use Rattle.traps.specs.Checks as traps
 use Rattle.lengths.specs.declared.Setting.{Setting}
 use Rattle.settings.specs.declared.Layout.{Layout}
 use Rattle.lengths.specs.Views.{settingOf}
-use Rattle.input.specs.declared.What.{What}
-use Rattle.input.specs.declared.What.the-variants as what
+use Rattle.frames.specs.declared.What.{What}
+use Rattle.frames.specs.declared.What.the-variants as what
 use Rattle.input.specs.declared.Stack.{Stack}
 use Rattle.input.specs.Frames.{entryAt, topEntry, topBytes, topEnds, framesTo, below}
 use Rattle.input.specs.Items.{itemBy, itemsOf, stackOf}
 use Rattle.input.specs.ItemLaws.{stack-length, top-item, none-there}
 use Rattle.springs.specs.Held.{isText, limitBy}
-use Rattle.dealing.specs.declared.Opening.{Opening}
-use Rattle.dealing.specs.declared.Status.{Status}
-use Rattle.dealing.specs.Whole.{Whole, Texts, textColumns, openedIf, stateIn, SoundWhole}
-use Rattle.dealing.specs.Statuses.{wholeOf}
+use Rattle.whole.specs.declared.Opening.{Opening}
+use Rattle.whole.specs.declared.Status.{Status}
+use Rattle.whole.specs.Whole.{Whole, Texts, textColumns, openedIf, stateIn, SoundWhole}
+use Rattle.whole.specs.Statuses.{wholeOf}
 use Rattle.limits.specs.Within.{Ranged, Gone, SourceByte, BoundedTrap, OverText, Layer, Layered, limitOf, Deep, NextLine, OpenOver, Answered, Within}
-use Rattle.checks.specs.Checks.{isAt}
-use Rattle.checks.specs.StackLaws.{and-true}
+use Rattle.soundness.specs.Checks.{isAt}
+use Rattle.soundness.specs.StackLaws.{and-true}
 use Rattle.checks.specs.LimitChecks.{arePlaces, isGone, areTables, isRanged, areSettings, areBytes, isGathered, layeredTo, isLayered, isDeep, isNext, isOpenOver, isPile, isWithin}
 
 -- what an open definition asks of the stack while the session runs

@@ -13,12 +13,12 @@ use Rattle.settings.specs.declared.Layout.{Layout}
 use Rattle.page.specs.declared.Page.{Page}
 use Rattle.sheet.specs.declared.Collected.{Collected}
 use Rattle.traps.specs.declared.Planted.{Planted}
-use Rattle.dealing.specs.declared.Opening.{Opening}
+use Rattle.whole.specs.declared.Opening.{Opening}
 use Rattle.source.specs.declared.Source.{Source}
-use Rattle.turns.specs.declared.Waiting.{Waiting}
-use Rattle.turns.specs.declared.Closing.{Closing}
-use Rattle.codes.specs.declared.Counts.{Counts}
-use Rattle.codes.specs.Words.{nameWord, trapWords, layoutWords, pageWords, collectedWords, countsWords, openingWords, sourceWords, waitingWords, closingWords, plantedWords, wordsOf}
+use Rattle.turning.specs.declared.Waiting.{Waiting}
+use Rattle.turning.specs.declared.Closing.{Closing}
+use Rattle.decoding.specs.declared.Counts.{Counts}
+use Rattle.decoding.specs.Words.{nameWord, trapWords, layoutWords, pageWords, collectedWords, countsWords, openingWords, sourceWords, waitingWords, closingWords, plantedWords, wordsOf}
 
 pub sets-append : (l : List ℤ) (i : ℕ) (xs ys : List ℤ) → sets l i (xs ++ ys) ≡ sets (sets l i xs) (i + length xs) ys
 sets-append l i [] ys = ap (λ (k : ℕ). sets l k ys) (sym (add-zero i))

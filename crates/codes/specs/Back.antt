@@ -16,13 +16,13 @@ use Rattle.settings.specs.declared.Total.the-variants as total
 use Rattle.page.specs.declared.Page.{Page}
 use Rattle.sheet.specs.declared.Collected.{Collected}
 use Rattle.traps.specs.declared.Planted.{Planted}
-use Rattle.dealing.specs.declared.Opening.{Opening}
+use Rattle.whole.specs.declared.Opening.{Opening}
 use Rattle.source.specs.declared.Source.{Source}
-use Rattle.turns.specs.declared.Waiting.{Waiting}
-use Rattle.turns.specs.declared.Closing.{Closing}
-use Rattle.turns.specs.declared.Closing.the-variants as closing
-use Rattle.codes.specs.declared.Counts.{Counts}
-use Rattle.codes.specs.Words.{Short, Named, numberOf, AllNamed, nameWord, totalTag, totalValue, flagWord, trapWords, closingTag, closingNumber, closingLine, layoutWords, pageWords, collectedWords, countsWords, openingWords, sourceWords, waitingWords, closingWords, wordOf, wordsOf, isSet, nameOf, nameAt, totalBy, trapAt, trapsFrom, closingBy, layoutIn, pageIn, collectedIn, countsIn, openingIn, sourceIn, waitingIn, closingIn, plantedIn}
+use Rattle.turning.specs.declared.Waiting.{Waiting}
+use Rattle.turning.specs.declared.Closing.{Closing}
+use Rattle.turning.specs.declared.Closing.the-variants as closing
+use Rattle.decoding.specs.declared.Counts.{Counts}
+use Rattle.decoding.specs.Words.{Short, Named, numberOf, AllNamed, nameWord, totalTag, totalValue, flagWord, trapWords, closingTag, closingNumber, closingLine, layoutWords, pageWords, collectedWords, countsWords, openingWords, sourceWords, waitingWords, closingWords, wordOf, wordsOf, isSet, nameOf, nameAt, totalBy, trapAt, trapsFrom, closingBy, layoutIn, pageIn, collectedIn, countsIn, openingIn, sourceIn, waitingIn, closingIn, plantedIn}
 
 abbrev pub lineOf : Closing → ℕ
 lineOf closing.Open = 0

@@ -14,16 +14,16 @@ use Rattle.settings.specs.declared.Layout.{Layout}
 use Rattle.page.specs.declared.Page.{Page}
 use Rattle.sheet.specs.declared.Collected.{Collected}
 use Rattle.source.specs.declared.Source.{Source}
-use Rattle.turns.specs.declared.Waiting.{Waiting}
-use Rattle.dealing.specs.declared.Opening.{Opening}
-use Rattle.dealing.specs.Whole.{Texts, stateIn, openedIf, OpensIn}
-use Rattle.turns.specs.declared.Closing.{Closing}
-use Rattle.turns.specs.declared.Closing.the-variants.{Open, Done, Refused}
-use Rattle.turns.specs.declared.Record.{Record}
-use Rattle.turns.specs.Turns.{recordOf, placeOf}
-use Rattle.turns.specs.View.{sourced, closedAs, stateOf, waitingOf, wholeIn, lastLine, Formed, Legal}
-use Rattle.codes.specs.declared.Counts.{Counts}
-use Rattle.codes.specs.Words.{placeIn, countsOf, wordsAt, layoutIn, pageIn, collectedIn, countsIn, openingIn, sourceIn, waitingIn, closingIn, plantedIn, Named, AllNamed, numberOf, Short}
+use Rattle.turning.specs.declared.Waiting.{Waiting}
+use Rattle.whole.specs.declared.Opening.{Opening}
+use Rattle.whole.specs.Whole.{Texts, stateIn, openedIf, OpensIn}
+use Rattle.turning.specs.declared.Closing.{Closing}
+use Rattle.turning.specs.declared.Closing.the-variants.{Open, Done, Refused}
+use Rattle.turning.specs.declared.Record.{Record}
+use Rattle.turning.specs.Turns.{recordOf, placeOf}
+use Rattle.turning.specs.View.{sourced, closedAs, stateOf, waitingOf, wholeIn, lastLine, Formed, Legal}
+use Rattle.decoding.specs.declared.Counts.{Counts}
+use Rattle.decoding.specs.Words.{placeIn, countsOf, wordsAt, layoutIn, pageIn, collectedIn, countsIn, openingIn, sourceIn, waitingIn, closingIn, plantedIn, Named, AllNamed, numberOf, Short}
 use Rattle.codes.specs.Back.{lineOf, layout-back, page-back, collected-back, counts-back, opening-back, opening-there-back, source-back, waiting-back, closing-back, planted-back}
 
 -- the record of words and arrays

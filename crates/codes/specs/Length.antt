@@ -7,9 +7,9 @@ use native.Mathlib.Omega.{arith}
 use lib.ListN.{length, drop, set}
 use lib.Seq.{drop-cons}
 use lib.IntN.{ℤ, pos}
-use Rattle.turns.specs.declared.Place.{Place}
-use Rattle.turns.specs.Turns.{placeOf}
-use Rattle.codes.specs.Words.{Short, wordOf, wordAt, countAt, placeIn}
+use Rattle.turning.specs.declared.Place.{Place}
+use Rattle.turning.specs.Turns.{placeOf}
+use Rattle.decoding.specs.Words.{Short, wordOf, wordAt, countAt, placeIn}
 
 -- a word that is no 0 is there
 pub there : (ws : List ℤ) (i : ℕ) → 0 < countAt ws i → i < length ws

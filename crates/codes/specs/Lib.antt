@@ -1,4 +1,3 @@
-pub mod Words
 pub mod Back
 pub mod Kept
 pub mod Length

@@ -26,8 +26,8 @@ use Rattle.springs.specs.declared.Way.{Way}
 use Rattle.springs.specs.declared.Way.the-variants.{On, Refused}
 use Rattle.springs.specs.Calls.{closeBy}
 use Rattle.springs.proofs.Stacks.{fits-few}
-use Rattle.dealing.specs.declared.Opening.{Opening}
-use Rattle.dealing.specs.Whole.{Whole, textColumns, whole, textsIn, openedIf, registersIn, stateIn, OpensIn, SoundWhole, KeptStore, Did}
+use Rattle.whole.specs.declared.Opening.{Opening}
+use Rattle.whole.specs.Whole.{Whole, textColumns, whole, textsIn, openedIf, registersIn, stateIn, OpensIn, SoundWhole, KeptStore, Did}
 use Rattle.dealing.specs.Dealing.{keepsIn, closesIn}
 
 -- how a body line leads on, and the open definition after it

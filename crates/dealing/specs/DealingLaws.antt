@@ -33,7 +33,7 @@ use Rattle.scan.specs.declared.Scanned.the-variants as scan
 use Rattle.scan.specs.Expansion.{ScannedTo}
 use Rattle.dealing.specs.declared.Dealt.{Dealt}
 use Rattle.dealing.specs.declared.Dealt.the-variants.{Closes, Nothing}
-use Rattle.dealing.specs.Whole.{surroundings}
+use Rattle.whole.specs.Whole.{surroundings}
 use Rattle.dealing.specs.Dealing.{scene, keptAs, wordsAs, controlAs, dealtOf, SoundDealt, DealtTo}
 
 module _ (p : Printer) (y : Layout) (g : Page) (ts : List Text) (args : List (List ℕ)) (line : List ℕ) (fs ss : List ℕ) (vs us : List ℤ) (count : ℕ) where

@@ -1,32 +1,14 @@
-// A line as it was taken, up to its expansion, and the requests on tables from an expanded line; the specs have the whole state.
+// A line as it was taken, up to its expansion: a body line, a control line or words.
 use bodies::Top;
-use input::Stack;
 use lines::Line;
 use lines::Meaning;
-use lines::Named;
 use page::Page;
 use references::Shown;
-use requests::Assigned;
-use requests::Changed;
-use requests::Plants;
 use rules::Mode;
 use rules::Name;
 use scan::Scanned;
 use settings::Layout;
 use settings::Printer;
-use sheet::Collected;
-use springs::Way;
-use traps::Planted;
-ghost use Rattle.rules.specs.Acts.{argument, perform};
-ghost use Rattle.rules.specs.declared.Unbreaking.the-variants.{Nr, Wh, Rm, De};
-ghost use Rattle.requests.specs.Registers.{AssignsAs};
-ghost use Rattle.requests.specs.Registers as registers;
-ghost use Rattle.requests.specs.Traps.{PlantsAs};
-ghost use Rattle.requests.specs.Traps as traps;
-ghost use Rattle.rules.specs.Names.{nameOf};
-ghost use Rattle.requests.specs.Texts.{ChangesAs, OpensAs, alone};
-ghost use Rattle.dealing.specs.WholeLaws.{OpeningIs, openedWith};
-ghost use Rattle.requests.specs.Texts as texts;
 ghost use Rattle.settings.specs.Layouts.{printerOf, layoutOf};
 ghost use Rattle.page.specs.Landing.{pageOf};
 ghost use Rattle.references.specs.ReadOnly.{seenOf};
@@ -35,44 +17,16 @@ ghost use Rattle.copying.specs.Writes.{Room};
 ghost use Rattle.scan.specs.Expansion.{ScannedTo};
 ghost use Rattle.texts.specs.Table.{textsOf};
 ghost use Rattle.bodies.specs.Lines.{nextLine, TopInside};
-ghost use Rattle.dealing.specs.Whole.{seenAt, surroundings, Shows};
+ghost use Rattle.whole.specs.Whole.{seenAt, surroundings, Shows};
 ghost use Rattle.dealing.specs.Dealing.{keptAs, wordsAs, controlAs, DealtTo};
 ghost use Rattle.rules.specs.Lines.{lineOf};
 ghost use Rattle.rules.specs.State.{control};
 ghost use mathlib.Core.Bool.{true, false};
 ghost use mathlib.Core.Path.{_≡_};
-ghost use mathlib.Core.List.{[]};
 ghost use Prim.Native.Nat.{_*_, _≤_};
 ghost use lib.IntN.{pos};
-ghost use lib.ListN.{getD, length, drop};
-ghost use Rattle.arguments.specs.Parting.{Unread};
-ghost use Rattle.arguments.specs.Around.{argumentsOf, Arguments};
-
-// An open definition: its name, and how many bytes of its body lie behind the texts.
-pub struct Opening {
-    pub there: bool,
-    pub name: Name,
-    pub length: usize,
-}
-
-// All of the state that is no array, but for the source.
-pub struct Status {
-    pub layout: Layout,
-    pub page: Page,
-    pub collected: Collected,
-    pub planted: Planted,
-    pub stack: Stack,
-    pub texts: usize,
-    pub opening: Opening,
-    pub registers: usize,
-}
-
-// How a piece of work leads on, how many bytes of the row it wrote, and the state after it.
-pub struct Step {
-    pub way: Way,
-    pub written: usize,
-    pub status: Status,
-}
+ghost use lib.ListN.{length, drop};
+ghost use Rattle.arguments.specs.Around.{argumentsOf};
 
 // What is left to do with a line, once it is expanded.
 pub enum Dealt {
@@ -488,228 +442,5 @@ pub fn read<'a>(
         ends,
         given,
         out,
-    )
-}
-
-// nr, by its arguments.
-fn assign_parted(
-    parts: &[u8],
-    ends: &[u16; 9],
-    given: usize,
-    printer: Printer,
-    firsts: &mut [u8; 64],
-    seconds: &mut [u8; 64],
-    values: &mut [i32; 64],
-    steps: &mut [i32; 64],
-    count: usize,
-) -> Assigned
-    requires { ⌜ registers.Ready (now firsts) (now seconds) (now values) (now steps) count printer × Arguments (now parts) (now ends) given ⌝ }
-    ensures { λ r. ⌜ AssignsAs (now (firsts .entry)) (now (seconds .entry)) (now (values .entry)) (now (steps .entry)) count (registers.assigns printer (getD (argumentsOf (now (parts .entry)) (now (ends .entry)) given) 0 []) (getD (argumentsOf (now (parts .entry)) (now (ends .entry)) given) 1 []) (getD (argumentsOf (now (parts .entry)) (now (ends .entry)) given) 2 [])) r (now (firsts .exit)) (now (seconds .exit)) (now (values .exit)) (now (steps .exit)) ⌝ }
-{
-    let name = lines::argument(parts, ends, given, 0);
-    let value = lines::argument(parts, ends, given, 1);
-    let step = lines::argument(parts, ends, given, 2);
-    requests::assign(
-        name,
-        value,
-        step,
-        printer,
-        firsts,
-        seconds,
-        values,
-        steps,
-        count,
-    )
-}
-
-// nr, by what follows its name.
-pub fn assign(
-    line: &[u8],
-    parts: &mut [u8; 512],
-    printer: Printer,
-    firsts: &mut [u8; 64],
-    seconds: &mut [u8; 64],
-    values: &mut [i32; 64],
-    steps: &mut [i32; 64],
-    count: usize,
-) -> Assigned
-    requires { ⌜ registers.Ready (now firsts) (now seconds) (now values) (now steps) count printer × Unread (now line) 0 (now parts) 0 ⌝ }
-    ensures { λ r. ⌜ AssignsAs (now (firsts .entry)) (now (seconds .entry)) (now (values .entry)) (now (steps .entry)) count (λ s. perform (printerOf printer) Nr (now (line .entry)) s) r (now (firsts .exit)) (now (seconds .exit)) (now (values .exit)) (now (steps .exit)) ⌝ }
-{
-    let mut ends = [0u16; 9];
-    let given = arguments::arguments(line, 0, &mut *parts, &mut ends);
-    assign_parted(
-        &*parts,
-        &ends,
-        given,
-        printer,
-        firsts,
-        seconds,
-        values,
-        steps,
-        count,
-    )
-}
-
-// wh, by its arguments.
-fn plant_parted(
-    parts: &[u8],
-    ends: &[u16; 9],
-    given: usize,
-    printer: Printer,
-    planted: Planted,
-) -> Plants
-    requires { ⌜ traps.Ready planted printer × Arguments (now parts) (now ends) given ⌝ }
-    ensures { λ r. ⌜ traps.PlantedTo (getD (argumentsOf (now (parts .entry)) (now (ends .entry)) given) 0 []) (getD (argumentsOf (now (parts .entry)) (now (ends .entry)) given) 1 []) planted printer r ⌝ }
-{
-    let row = lines::argument(parts, ends, given, 0);
-    let name = lines::argument(parts, ends, given, 1);
-    requests::plant(row, name, planted, printer)
-}
-
-// wh, by what follows its name.
-pub fn plant(line: &[u8], parts: &mut [u8; 512], printer: Printer, planted: Planted) -> Plants
-    requires { ⌜ traps.Ready planted printer × Unread (now line) 0 (now parts) 0 ⌝ }
-    ensures { λ r. ⌜ PlantsAs planted (λ s. perform (printerOf printer) Wh (now (line .entry)) s) r ⌝ }
-{
-    let mut ends = [0u16; 9];
-    let given = arguments::arguments(line, 0, &mut *parts, &mut ends);
-    plant_parted(&*parts, &ends, given, printer, planted)
-}
-
-// rm, by what follows its name.
-pub fn remove(
-    line: &[u8],
-    parts: &mut [u8; 512],
-    printer: Printer,
-    stack: Stack,
-    frames: &[u16; 221],
-    store: &mut [u8],
-    firsts: &mut [u8; 64],
-    seconds: &mut [u8; 64],
-    kinds: &mut [u8; 64],
-    lengths: &mut [u16; 64],
-    count: usize,
-) -> Changed
-    requires { ⌜ texts.Ready (now store) (now firsts) (now seconds) (now kinds) (now lengths) count stack × Unread (now line) 0 (now parts) 0 ⌝ }
-    ensures { λ r. ⌜ ChangesAs (now (store .entry)) (now (firsts .entry)) (now (seconds .entry)) (now (kinds .entry)) (now (lengths .entry)) count stack (now (frames .entry)) alone (λ s. perform (printerOf printer) Rm (now (line .entry)) s) r (now (store .exit)) (now (firsts .exit)) (now (seconds .exit)) (now (kinds .exit)) (now (lengths .exit)) ⌝ }
-{
-    let mut ends = [0u16; 9];
-    let given = arguments::arguments(line, 0, &mut *parts, &mut ends);
-    let name = lines::argument(&*parts, &ends, given, 0);
-    requests::remove(
-        name,
-        stack,
-        frames,
-        store,
-        firsts,
-        seconds,
-        kinds,
-        lengths,
-        count,
-    )
-}
-
-// What de leads to: the answer of the texts, and the definition that is open then.
-pub struct Opened {
-    pub changed: Changed,
-    pub opening: Opening,
-}
-
-// The definition of a name is open, unless it was refused.
-fn opened_as(changed: Changed, name: Name, opening: Opening) -> Opened
-    ensures { λ r. ⌜ r ≡ openedWith changed name opening ⌝ }
-{
-    match changed {
-        Changed::Count(_) => {
-            let empty = Opening {
-                there: true,
-                name,
-                length: 0,
-            };
-            Opened {
-                changed,
-                opening: empty,
-            }
-        }
-        Changed::Same => Opened { changed, opening },
-        Changed::Refused(_) => Opened { changed, opening },
-    }
-}
-
-// de of what its name is.
-fn open_named(
-    name: &[u8],
-    opening: Opening,
-    stack: Stack,
-    frames: &[u16; 221],
-    store: &mut [u8],
-    firsts: &mut [u8; 64],
-    seconds: &mut [u8; 64],
-    kinds: &mut [u8; 64],
-    lengths: &mut [u16; 64],
-    count: usize,
-) -> Opened
-    requires { ⌜ texts.Ready (now store) (now firsts) (now seconds) (now kinds) (now lengths) count stack ⌝ }
-    ensures { λ r. ⌜ OpensAs (now (store .entry)) (now (firsts .entry)) (now (seconds .entry)) (now (kinds .entry)) (now (lengths .entry)) count stack (now (frames .entry)) (nameOf (now (name .entry))) (texts.opensText (now (name .entry))) (r .changed) (now (store .exit)) (now (firsts .exit)) (now (seconds .exit)) (now (kinds .exit)) (now (lengths .exit)) × OpeningIs (nameOf (now (name .entry))) (r .changed) opening (r .opening) ⌝ }
-{
-    match lines::name_of(name) {
-        Named::One(known) => {
-            let changed = requests::open(
-                name,
-                stack,
-                frames,
-                store,
-                firsts,
-                seconds,
-                kinds,
-                lengths,
-                count,
-            );
-            opened_as(changed, known, opening)
-        }
-        Named::Nothing => Opened {
-            changed: Changed::Same,
-            opening,
-        },
-        Named::TooLong => Opened {
-            changed: Changed::Refused(7),
-            opening,
-        },
-    }
-}
-
-// de, by what follows its name.
-pub fn open(
-    line: &[u8],
-    parts: &mut [u8; 512],
-    printer: Printer,
-    opening: Opening,
-    stack: Stack,
-    frames: &[u16; 221],
-    store: &mut [u8],
-    firsts: &mut [u8; 64],
-    seconds: &mut [u8; 64],
-    kinds: &mut [u8; 64],
-    lengths: &mut [u16; 64],
-    count: usize,
-) -> Opened
-    requires { ⌜ texts.Ready (now store) (now firsts) (now seconds) (now kinds) (now lengths) count stack × Unread (now line) 0 (now parts) 0 ⌝ }
-    ensures { λ r. ⌜ OpensAs (now (store .entry)) (now (firsts .entry)) (now (seconds .entry)) (now (kinds .entry)) (now (lengths .entry)) count stack (now (frames .entry)) (nameOf (argument 0 (now (line .entry)))) (λ s. perform (printerOf printer) De (now (line .entry)) s) (r .changed) (now (store .exit)) (now (firsts .exit)) (now (seconds .exit)) (now (kinds .exit)) (now (lengths .exit)) × OpeningIs (nameOf (argument 0 (now (line .entry)))) (r .changed) opening (r .opening) ⌝ }
-{
-    let mut ends = [0u16; 9];
-    let given = arguments::arguments(line, 0, &mut *parts, &mut ends);
-    let name = lines::argument(&*parts, &ends, given, 0);
-    open_named(
-        name,
-        opening,
-        stack,
-        frames,
-        store,
-        firsts,
-        seconds,
-        kinds,
-        lengths,
-        count,
     )
 }

@@ -1,4 +1,4 @@
-// Texts are defined, defined anew and removed: the store stays closed up.
+// Strings and macros are defined, in the place of what had their name.
 use rules::Name;
 use texts::Kept;
 use texts::Place;
@@ -7,23 +7,9 @@ ghost use mathlib.Core.Path.{_≡_};
 ghost use Prim.Native.Nat.{_+_, _<_, _≤_, _-_};
 ghost use lib.Dec.{ltb};
 ghost use lib.Seq.{paste};
-ghost use lib.ListN.{length, take, drop};
+ghost use lib.ListN.{length, take};
 ghost use Rattle.texts.specs.Table.{sum, Lies};
-ghost use Rattle.texts.specs.Changes.{closed, TakenOut, Entered, Appended, RemovedTo, DefinedTo, Opens, OpenedTo, KeptTo, ClosedTo};
-
-// The bytes from `from` up to `end` move down to `to`.
-fn move_down(store: &mut [u8], to: usize, from: usize, end: usize)
-    requires { ⌜ (to ≤ from) × (from ≤ end) × (end ≤ length (now store)) ⌝ }
-    ensures { λ _. ⌜ now (store .exit) ≡ paste (now (store .entry)) to (drop from (now (store .entry))) (end - from) ⌝ }
-{
-    let moved = end - from;
-    let mut j: usize = 0;
-    while j < moved {
-        let byte = store[from + j];
-        store[to + j] = byte;
-        j += 1;
-    }
-}
+ghost use Rattle.texts.specs.Changes.{Entered, Appended, DefinedTo, Opens, OpenedTo, KeptTo, ClosedTo};
 
 // `text` is written at a place.
 fn copy_in(store: &mut [u8], at: usize, text: &[u8])
@@ -35,87 +21,6 @@ fn copy_in(store: &mut [u8], at: usize, text: &[u8])
         let byte = text[j];
         store[at + j] = byte;
         j += 1;
-    }
-}
-
-// The rows behind a place, up to `count`, move up by one.
-fn close_byte(column: &mut [u8; 64], place: usize, count: usize)
-    requires { ⌜ (place < count) × (count ≤ 64) × (length (now column) ≡ 64) ⌝ }
-    ensures { λ _. ⌜ now (column .exit) ≡ closed (now (column .entry)) place (count - 1 - place) ⌝ }
-{
-    let last = count - 1;
-    let mut i = place;
-    while i < last {
-        let next = column[i + 1];
-        column[i] = next;
-        i += 1;
-    }
-}
-
-// The same for the column of lengths.
-fn close_length(column: &mut [u16; 64], place: usize, count: usize)
-    requires { ⌜ (place < count) × (count ≤ 64) × (length (now column) ≡ 64) ⌝ }
-    ensures { λ _. ⌜ now (column .exit) ≡ closed (now (column .entry)) place (count - 1 - place) ⌝ }
-{
-    let last = count - 1;
-    let mut i = place;
-    while i < last {
-        let next = column[i + 1];
-        column[i] = next;
-        i += 1;
-    }
-}
-
-// Takes the text in row `i` out; the later ones move down.
-fn take_out(
-    store: &mut [u8],
-    firsts: &mut [u8; 64],
-    seconds: &mut [u8; 64],
-    kinds: &mut [u8; 64],
-    lengths: &mut [u16; 64],
-    count: usize,
-    i: usize,
-)
-    requires { ⌜ (Lies (now store) (now firsts) (now seconds) (now kinds) (now lengths) count) × (i < count) ⌝ }
-    ensures { λ _. ⌜ TakenOut (now (store .entry)) (now (firsts .entry)) (now (seconds .entry)) (now (kinds .entry)) (now (lengths .entry)) count i (now (store .exit)) (now (firsts .exit)) (now (seconds .exit)) (now (kinds .exit)) (now (lengths .exit)) ⌝ }
-{
-    let to = texts::start_of(&*lengths, i);
-    let from = texts::start_of(&*lengths, i + 1);
-    let end = texts::start_of(&*lengths, count);
-    move_down(store, to, from, end);
-    close_byte(&mut *firsts, i, count);
-    close_byte(&mut *seconds, i, count);
-    close_byte(&mut *kinds, i, count);
-    close_length(&mut *lengths, i, count);
-}
-
-// Removes the text of a name; "The room of redefined or removed text is used again".
-pub fn remove(
-    store: &mut [u8],
-    firsts: &mut [u8; 64],
-    seconds: &mut [u8; 64],
-    kinds: &mut [u8; 64],
-    lengths: &mut [u16; 64],
-    count: usize,
-    name: Name,
-) -> usize
-    requires { ⌜ Lies (now store) (now firsts) (now seconds) (now kinds) (now lengths) count ⌝ }
-    ensures { λ r. ⌜ RemovedTo (now (store .entry)) (now (firsts .entry)) (now (seconds .entry)) (now (kinds .entry)) (now (lengths .entry)) count name r (now (store .exit)) (now (firsts .exit)) (now (seconds .exit)) (now (kinds .exit)) (now (lengths .exit)) ⌝ }
-{
-    match texts::find(&*firsts, &*seconds, count, name) {
-        Place::At(i) => {
-            take_out(
-                store,
-                &mut *firsts,
-                &mut *seconds,
-                &mut *kinds,
-                &mut *lengths,
-                count,
-                i,
-            );
-            count - 1
-        }
-        Place::Not => count,
     }
 }
 
@@ -202,7 +107,7 @@ pub fn define_string(
             if too_long(room, live - old, text.len()) {
                 return Stored::Full;
             }
-            take_out(
+            removal::take_out(
                 store,
                 &mut *firsts,
                 &mut *seconds,
@@ -260,7 +165,7 @@ pub fn open_macro(
 {
     match texts::find(&*firsts, &*seconds, count, name) {
         Place::At(i) => {
-            take_out(
+            removal::take_out(
                 store,
                 &mut *firsts,
                 &mut *seconds,

@@ -243,7 +243,7 @@ fn stand(
     ensures { λ r. ⌜ Good r × Arrays (now (cells .entry)) (now (row .exit)) ⌝ }
 {
     let t = break_line(s, cells, &mut *row);
-    let n = rows::standing_row(
+    let n = standing::standing_row(
         line,
         0,
         to,
@@ -262,7 +262,7 @@ fn skip(s: State, n: usize, row: &mut [u8; 872]) -> State
     requires { ⌜ Good s × (length (now row) ≡ 872) × (n ≤ 500) ⌝ }
     ensures { λ r. ⌜ Good r × (length (now (row .exit)) ≡ 872) ⌝ }
 {
-    let count = rows::blank_rows(rows_of(n), &mut *row);
+    let count = standing::blank_rows(rows_of(n), &mut *row);
     show(&*row, count);
     s
 }

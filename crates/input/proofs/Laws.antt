@@ -10,11 +10,11 @@ use borrow.Author.Tests.{eqb-true, eqb-false}
 use lib.ListN.{length, take, drop, getD, set, length-set}
 use lib.Seq.{paste, paste-suc, length-paste, length-paste-head, take-take, take-all, length-take-le, take-append-le, drop-at, take-at, getD-set-same, getD-set-other, take-set-le, take-length, take-suc, take-suc-set}
 use Rattle.rules.specs.declared.Name.{Name}
-use Rattle.input.specs.declared.What.{What}
+use Rattle.frames.specs.declared.What.{What}
 use Rattle.input.specs.declared.Entry.{Entry}
 use Rattle.input.specs.declared.Stack.{Stack}
-use Rattle.input.specs.declared.Words.{Words}
-use Rattle.input.specs.Words.{wordsOf, whatIn}
+use Rattle.frames.specs.declared.Words.{Words}
+use Rattle.frames.specs.Words.{wordsOf, whatIn}
 use Rattle.input.specs.Frames.{frame, entry, entryAt, entered, frameAt, framesTo, Columns, PushedTo, isCalled, calledTo}
 use Rattle.input.specs.FrameLaws.{entry-is, entry-within, frames-kept}
 

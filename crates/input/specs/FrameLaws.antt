@@ -8,10 +8,10 @@ use lib.Dec.{eqb}
 use lib.ListN.{length, take, drop, getD, set, length-set}
 use lib.Seq.{take-take, take-nil, getD-take, getD-set-same, getD-set-other, take-set-le, drop-set-lt}
 use borrow.Author.Tests.{eqb-true, eqb-false}
-use Rattle.input.specs.declared.What.{What}
-use Rattle.input.specs.declared.What.the-variants.{Reading}
+use Rattle.frames.specs.declared.What.{What}
+use Rattle.frames.specs.declared.What.the-variants.{Reading}
 use Rattle.input.specs.declared.Entry.{Entry}
-use Rattle.input.specs.Words.{nameIn, whatBy, whatOf}
+use Rattle.frames.specs.Words.{nameIn, whatBy, whatOf}
 use Rattle.input.specs.Frames.{frame, entry, entryAt, frameAt, framesTo, moved, movedEntry, placedBy, placedIn}
 
 drop-take : (n m : ℕ) (l : List ℕ) → drop n (take (n + m) l) ≡ take m (drop n l)

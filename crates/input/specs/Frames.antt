@@ -7,12 +7,12 @@ use lib.Dec.{eqb}
 use lib.ListN.{length, take, drop, getD, set}
 use Rattle.rules.specs.declared.Name.{Name}
 use Rattle.rules.specs.Names.{sameName}
-use Rattle.input.specs.declared.What.{What}
-use Rattle.input.specs.declared.What.the-variants.{Reading, Text, Control, Ignored, Others, Acts, Ejects}
+use Rattle.frames.specs.declared.What.{What}
+use Rattle.frames.specs.declared.What.the-variants.{Reading, Text, Control, Ignored, Others, Acts, Ejects}
 use Rattle.input.specs.declared.Entry.{Entry}
 use Rattle.input.specs.declared.Stack.{Stack}
-use Rattle.input.specs.declared.Words.{Words}
-use Rattle.input.specs.Words.{whatOf}
+use Rattle.frames.specs.declared.Words.{Words}
+use Rattle.frames.specs.Words.{whatOf}
 
 -- an entry with its bytes and the places where its arguments end
 pub record Frame : Type 0 where

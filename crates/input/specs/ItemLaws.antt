@@ -19,8 +19,8 @@ use Rattle.rules.specs.Rows.{lines, linesOf}
 use Rattle.rules.specs.State.{reading, isReading, onStack}
 use Rattle.bodies.specs.Lines.{firstLine, lines-first}
 use Rattle.arguments.specs.Around.{argumentsOf}
-use Rattle.input.specs.declared.What.{What}
-use Rattle.input.specs.declared.What.the-variants as what
+use Rattle.frames.specs.declared.What.{What}
+use Rattle.frames.specs.declared.What.the-variants as what
 use Rattle.input.specs.declared.Entry.{Entry}
 use Rattle.input.specs.declared.Stack.{Stack}
 use Rattle.input.specs.Frames.{Frame, frame, noFrames, entryAt, frameAt, framesTo, framesOf, topFrame, topEntry, topBytes, topEnds, Columns, Topped, PushedTo, below, moved, movedEntry, placedIn, placedAt, isCalled, calledTo}

@@ -13,8 +13,8 @@ use Rattle.rules.specs.Filling.{words}
 use Rattle.rules.specs.State.{Item, reading, again, others, acts, ejects, text, control, ignored}
 use Rattle.rules.specs.TableLaws.{Each}
 use Rattle.arguments.specs.Around.{argumentsOf, Arguments}
-use Rattle.input.specs.declared.What.{What}
-use Rattle.input.specs.declared.What.the-variants as what
+use Rattle.frames.specs.declared.What.{What}
+use Rattle.frames.specs.declared.What.the-variants as what
 use Rattle.input.specs.declared.Stack.{Stack}
 use Rattle.input.specs.Frames.{Frame, framesOf, Columns}
 

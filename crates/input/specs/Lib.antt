@@ -1,4 +1,3 @@
-pub mod Words
 pub mod Frames
 pub mod FrameLaws
 pub mod Items

@@ -41,7 +41,7 @@ use Rattle.lengths.specs.Views.{printer}
 use Rattle.conditions.specs.Conditions.{conditionIs}
 use Rattle.settings.specs.Layouts.{printerOf, newLayoutIs, Performed}
 use Rattle.settings.specs.LayoutLaws.{of-new, layoutKeeps, performed-is}
-use Rattle.input.specs.declared.What.{What}
+use Rattle.frames.specs.declared.What.{What}
 use Rattle.input.specs.declared.Stack.{Stack}
 use Rattle.input.specs.Frames.{Columns}
 use Rattle.input.specs.Items.{itemBy, stackOf}

@@ -1,7 +1,7 @@
 // Requests that neither break nor change a table, and texts that are called.
 use conditions::Condition;
+use frames::What;
 use input::Stack;
-use input::What;
 use lines::Line;
 use measure::Rows;
 use page::Page;
@@ -59,7 +59,7 @@ fn new_layout(
     let mut given = [0u16; 9];
     let count = arguments::arguments(line, 0, &mut *parts, &mut given);
     let first = lines::argument(&*parts, &given, count, 0);
-    settings::perform(request, layout, used, first, printer)
+    page_settings::perform(request, layout, used, first, printer)
 }
 
 // The layout is the new one, or "6: number malformed" and "7: value out of range".

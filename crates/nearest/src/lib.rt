@@ -7,6 +7,7 @@ use traps::Row;
 ghost use mathlib.Core.Path.{_≡_};
 ghost use Prim.Native.Nat.{_≤_};
 ghost use lib.ListN.{take};
+ghost use Rattle.measure.specs.Counts.{downOf};
 ghost use Rattle.rules.specs.Traps.{rowOf, isRow, nearer, seenAt, nearestTrap};
 ghost use Rattle.traps.specs.Table.{Within, plantedOf, rowIs, foundIs};
 
@@ -40,8 +41,7 @@ fn stands_at(trap: Trap, page: usize, row: usize) -> bool
     }
 }
 
-// The name of the first planted trap at a row.
-pub fn seen_at(p: Planted, page: usize, row: usize) -> Found
+fn seen_in(p: Planted, page: usize, row: usize) -> Found
     requires { ⌜ Within p ⌝ }
     ensures { λ r. ⌜ foundIs r ≡ seenAt page row (plantedOf p) ⌝ }
 {
@@ -57,6 +57,14 @@ pub fn seen_at(p: Planted, page: usize, row: usize) -> Found
         i += 1;
     }
     Found::Nothing
+}
+
+// The name of the first planted trap at a row.
+pub fn seen_at(p: Planted, page: Rows, row: Rows) -> Found
+    requires { ⌜ Within p ⌝ }
+    ensures { λ r. ⌜ foundIs r ≡ seenAt (downOf page) (downOf row) (plantedOf p) ⌝ }
+{
+    seen_in(p, measure::down(page) as usize, measure::down(row) as usize)
 }
 
 // The trap's row, if it is below this row and above the best so far, or else the best so far.
@@ -76,8 +84,7 @@ fn closer(trap: Trap, page: usize, row: usize, best: usize) -> usize
     }
 }
 
-// The first row below this one that has a trap, or else `best`.
-pub fn nearest(p: Planted, page: usize, row: usize, best: usize) -> usize
+fn nearest_in(p: Planted, page: usize, row: usize, best: usize) -> usize
     requires { ⌜ Within p ⌝ }
     ensures { λ r. ⌜ r ≡ nearestTrap page row best (plantedOf p) ⌝ }
 {
@@ -91,6 +98,19 @@ pub fn nearest(p: Planted, page: usize, row: usize, best: usize) -> usize
         i += 1;
     }
     found
+}
+
+// The first row below this one that has a trap, or else `best`.
+pub fn nearest(p: Planted, page: Rows, row: Rows, best: Rows) -> usize
+    requires { ⌜ Within p ⌝ }
+    ensures { λ r. ⌜ r ≡ nearestTrap (downOf page) (downOf row) (downOf best) (plantedOf p) ⌝ }
+{
+    nearest_in(
+        p,
+        measure::down(page) as usize,
+        measure::down(row) as usize,
+        measure::down(best) as usize,
+    )
 }
 
 // The same over traps that the caller lends.
@@ -115,10 +135,16 @@ fn nearest_front(traps: [Trap; 16], count: usize, page: usize, row: usize, best:
 }
 
 // `nearest` by way of the lent traps.
-pub fn nearest_lent(p: Planted, page: usize, row: usize, best: usize) -> usize
+pub fn nearest_lent(p: Planted, page: Rows, row: Rows, best: Rows) -> usize
     requires { ⌜ Within p ⌝ }
-    ensures { λ r. ⌜ r ≡ nearestTrap page row best (plantedOf p) ⌝ }
+    ensures { λ r. ⌜ r ≡ nearestTrap (downOf page) (downOf row) (downOf best) (plantedOf p) ⌝ }
 {
     let traps = p.traps;
-    nearest_front(traps, p.count, page, row, best)
+    nearest_front(
+        traps,
+        p.count,
+        measure::down(page) as usize,
+        measure::down(row) as usize,
+        measure::down(best) as usize,
+    )
 }

@@ -1,4 +1,4 @@
-// Numbers of document 01: arithmetic, literals with scales, and the readers of expressions and terms.
+// Numbers of document 01: literals with scales, and the readers of expressions and terms.
 use arithmetic::Value;
 use measure::MaybeScale;
 use measure::Pitch;

@@ -33,10 +33,7 @@ pub fn start_page(page: Page, length: Rows, planted: Planted) -> Moved
             used: Rows(0),
             last: page.last,
         };
-        return Moved::On(
-            next,
-            nearest::seen_at(planted, measure::down(length) as usize, 0),
-        );
+        return Moved::On(next, nearest::seen_at(planted, length, Rows(0)));
     }
     Moved::TooMany
 }
@@ -49,12 +46,13 @@ pub fn move_down(page: Page, rows: Rows, length: Rows, planted: Planted) -> Move
     let to = measure::down(page.used) as usize + measure::down(rows) as usize;
     let end = measure::down(length) as usize;
     if to < end {
+        let used = measure::rows_down(to as u16);
         let moved = Page {
             number: page.number,
-            used: measure::rows_down(to as u16),
+            used,
             last: page.last,
         };
-        return Moved::On(moved, nearest::seen_at(planted, end, to));
+        return Moved::On(moved, nearest::seen_at(planted, length, used));
     }
     if page.last {
         return Moved::Done;
@@ -67,9 +65,8 @@ pub fn rows_below(page: Page, length: Rows, planted: Planted) -> Rows
     requires { ⌜ Sound page length planted ⌝ }
     ensures { λ r. ⌜ downOf r ≡ below (pageOf page) (downOf length) (plantedOf planted) ⌝ }
 {
-    let used = measure::down(page.used) as usize;
-    let end = measure::down(length) as usize;
-    measure::rows_down((nearest::nearest_lent(planted, end, used, end) - used) as u16)
+    let row = nearest::nearest_lent(planted, length, page.used, length);
+    measure::rows_down((row - measure::down(page.used) as usize) as u16)
 }
 
 // The blank rows that an sp writes: "sp stops at the nearest trap or page end and drops the rest; 0 or less moves nothing."

@@ -2,4 +2,3 @@ pub mod Columns
 pub mod Places
 pub mod Moves
 pub mod Answers
-pub mod Checks

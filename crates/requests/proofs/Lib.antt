@@ -1,3 +1,1 @@
-pub mod TrapLaws
-pub mod RegisterLaws
 pub mod TextLaws

@@ -37,13 +37,13 @@ use Rattle.traps.specs.declared.Planted.{Planted}
 use Rattle.traps.specs.Table.{plantedOf}
 use Rattle.settings.specs.declared.Printer.{Printer}
 use Rattle.settings.specs.Layouts.{printerOf}
-use Rattle.requests.specs.declared.Assigned.{Assigned}
-use Rattle.requests.specs.declared.Assigned.the-variants as assigned
-use Rattle.requests.specs.declared.Plants.{Plants}
+use Rattle.assigning.specs.declared.Assigned.{Assigned}
+use Rattle.assigning.specs.declared.Assigned.the-variants as assigned
+use Rattle.planting.specs.declared.Plants.{Plants}
 use Rattle.requests.specs.declared.Changed.{Changed}
 use Rattle.requests.specs.declared.Changed.the-variants as changed
-use Rattle.requests.specs.Registers.{AssignsAs, assigns, countIn}
-use Rattle.requests.specs.Traps.{PlantedTo, plantsBy}
+use Rattle.assigning.specs.Registers.{AssignsAs, assigns, countIn}
+use Rattle.planting.specs.Traps.{PlantedTo, plantsBy}
 use Rattle.requests.specs.Texts as in-texts
 use Rattle.requests.specs.Texts.{over, alone, ChangesAs, OpensAs, DefinesAs, openedAs, removes, opensText}
 

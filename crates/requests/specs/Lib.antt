@@ -1,4 +1,2 @@
-pub mod Traps
-pub mod Registers
 pub mod Texts
 pub mod KeptLaws

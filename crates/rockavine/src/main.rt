@@ -3,7 +3,7 @@ use libc::STDERR_FILENO;
 use libc::STDIN_FILENO;
 use libc::STDOUT_FILENO;
 use stream::Answer;
-use turns::Record;
+use turning::Record;
 
 // The record after a block, and whether the session goes on.
 struct Fed {

@@ -11,24 +11,24 @@ use Rattle.stream.specs.Answers.{done, refused}
 use Rattle.rules.specs.State.{State}
 use Rattle.limits.specs.Within.{Within}
 use Rattle.springs.specs.Held.{Fits}
-use Rattle.dealing.specs.Whole.{stateIn, SoundWhole}
-use Rattle.checks.specs.SoundLaws.{sound-whole, whole-passes}
+use Rattle.whole.specs.Whole.{stateIn, SoundWhole}
+use Rattle.soundness.specs.SoundLaws.{sound-whole, whole-passes}
 use Rattle.checks.specs.LimitLaws.{Kept, within-kept, kept-within, open-within, open-kept, closed-within, closed-kept}
 use Rattle.source.specs.declared.Source.{Source}
-use Rattle.turns.specs.declared.Record.{Record}
-use Rattle.turns.specs.declared.Reply.{Reply}
-use Rattle.turns.specs.declared.Waiting.{Waiting}
-use Rattle.turns.specs.declared.Closing.{Closing}
-use Rattle.turns.specs.declared.Closing.the-variants.{Open, Done, Refused}
+use Rattle.turning.specs.declared.Record.{Record}
+use Rattle.turning.specs.declared.Reply.{Reply}
+use Rattle.turning.specs.declared.Waiting.{Waiting}
+use Rattle.turning.specs.declared.Closing.{Closing}
+use Rattle.turning.specs.declared.Closing.the-variants.{Open, Done, Refused}
 use Rattle.session.specs.declared.Stop.{Stop}
 use Rattle.session.specs.declared.Stop.the-variants.{Goes}
-use Rattle.turns.specs.View.{sourced, closedAs, wholeIn, Legal}
-use Rattle.turns.specs.Contract.{Closes}
-use Rattle.turns.specs.Turns.{Turns, Runs}
-use Rattle.turns.proofs.Leading.{stops-closed}
-use Rattle.turns.specs.Inside.{InsideCall, withBlock}
-use Rattle.turns.proofs.Going.{go-start, does-stop}
-use Rattle.turns.proofs.Inside.{runs-inside}
+use Rattle.turning.specs.View.{sourced, closedAs, wholeIn, Legal}
+use Rattle.turning.specs.Contract.{Closes}
+use Rattle.turning.specs.Turns.{Turns, Runs}
+use Rattle.turning.proofs.Leading.{stops-closed}
+use Rattle.turning.specs.Inside.{InsideCall, withBlock}
+use Rattle.turning.proofs.Going.{go-start, does-stop}
+use Rattle.turning.proofs.Inside.{runs-inside}
 use Rattle.session.specs.Contract.{Called, served, turned}
 use Rattle.session.specs.Limits.{Sized, EndsWith, isOpen, AnsweredAt, AnsweredJudged, Placed, PlacedJudged, soundIn, withinIn, Judged}
 

@@ -7,17 +7,17 @@ use lib.ListN.{length}
 use Rattle.stream.specs.declared.Answer.{Answer}
 use Rattle.limits.specs.Within.{Refusal}
 use Rattle.source.specs.declared.Source.{Source}
-use Rattle.registers.specs.Checks as registers
-use Rattle.checks.specs.Checks.{Lent, isSound}
+use Rattle.register_checks.specs.Checks as registers
+use Rattle.soundness.specs.Checks.{Lent, isSound}
 use Rattle.checks.specs.LimitChecks.{isWithin}
-use Rattle.turns.specs.declared.Record.{Record}
-use Rattle.turns.specs.declared.Waiting.{Waiting}
-use Rattle.turns.specs.declared.Closing.{Closing}
-use Rattle.turns.specs.declared.Closing.the-variants.{Open, Done, Refused}
+use Rattle.turning.specs.declared.Record.{Record}
+use Rattle.turning.specs.declared.Waiting.{Waiting}
+use Rattle.turning.specs.declared.Closing.{Closing}
+use Rattle.turning.specs.declared.Closing.the-variants.{Open, Done, Refused}
 use Rattle.session.specs.declared.Stop.{Stop}
 use Rattle.session.specs.declared.Stop.the-variants.{Goes, With}
-use Rattle.turns.specs.View.{lastLine, Legal}
-use Rattle.turns.specs.Contract.{Closes}
+use Rattle.turning.specs.View.{lastLine, Legal}
+use Rattle.turning.specs.Contract.{Closes}
 
 -- the arrays of a record have their lengths, which their types say
 pub record Sized (r : Record) : Type 0 where

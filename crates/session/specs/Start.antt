@@ -21,12 +21,12 @@ use Rattle.input.specs.Frames.{noFrames, framesTo}
 use Rattle.input.specs.Items.{itemsOf}
 use Rattle.texts.specs.Table.{cut, lies-none}
 use Rattle.sheet.specs.Desk.{noLine}
-use Rattle.dealing.specs.declared.Status.{Status}
+use Rattle.whole.specs.declared.Status.{Status}
 use Rattle.source.specs.declared.Source.{Source}
-use Rattle.turns.specs.declared.Record.{Record}
-use Rattle.turns.specs.declared.Place.{Place}
-use Rattle.turns.specs.View.{stateOf, Legal, Formed}
-use Rattle.turns.specs.Turns.{recordOf, resting}
+use Rattle.turning.specs.declared.Record.{Record}
+use Rattle.turning.specs.declared.Place.{Place}
+use Rattle.turning.specs.View.{stateOf, Legal, Formed}
+use Rattle.turning.specs.Turns.{recordOf, resting}
 use Rattle.session.specs.Calls.{Calls, condition-3-from}
 
 -- a setting of so many cells

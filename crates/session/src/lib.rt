@@ -1,6 +1,4 @@
 // A session: calls that take bytes of a source and write bytes of its pages.
-use dealing::Opening;
-use dealing::Status;
 use lengths::Setting;
 use measure::Cells;
 use measure::Rows;
@@ -10,15 +8,17 @@ use settings::Layout;
 use settings::Total;
 use source::Source;
 use stream::Answer;
-use turns::Closing;
-use turns::Place;
-use turns::Ran;
-use turns::Record;
-use turns::Reply;
-use turns::Waiting;
+use turning::Closing;
+use turning::Place;
+use turning::Ran;
+use turning::Record;
+use turning::Reply;
+use turning::Waiting;
+use whole::Opening;
+use whole::Status;
 ghost use mathlib.Core.Path.{_≡_};
-ghost use Rattle.turns.specs.View.{lastLine, Legal};
-ghost use Rattle.turns.specs.Turns.{recordOf, replyFrom};
+ghost use Rattle.turning.specs.View.{lastLine, Legal};
+ghost use Rattle.turning.specs.Turns.{recordOf, replyFrom};
 ghost use Rattle.session.specs.Start.{firstLayout, firstStatus, startPlace, startRecord};
 ghost use Rattle.session.specs.Contract.{Called};
 ghost use Rattle.session.specs.Limits.{Sized, EndsWith, isOpen, AnsweredJudged, PlacedJudged, Judged};
@@ -268,7 +268,7 @@ pub fn is_legal(
     if !is_placed(source, waiting, closing) {
         return false;
     }
-    if !checks::is_sound(
+    if !soundness::is_sound(
         status,
         store.len(),
         ends,

@@ -1,25 +1,18 @@
-// The settings in force: new values from the arguments of requests, and the conditions of if.
-use arithmetic::Value;
-use lengths::Count;
-use lengths::NewRows;
-use lengths::NewSetting;
-use lengths::NewTotal;
+// The layout: all settings in force, and the printer.
 use lengths::Setting;
 use measure::Cells;
 use measure::Pitch;
 use measure::Rows;
-use rules::Breaking;
-use rules::Unbreaking;
 use scales::Down;
 ghost use mathlib.Core.Path.{_≡_};
-ghost use Rattle.measure.specs.Counts.{acrossOf, downOf};
-ghost use Rattle.lengths.specs.Views.{countIs, settingOf, newRowsIs, printer};
+ghost use Rattle.measure.specs.Counts.{acrossOf};
+ghost use Rattle.lengths.specs.Views.{settingOf, printer};
 ghost use Rattle.rules.specs.Settings.{steady as steadyOf, startLayout, withTotal, withFilling, withAdjusting, withCentred};
-ghost use Rattle.rules.specs.Acts.{countOf, pageLength, spacing as spacingOf};
+ghost use Rattle.rules.specs.Acts.{spacing as spacingOf};
 ghost use Rattle.rules.specs.Filling.{indentNow, begun as begunOf};
 ghost use Rattle.rules.specs.TextLines.{asItStands, counted as countedOf};
 ghost use Rattle.scales.specs.Rounded.{downOf as roundedOf};
-ghost use Rattle.settings.specs.Layouts.{printerOf, TenToTheInch, SoundPrinter, totalOf, layoutOf, Limits, Laid, newLayoutIs, Ready, actedOf, Acted, performedOf, Performed, Room};
+ghost use Rattle.settings.specs.Layouts.{printerOf, TenToTheInch, SoundPrinter, totalOf, layoutOf, Limits, Laid, Room};
 
 // What a session is told of its printer: the pitch, the cells of the starting line and the rows of the starting page.
 pub struct Printer {
@@ -93,7 +86,7 @@ pub fn start_layout(printer: Printer) -> Layout
 }
 
 // The ti total set anew, or used up.
-fn with_total(layout: Layout, total: Total) -> Layout
+pub fn with_total(layout: Layout, total: Total) -> Layout
     ensures { λ r. ⌜ layoutOf r ≡ withTotal (totalOf total) (layoutOf layout) ⌝ }
 {
     let line = layout.line;
@@ -113,7 +106,7 @@ fn with_total(layout: Layout, total: Total) -> Layout
 }
 
 // fi or nf.
-fn with_filling(layout: Layout, filling: bool) -> Layout
+pub fn with_filling(layout: Layout, filling: bool) -> Layout
     ensures { λ r. ⌜ layoutOf r ≡ withFilling filling (layoutOf layout) ⌝ }
 {
     let mut new = layout;
@@ -122,7 +115,7 @@ fn with_filling(layout: Layout, filling: bool) -> Layout
 }
 
 // ad or na.
-fn with_adjusting(layout: Layout, adjusting: bool) -> Layout
+pub fn with_adjusting(layout: Layout, adjusting: bool) -> Layout
     ensures { λ r. ⌜ layoutOf r ≡ withAdjusting adjusting (layoutOf layout) ⌝ }
 {
     let mut new = layout;
@@ -131,179 +124,12 @@ fn with_adjusting(layout: Layout, adjusting: bool) -> Layout
 }
 
 // Another number of lines to centre.
-fn with_centred(layout: Layout, centred: u32) -> Layout
+pub fn with_centred(layout: Layout, centred: u32) -> Layout
     ensures { λ r. ⌜ layoutOf r ≡ withCentred centred (layoutOf layout) ⌝ }
 {
     let mut new = layout;
     new.centred = centred;
     new
-}
-
-// ce: "n of 0 or less ends centring"
-fn count_of(n: i32) -> u32
-    ensures { λ r. ⌜ r ≡ countOf n ⌝ }
-{
-    if n < 0 {
-        return 0;
-    }
-    n as u32
-}
-
-// ce, 1 where its argument is missing.
-fn centre(layout: Layout, argument: &[u8], printer: Printer) -> NewLayout
-    requires { ⌜ SoundPrinter printer ⌝ }
-    ensures { λ r. ⌜ newLayoutIs r ≡ actedOf (printerOf printer) Breaking.Ce (now (argument .entry)) (layoutOf layout) ⌝ }
-{
-    if argument.len() == 0 {
-        return NewLayout::Is(with_centred(layout, 1));
-    }
-    match scales::units(argument, printer.pitch) {
-        Value::Is(n) => NewLayout::Is(with_centred(layout, count_of(n))),
-        Value::Bad => NewLayout::Malformed,
-    }
-}
-
-// in.
-fn set_indent(layout: Layout, argument: &[u8], printer: Printer) -> NewLayout
-    requires { ⌜ SoundPrinter printer ⌝ }
-    ensures { λ r. ⌜ newLayoutIs r ≡ actedOf (printerOf printer) Breaking.In (now (argument .entry)) (layoutOf layout) ⌝ }
-{
-    match lengths::indent(layout.indent, argument, printer.pitch) {
-        NewSetting::Is(setting) => {
-            let mut new = layout;
-            new.indent = setting;
-            NewLayout::Is(new)
-        }
-        NewSetting::Malformed => NewLayout::Malformed,
-        NewSetting::OutOfRange => NewLayout::OutOfRange,
-    }
-}
-
-// ti: without an argument it does nothing.
-fn set_total(layout: Layout, argument: &[u8], printer: Printer) -> NewLayout
-    requires { ⌜ SoundPrinter printer ⌝ }
-    ensures { λ r. ⌜ newLayoutIs r ≡ actedOf (printerOf printer) Breaking.Ti (now (argument .entry)) (layoutOf layout) ⌝ }
-{
-    if argument.len() == 0 {
-        return NewLayout::Is(layout);
-    }
-    match lengths::indent_total(argument, layout.indent.now, printer.pitch) {
-        NewTotal::Is(total) => NewLayout::Is(with_total(layout, Total::Is(total))),
-        NewTotal::Malformed => NewLayout::Malformed,
-        NewTotal::OutOfRange => NewLayout::OutOfRange,
-    }
-}
-
-// What a request that breaks makes of the layout, after its break; br, sp and bp leave it.
-pub fn act(request: Breaking, layout: Layout, argument: &[u8], printer: Printer) -> NewLayout
-    requires { ⌜ Ready printer layout ⌝ }
-    ensures { λ r. ⌜ Acted printer request layout (now (argument .entry)) r ⌝ }
-{
-    match request {
-        Breaking::Br => NewLayout::Is(layout),
-        Breaking::Sp => NewLayout::Is(layout),
-        Breaking::Bp => NewLayout::Is(layout),
-        Breaking::Fi => NewLayout::Is(with_filling(layout, true)),
-        Breaking::Nf => NewLayout::Is(with_filling(layout, false)),
-        Breaking::Ce => centre(layout, argument, printer),
-        Breaking::In => set_indent(layout, argument, printer),
-        Breaking::Ti => set_total(layout, argument, printer),
-    }
-}
-
-// A count as a page length.
-fn rows_from(count: Count) -> NewRows
-    ensures { λ r. ⌜ newRowsIs r ≡ countIs count ⌝ }
-{
-    match count {
-        Count::Is(n) => NewRows::Is(measure::rows_down(n)),
-        Count::Out => NewRows::OutOfRange,
-    }
-}
-
-// pl, with an argument, or without: "pl 66 rows".
-fn new_page(used: Rows, old: Rows, argument: &[u8], printer: Printer) -> NewRows
-    requires { ⌜ SoundPrinter printer ⌝ }
-    ensures { λ r. ⌜ newRowsIs r ≡ pageLength (printerOf printer) (downOf used) (downOf old) (now (argument .entry)) ⌝ }
-{
-    if argument.len() == 0 {
-        let rows = measure::down(printer.page) as i64;
-        return rows_from(lengths::page_count(rows, measure::down(used)));
-    }
-    lengths::page_length(used, old, argument, printer.pitch)
-}
-
-// pl.
-fn set_page(layout: Layout, used: Rows, argument: &[u8], printer: Printer) -> NewLayout
-    requires { ⌜ SoundPrinter printer ⌝ }
-    ensures { λ r. ⌜ newLayoutIs r ≡ performedOf (printerOf printer) Unbreaking.Pl (downOf used) (now (argument .entry)) (layoutOf layout) ⌝ }
-{
-    match new_page(used, layout.page, argument, printer) {
-        NewRows::Is(rows) => {
-            let mut new = layout;
-            new.page = rows;
-            NewLayout::Is(new)
-        }
-        NewRows::Malformed => NewLayout::Malformed,
-        NewRows::OutOfRange => NewLayout::OutOfRange,
-    }
-}
-
-// po. The rows used do not matter to it.
-fn set_offset(layout: Layout, argument: &[u8], printer: Printer) -> NewLayout
-    requires { ⌜ SoundPrinter printer ⌝ }
-    ensures { λ r. ⌜ newLayoutIs r ≡ performedOf (printerOf printer) Unbreaking.Po 0 (now (argument .entry)) (layoutOf layout) ⌝ }
-{
-    match lengths::page_offset(layout.offset, argument, printer.pitch) {
-        NewSetting::Is(setting) => {
-            let mut new = layout;
-            new.offset = setting;
-            NewLayout::Is(new)
-        }
-        NewSetting::Malformed => NewLayout::Malformed,
-        NewSetting::OutOfRange => NewLayout::OutOfRange,
-    }
-}
-
-// ll. The rows used do not matter to it.
-fn set_line(layout: Layout, argument: &[u8], printer: Printer) -> NewLayout
-    requires { ⌜ SoundPrinter printer ⌝ }
-    ensures { λ r. ⌜ newLayoutIs r ≡ performedOf (printerOf printer) Unbreaking.Ll 0 (now (argument .entry)) (layoutOf layout) ⌝ }
-{
-    match lengths::line_length(layout.line, argument, printer.pitch) {
-        NewSetting::Is(setting) => {
-            let mut new = layout;
-            new.line = setting;
-            NewLayout::Is(new)
-        }
-        NewSetting::Malformed => NewLayout::Malformed,
-        NewSetting::OutOfRange => NewLayout::OutOfRange,
-    }
-}
-
-// What a request that does not break makes of the layout; nr, de, rm, wh and if leave it.
-pub fn perform(
-    request: Unbreaking,
-    layout: Layout,
-    used: Rows,
-    argument: &[u8],
-    printer: Printer,
-) -> NewLayout
-    requires { ⌜ Ready printer layout ⌝ }
-    ensures { λ r. ⌜ Performed printer request layout (downOf used) (now (argument .entry)) r ⌝ }
-{
-    match request {
-        Unbreaking::Pl => set_page(layout, used, argument, printer),
-        Unbreaking::Po => set_offset(layout, argument, printer),
-        Unbreaking::Ll => set_line(layout, argument, printer),
-        Unbreaking::Ad => NewLayout::Is(with_adjusting(layout, true)),
-        Unbreaking::Na => NewLayout::Is(with_adjusting(layout, false)),
-        Unbreaking::Nr => NewLayout::Is(layout),
-        Unbreaking::De => NewLayout::Is(layout),
-        Unbreaking::Rm => NewLayout::Is(layout),
-        Unbreaking::Wh => NewLayout::Is(layout),
-        Unbreaking::If => NewLayout::Is(layout),
-    }
 }
 
 // The rows that an sp asks for, 1 where its argument is missing.

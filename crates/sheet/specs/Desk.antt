@@ -19,7 +19,7 @@ use Rattle.traps.specs.Table as traps
 use Rattle.fill.specs.Filled.{lineOf, Line}
 use Rattle.settings.specs.declared.Layout.{Layout}
 use Rattle.settings.specs.Layouts.{layoutOf, Limits}
-use Rattle.input.specs.declared.What.the-variants as what
+use Rattle.frames.specs.declared.What.the-variants as what
 use Rattle.input.specs.declared.Stack.{Stack}
 use Rattle.input.specs.Frames.{Columns}
 use Rattle.input.specs.Items.{stackOf}

@@ -20,8 +20,8 @@ use Rattle.rules.specs.State.{State, Item, reading, refuse, withStack}
 use Rattle.rules.specs.Rows.{linesOf, theEnd, pushIf, call, userText, springText}
 use Rattle.texts.specs.Table.{textsOf, Lies}
 use Rattle.arguments.specs.Around.{cutAt, argumentsOf, Arguments}
-use Rattle.input.specs.declared.What.{What}
-use Rattle.input.specs.declared.What.the-variants as what
+use Rattle.frames.specs.declared.What.{What}
+use Rattle.frames.specs.declared.What.the-variants as what
 use Rattle.input.specs.declared.Stack.{Stack}
 use Rattle.input.specs.Frames.{Frame, frame, entry, framesOf, topFrame, topEntry, Columns, PushedTo}
 use Rattle.input.specs.Items.{itemBy, itemsOf, stackOf, unread, GoodBy, Good}

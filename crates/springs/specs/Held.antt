@@ -6,8 +6,8 @@ use Prim.Native.Nat.{ℕ, _+_, _≤_}
 use lib.ListN.{length, replicate}
 use Rattle.rules.specs.Texts.{Text}
 use Rattle.rules.specs.State.{Item}
-use Rattle.input.specs.declared.What.{What}
-use Rattle.input.specs.declared.What.the-variants as what
+use Rattle.frames.specs.declared.What.{What}
+use Rattle.frames.specs.declared.What.the-variants as what
 use Rattle.input.specs.declared.Stack.{Stack}
 use Rattle.input.specs.Frames.{Frame, frame, entry, framesOf, topEntry, Columns}
 use Rattle.input.specs.Items.{itemBy}

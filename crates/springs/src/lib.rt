@@ -1,6 +1,6 @@
 // The input stack as a page goes on: texts that are called, the trap that a row reaches, and what is held over it.
+use frames::What;
 use input::Stack;
-use input::What;
 use measure::Rows;
 use page::Moved;
 use page::Page;

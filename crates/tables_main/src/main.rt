@@ -530,7 +530,7 @@ fn show_name(name: Name) {
     }
 }
 
-fn show(p: Planted, page: usize, row: usize)
+fn show(p: Planted, page: Rows, row: Rows)
     requires { ⌜ Within p ⌝ }
 {
     match nearest::seen_at(p, page, row) {
@@ -543,14 +543,6 @@ fn show(p: Planted, page: usize, row: usize)
         nearest::nearest_lent(p, page, row, page) as u64,
     );
     text(b"\n");
-}
-
-// A number of rows, 0 for one below 0.
-fn rows_of(n: i32) -> usize {
-    if n < 0 {
-        return 0;
-    }
-    n as usize
 }
 
 // A row of a page of 1 to 500 rows.
@@ -573,7 +565,7 @@ fn show_judged(p: Planted, length: i32, row: i32)
         unknown();
         return;
     }
-    show(p, rows_of(length), rows_of(row));
+    show(p, Rows(length), Rows(row));
 }
 
 // What stands behind x.

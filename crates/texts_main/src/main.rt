@@ -138,7 +138,7 @@ fn remove(
     requires { ⌜ Lies (now store) (now firsts) (now seconds) (now kinds) (now lengths) count ⌝ }
     ensures { λ r. ⌜ Lies (now (store .exit)) (now (firsts .exit)) (now (seconds .exit)) (now (kinds .exit)) (now (lengths .exit)) r ⌝ }
 {
-    let n = definitions::remove(
+    let n = removal::remove(
         store,
         &mut *firsts,
         &mut *seconds,

@@ -36,34 +36,38 @@ fn row(digits: &[u8], place: i32, page: usize) {
     }
 }
 
-fn seen(p: Planted, page: usize, at: usize)
+fn seen(p: Planted, page: u16, at: u16)
     requires { ⌜ Within p ⌝ }
 {
+    let length = measure::rows_down(page);
+    let row = measure::rows_down(at);
     text(b"row ");
-    number(at);
+    number(at as usize);
     text(b" of ");
-    number(page);
+    number(page as usize);
     text(b":");
-    match nearest::seen_at(p, page, at) {
+    match nearest::seen_at(p, length, row) {
         Found::Text(name) => letter(name),
         Found::Nothing => text(b" none"),
     }
     text(b", nearest ");
-    number(nearest::nearest(p, page, at, page));
+    number(nearest::nearest(p, length, row, length));
     text(b"\n");
 }
 
-fn below(p: Planted, at: usize, best: usize)
+fn below(p: Planted, at: u16, best: u16)
     requires { ⌜ Within p ⌝ }
 {
+    let row = measure::rows_down(at);
+    let end = measure::rows_down(best);
     text(b"below ");
-    number(at);
+    number(at as usize);
     text(b" of 6 or ");
-    number(best);
+    number(best as usize);
     text(b": ");
-    number(nearest::nearest(p, 6, at, best));
+    number(nearest::nearest(p, Rows(6), row, end));
     text(b", lent ");
-    number(nearest::nearest_lent(p, 6, at, best));
+    number(nearest::nearest_lent(p, Rows(6), row, end));
     text(b"\n");
 }
 
@@ -135,10 +139,10 @@ fn few() -> Planted
     plant(d, -6, b'e')
 }
 
-fn page_of(p: Planted, page: usize)
+fn page_of(p: Planted, page: u16)
     requires { ⌜ Within p ⌝ }
 {
-    let mut at: usize = 0;
+    let mut at: u16 = 0;
     while at < 7 {
         seen(p, page, at);
         at += 1;

@@ -1,7 +1,7 @@
 -- `checks::are_settings` meets its contract, test by test. Assumes nothing.
 use borrow.Author.Needs.{needs}
 use Rattle.checks.specs.LimitChecks.{areSettings}
-use Rattle.checks.proofs.Tests.{fails, passes}
+use Rattle.soundness.proofs.Tests.{fails, passes}
 use Rattle.checks.proofs.are_settings.Statement.{statement}
 use Rattle.checks.proofs.are_settings.Tie as tie
 

@@ -2,7 +2,7 @@
 use denote.Ref.{now}
 use borrow.Author.Needs.{needs}
 use Rattle.checks.specs.LimitChecks.{areTables}
-use Rattle.checks.proofs.Tests.{fails, passes}
+use Rattle.soundness.proofs.Tests.{fails, passes}
 use Rattle.checks.proofs.LimitWalks.{traps-most, names-most}
 use Rattle.checks.proofs.are_tables.Statement.{statement}
 use Rattle.checks.proofs.are_tables.Tie as tie

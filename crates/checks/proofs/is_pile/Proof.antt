@@ -1,7 +1,7 @@
 -- `checks::is_pile` meets its contract, test by test. Assumes nothing.
 use borrow.Author.Needs.{needs}
 use Rattle.checks.specs.LimitChecks.{isPile}
-use Rattle.checks.proofs.Tests.{fails, passes}
+use Rattle.soundness.proofs.Tests.{fails, passes}
 use Rattle.checks.proofs.LimitWalks.{layered-most}
 use Rattle.checks.proofs.is_pile.Statement.{statement}
 use Rattle.checks.proofs.is_pile.Tie as tie

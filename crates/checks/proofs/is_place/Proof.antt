@@ -7,7 +7,7 @@ use mir.Syntax.{w32}
 use mir.Val.{toZ, ofZ}
 use mir.Facts.{toZ-ofZ}
 use Rattle.registers.proofs.Signed.{bounded}
-use Rattle.registers.proofs.CheckLaws.{below-outside, above-outside}
+use Rattle.register_checks.proofs.CheckLaws.{below-outside, above-outside}
 use Rattle.checks.proofs.is_place.Statement.{statement}
 use Rattle.checks.proofs.is_place.Tie as tie
 

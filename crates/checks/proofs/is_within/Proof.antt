@@ -1,7 +1,7 @@
 -- `checks::is_within` meets its contract, test by test. Assumes nothing.
 use borrow.Author.Needs.{needs}
 use Rattle.checks.specs.LimitChecks.{isWithin}
-use Rattle.checks.proofs.Tests.{fails, passes}
+use Rattle.soundness.proofs.Tests.{fails, passes}
 use Rattle.checks.proofs.is_within.Statement.{statement}
 use Rattle.checks.proofs.is_within.Tie as tie
 

@@ -6,7 +6,7 @@ use lib.ListN.{length, take, getD}
 use lib.Seq.{sets, take-all}
 use borrow.Author.Count.{below-more}
 use Rattle.traps.proofs.Places.{sized}
-use Rattle.codes.specs.Words.{trapWords, Named, blank}
+use Rattle.decoding.specs.Words.{trapWords, Named, blank}
 use Rattle.codes.proofs.Puts.{trap-step}
 use Rattle.codes.proofs.put_planted.Statement.{statement}
 use Rattle.codes.proofs.put_planted.Tie as tie

@@ -10,10 +10,10 @@ use Rattle.lines.specs.Meanings.{MeaningIs}
 use Rattle.keeping.specs.Keeping.{calledText}
 use Rattle.keeping.specs.KeepingLaws.{text-obeyed}
 use Rattle.keeping.proofs.Keeps.{known}
-use Rattle.dealing.specs.Whole.{textsIn, stateIn}
-use Rattle.dealing.specs.WholeLaws.{desk-did, did-as, stay-did}
-use Rattle.dealing.specs.Statuses.{wholeOf}
-use Rattle.control.specs.StepLaws.{begins-desk}
+use Rattle.whole.specs.Whole.{textsIn, stateIn}
+use Rattle.whole.specs.WholeLaws.{desk-did, did-as, stay-did}
+use Rattle.whole.specs.Statuses.{wholeOf}
+use Rattle.performing.specs.StepLaws.{begins-desk}
 use borrow.Author.Needs.{needs}
 use Rattle.control.proofs.obey.Statement.{statement}
 use Rattle.control.proofs.obey.Tie as tie

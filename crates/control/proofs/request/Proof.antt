@@ -4,9 +4,9 @@ use denote.Ref.{now}
 use Rattle.rules.specs.Acts.{defines}
 use Rattle.settings.specs.Layouts.{printerOf}
 use Rattle.breaking.specs.Obeying.{obeyed}
-use Rattle.dealing.specs.WholeLaws.{desk-did}
-use Rattle.dealing.specs.Statuses.{wholeOf}
-use Rattle.control.specs.StepLaws.{begins-desk, changed-did}
+use Rattle.whole.specs.WholeLaws.{desk-did}
+use Rattle.whole.specs.Statuses.{wholeOf}
+use Rattle.performing.specs.StepLaws.{begins-desk, changed-did}
 use borrow.Author.Needs.{needs}
 use Rattle.control.proofs.request.Statement.{statement}
 use Rattle.control.proofs.request.Tie as tie

@@ -5,9 +5,9 @@ use mathlib.Core.List.{[]}
 use lib.Seq.{take-length}
 use Rattle.settings.specs.Layouts.{printerOf}
 use Rattle.springs.proofs.Stacks.{no-arguments}
-use Rattle.dealing.specs.Statuses.{wholeOf}
-use Rattle.formatter.specs.WorkLaws.{read-did, sound-valued, shows}
-use Rattle.formatter.proofs.Reading.{no-arguments-of}
+use Rattle.whole.specs.Statuses.{wholeOf}
+use Rattle.stored_lines.specs.WorkLaws.{read-did, sound-valued, shows}
+use Rattle.stored_lines.proofs.Reading.{no-arguments-of}
 use borrow.Author.Needs.{needs}
 use Rattle.formatter.proofs.deal.Statement.{statement}
 use Rattle.formatter.proofs.deal.Tie as tie

@@ -7,10 +7,10 @@ use Rattle.rules.specs.Session.{idle, workEnd}
 use Rattle.settings.specs.Layouts.{printerOf}
 use Rattle.input.specs.declared.Entry.{Entry}
 use Rattle.springs.specs.declared.Way.the-variants.{Refused}
-use Rattle.dealing.specs.WholeLaws.{desk-did, stay-did}
-use Rattle.dealing.specs.Statuses.{wholeOf}
-use Rattle.formatter.specs.WorkLaws.{worked-end, idle-open, idle-none}
-use Rattle.formatter.proofs.Others.{no-text}
+use Rattle.whole.specs.WholeLaws.{desk-did, stay-did}
+use Rattle.whole.specs.Statuses.{wholeOf}
+use Rattle.stored_lines.specs.WorkLaws.{worked-end, idle-open, idle-none}
+use Rattle.stored_lines.proofs.Others.{no-text}
 use borrow.Author.Needs.{needs}
 use Rattle.formatter.proofs.work.Statement.{statement}
 use Rattle.formatter.proofs.work.Tie as tie

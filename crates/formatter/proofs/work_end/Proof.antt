@@ -6,7 +6,7 @@ use Rattle.rules.specs.Rows.{ejectLast, beginEnd}
 use Rattle.rules.specs.Session.{workEnd}
 use Rattle.traps.specs.Table.{plantedOf}
 use Rattle.sheet.specs.Desk.{desk, stateAt}
-use Rattle.textlines.proofs.Works.{worked-as}
+use Rattle.filling.proofs.Works.{worked-as}
 use borrow.Author.Needs.{needs}
 use Rattle.formatter.proofs.work_end.Statement.{statement}
 use Rattle.formatter.proofs.work_end.Tie as tie

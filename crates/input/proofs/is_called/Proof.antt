@@ -7,10 +7,10 @@ use denote.Enum.Declared.{tagOf}
 use borrow.Author.Needs.{needs}
 use borrow.Author.Tests.{eq-eqb, ne-eqb}
 use Rattle.rules.specs.declared.Name.{Name}
-use Rattle.input.specs.declared.What.{What}
-use Rattle.input.specs.declared.What.the-variants as what
+use Rattle.frames.specs.declared.What.{What}
+use Rattle.frames.specs.declared.What.the-variants as what
 use Rattle.input.specs.Frames.{isCalled}
-use Rattle.input.proofs.What.{the-type}
+use Rattle.frames.proofs.What.{the-type}
 use Rattle.input.proofs.is_called.Statement.{statement}
 use Rattle.input.proofs.is_called.Tie as tie
 

@@ -5,7 +5,7 @@ use native.Mathlib.Omega.{arith}
 use lib.ListN.{length}
 use denote.Ref.{now}
 use borrow.Author.Needs.{needs}
-use Rattle.input.specs.Words.{wordsOf}
+use Rattle.frames.specs.Words.{wordsOf}
 use Rattle.input.proofs.Laws.{pushed, entered-length}
 use Rattle.input.proofs.push.Statement.{statement}
 use Rattle.input.proofs.push.Tie as tie

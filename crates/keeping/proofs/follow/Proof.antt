@@ -6,7 +6,7 @@ use native.Mathlib.Omega.{arith}
 use denote.Ref.{now}
 use borrow.Author.Needs.{needs}
 use Rattle.rules.specs.State.{again, control}
-use Rattle.input.specs.declared.What.the-variants as what
+use Rattle.frames.specs.declared.What.the-variants as what
 use Rattle.keeping.proofs.Keeps.{all-from, followed-none, followed-line}
 use Rattle.keeping.proofs.follow.Statement.{statement}
 use Rattle.keeping.proofs.follow.Tie as tie

@@ -1,65 +1,52 @@
--- `nearest::nearest` meets its contract: a best so far over the traps passed. Assumes nothing.
-use Prim.Native.Nat.{_≤_, _-_}
-use mathlib.Core.Path.{_≡_, sym, _∙_}
-use native.Mathlib.Omega.{arith}
-use lib.ListN.{length, take, drop}
-use borrow.Author.Needs.{needs}
+-- `nearest::nearest` meets its contract. Assumes nothing.
+use mathlib.Core.Path.{ap, _∙_}
+use Prim.Native.Nat.{ℕ}
+use Rattle.measure.specs.Counts.{downOf}
 use Rattle.rules.specs.Traps.{nearestTrap}
-use Rattle.traps.specs.TableLaws.{nearest-on, nearest-end}
-use Rattle.traps.proofs.Places.{sized, blank}
+use Rattle.traps.specs.Table.{plantedOf}
+use borrow.Author.Needs.{needs}
 use Rattle.nearest.proofs.nearest.Statement.{statement}
 use Rattle.nearest.proofs.nearest.Tie as tie
 
-abbrev Inv-loop : tie.InvT-loop
-Inv-loop page row best traps count found₀ i₀ found i = (i ≤ count) × (nearestTrap page row found (drop i (take count traps)) ≡ nearestTrap page row best (take count traps))
+down-requires : tie.Need-down-requires
+down-requires c κs = search needs
 
-abbrev μ-loop : tie.MeasureT-loop
-μ-loop page row best traps count found₀ i₀ found i = count - i
+cast-nearest-in : tie.Need-cast-nearest-in
+cast-nearest-in c = search needs
 
-long : (c : tie.Start Inv-loop μ-loop) → length (c .args .p .traps) ≡ 16
-long c = sized _ (c .args .p .traps) 16 (c .good .0 .1 .1 .0 .1 .0 .1)
+down-requires-2 : tie.Need-down-requires-2
+down-requires-2 c κs = search needs
 
-loop-holds : tie.Need-loop-holds Inv-loop μ-loop
-loop-holds c = search needs
+cast-nearest-in-2 : tie.Need-cast-nearest-in-2
+cast-nearest-in-2 c = search needs
 
-mul-trap : tie.Need-mul-trap Inv-loop μ-loop
-mul-trap c = search needs
+down-requires-3 : tie.Need-down-requires-3
+down-requires-3 c κs = search needs
 
-array-copy-out-trap : tie.Need-array-copy-out-trap Inv-loop μ-loop
-array-copy-out-trap c = search needs
+cast-nearest-in-3 : tie.Need-cast-nearest-in-3
+cast-nearest-in-3 c = search needs
 
-closer-requires : tie.Need-closer-requires Inv-loop μ-loop
-closer-requires c κs = search needs
+nearest-in-requires : tie.Need-nearest-in-requires
+nearest-in-requires c κs = search needs
 
-add-i : tie.Need-add-i Inv-loop μ-loop
-add-i c = search needs
-
-loop-less : tie.Need-loop-less Inv-loop μ-loop
-loop-less c = search needs
-
-loop-again : tie.Need-loop-again Inv-loop μ-loop
-loop-again c =
-    let p = c .before .before .before in
-    let a = p .before .before .args in
-    let n = long (p .before .before) in
-    (search needs, rw (c .closer .ensures, ← nearest-on (a .p .traps) (a .p .count) (p .loop .i) blank (c .before .before .loop-test .taken) (omega arith) (a .page) (a .row) (p .loop .found)) (p .loop .inv .1))
-
-returns : tie.Need-returns Inv-loop μ-loop
+returns : tie.Need-returns
 returns c =
-    let a = c .before .before .before .args in
-    sym (nearest-end (a .p .traps) (a .p .count) (c .before .loop .i) (a .page) (a .row) (c .before .loop .found) (omega arith)) ∙ c .before .loop .inv .1
+    let a = c .before .before .before .before .args in
+    let ts = plantedOf (a .p) in
+    let page = downOf (a .page) in
+    c .nearest-in .ensures ∙ ap (λ (n : ℕ). nearestTrap n (c .before .before .down2 .result) (c .before .down3 .result) ts) (c .before .before .before .down .ensures)
+    ∙ ap (λ (n : ℕ). nearestTrap page n (c .before .down3 .result) ts) (c .before .before .down2 .ensures)
+    ∙ ap (λ (n : ℕ). nearestTrap page (downOf (a .row)) n ts) (c .before .down3 .ensures)
 
 pub nearest-spec : {M : Type 1} → statement M
 nearest-spec =
     tie.close
     (tie.spec
-    Inv-loop
-    μ-loop
-    loop-holds
-    mul-trap
-    array-copy-out-trap
-    closer-requires
-    add-i
-    loop-less
-    loop-again
+    down-requires
+    cast-nearest-in
+    down-requires-2
+    cast-nearest-in-2
+    down-requires-3
+    cast-nearest-in-3
+    nearest-in-requires
     returns)

@@ -1,6 +1,6 @@
 -- `page::move_down` meets its contract. Assumes nothing.
 use mathlib.Core.Path.{_≡_, sym, ap, _∙_}
-use Prim.Native.Nat.{ℕ, _+_}
+use Prim.Native.Nat.{_+_}
 use native.Mathlib.Omega.{arith}
 use borrow.Author.Needs.{needs}
 use Rattle.measure.specs.Counts.{downOf}
@@ -51,7 +51,7 @@ returns c =
     let e = c .before .before .before .down3 .ensures in
     ap (λ (u : Rows). on (pageOf (record { number = a .page .number; used = u; last = a .page .last })) (foundIs (c .seen-at .result))) (c .before .rows-down .ensures)
     ∙ within (pageOf (a .page)) (downOf (a .length)) ts (downOf (a .rows)) to _ (omega (arith, y .before .down .ensures, y .down2 .ensures)) (omega (arith, e))
-    (c .seen-at .ensures ∙ ap (λ (n : ℕ). seenAt n to ts) e)
+    (c .seen-at .ensures ∙ ap (λ (u : Rows). seenAt (downOf (a .length)) (downOf u) ts) (c .before .rows-down .ensures))
 
 returns-2 : tie.Need-returns-2
 returns-2 c =

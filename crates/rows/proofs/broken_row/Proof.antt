@@ -7,8 +7,8 @@ use mathlib.Core.Bool.{false}
 use Prim.Native.Nat.{_+_}
 use lib.ListN.{length}
 use Rattle.rules.specs.Filling.{row}
-use Rattle.rows.proofs.Spreading.{share-off}
-use Rattle.rows.proofs.Rows.{adjusted-short, written-as}
+use Rattle.standing.proofs.Spreading.{share-off}
+use Rattle.standing.proofs.Rows.{adjusted-short, written-as}
 use Rattle.rows.proofs.broken_row.Statement.{statement}
 use Rattle.rows.proofs.broken_row.Tie as tie
 

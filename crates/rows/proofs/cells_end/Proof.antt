@@ -10,7 +10,7 @@ use borrow.Author.Tests.{not-true, not-false}
 use Rattle.rules.specs.Bytes.{space}
 use Rattle.rules.specs.Filling.{spread, trimmed}
 use Rattle.words.specs.Parts.{part}
-use Rattle.rows.proofs.Spreading.{end-more}
+use Rattle.standing.proofs.Spreading.{end-more}
 use Rattle.rows.proofs.cells_end.Statement.{statement}
 use Rattle.rows.proofs.cells_end.Tie as tie
 

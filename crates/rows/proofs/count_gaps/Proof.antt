@@ -6,7 +6,7 @@ use denote.Ref.{now}
 use Prim.Native.Nat.{_+_, _-_, _≤_}
 use Rattle.rules.specs.Filling.{gaps}
 use Rattle.words.specs.Parts.{part}
-use Rattle.rows.proofs.Spreading.{gaps-more, gaps-other, gaps-end}
+use Rattle.standing.proofs.Spreading.{gaps-more, gaps-other, gaps-end}
 use Rattle.rows.proofs.count_gaps.Statement.{statement}
 use Rattle.rows.proofs.count_gaps.Tie as tie
 

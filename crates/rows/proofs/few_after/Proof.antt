@@ -2,7 +2,7 @@
 use borrow.Author.Needs.{needs}
 use mathlib.Core.Path.{_∙_}
 use borrow.Author.Tests.{eq-eqb, ne-eqb}
-use Rattle.rows.proofs.Spreading.{few-gap}
+use Rattle.standing.proofs.Spreading.{few-gap}
 use Rattle.rows.proofs.few_after.Statement.{statement}
 use Rattle.rows.proofs.few_after.Tie as tie
 

@@ -8,7 +8,7 @@ use lib.ListN.{length}
 use Rattle.rules.specs.Filling.{row, adjusted}
 use Rattle.measure.specs.Counts.{acrossOf}
 use Rattle.fill.specs.Filled.{lineOf}
-use Rattle.rows.proofs.Rows.{adjusted-short, adjusted-same, written-as}
+use Rattle.standing.proofs.Rows.{adjusted-short, adjusted-same, written-as}
 use Rattle.rows.proofs.full_row.Statement.{statement}
 use Rattle.rows.proofs.full_row.Tie as tie
 

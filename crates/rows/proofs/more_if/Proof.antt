@@ -1,6 +1,6 @@
 -- `rows::more_if` meets its contract. Assumes nothing.
 use borrow.Author.Needs.{needs}
-use Rattle.rows.proofs.Spreading.{more-none}
+use Rattle.standing.proofs.Spreading.{more-none}
 use Rattle.rows.proofs.more_if.Statement.{statement}
 use Rattle.rows.proofs.more_if.Tie as tie
 

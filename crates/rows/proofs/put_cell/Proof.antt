@@ -8,7 +8,7 @@ use Prim.Native.Nat.{suc, _+_, _≤_}
 use lib.ListN.{length-set}
 use lib.Seq.{length-sets}
 use Rattle.rules.specs.Filling.{moreIf}
-use Rattle.rows.proofs.Spreading.{gap-length, gap-row}
+use Rattle.standing.proofs.Spreading.{gap-length, gap-row}
 use Rattle.rows.proofs.put_cell.Statement.{statement}
 use Rattle.rows.proofs.put_cell.Tie as tie
 

@@ -8,7 +8,7 @@ use Prim.Native.Nat.{_≤_, _<_}
 use lib.Seq.{length-sets}
 use Rattle.rules.specs.Filling.{spread}
 use Rattle.words.specs.Parts.{part}
-use Rattle.rows.proofs.Rows.{row-done, row-alone, cells-none, cells-row, cells-short}
+use Rattle.standing.proofs.Rows.{row-done, row-alone, cells-none, cells-row, cells-short}
 use Rattle.rows.proofs.put_row.Statement.{statement}
 use Rattle.rows.proofs.put_row.Tie as tie
 

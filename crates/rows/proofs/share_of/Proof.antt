@@ -5,7 +5,7 @@ use native.Mathlib.Omega.{arith}
 use denote.Ref.{now}
 use Prim.Native.Nat.{_<_}
 use native.Mathlib.Nat.{mod-lt}
-use Rattle.rows.proofs.Spreading.{share-none, share-some, share-off}
+use Rattle.standing.proofs.Spreading.{share-none, share-some, share-off}
 use Rattle.rows.proofs.share_of.Statement.{statement}
 use Rattle.rows.proofs.share_of.Tie as tie
 

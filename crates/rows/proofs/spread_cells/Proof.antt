@@ -4,7 +4,7 @@ use mathlib.Core.Path.{refl, _∙_}
 use native.Mathlib.Omega.{arith}
 use denote.Ref.{now}
 use Prim.Native.Nat.{_-_}
-use Rattle.rows.proofs.Spreading.{Spreading, spreading-room, spreading-next, spreading-done}
+use Rattle.standing.proofs.Spreading.{Spreading, spreading-room, spreading-next, spreading-done}
 use Rattle.rows.proofs.spread_cells.Statement.{statement}
 use Rattle.rows.proofs.spread_cells.Tie as tie
 

@@ -1,6 +1,6 @@
 use denote.Ref.{now}
 use borrow.Author.Tests.{not-true, not-false}
-use Rattle.turns.specs.Turns.{recordOf}
+use Rattle.turning.specs.Turns.{recordOf}
 use Rattle.session.proofs.Limits.{call-turned}
 use borrow.Author.Needs.{needs}
 use Rattle.session.proofs.call_parts.Statement.{statement}

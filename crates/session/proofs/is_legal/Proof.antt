@@ -1,7 +1,7 @@
 use mathlib.Core.Path.{sym, _∙_, ap}
 use denote.Ref.{now}
 use borrow.Author.Tests.{not-true, not-false}
-use Rattle.turns.specs.Turns.{recordOf}
+use Rattle.turning.specs.Turns.{recordOf}
 use Rattle.checks.specs.LimitChecks.{isWithin}
 use Rattle.session.proofs.Limits.{legal-no, legal-unsound, legal-by}
 use borrow.Author.Needs.{needs}

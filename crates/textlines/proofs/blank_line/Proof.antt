@@ -5,8 +5,8 @@ use denote.Ref.{now}
 use borrow.Author.Needs.{needs}
 use Rattle.traps.specs.Table.{plantedOf}
 use Rattle.sheet.specs.Desk.{desk}
-use Rattle.textlines.proofs.Works.{worked-as}
-use Rattle.textlines.proofs.Fills.{blank-breaks, blank-skips, part-none}
+use Rattle.filling.proofs.Works.{worked-as}
+use Rattle.filling.proofs.Fills.{blank-breaks, blank-skips, part-none}
 use Rattle.textlines.proofs.blank_line.Statement.{statement}
 use Rattle.textlines.proofs.blank_line.Tie as tie
 

@@ -10,8 +10,8 @@ use Rattle.rules.specs.Rows.{break}
 use Rattle.traps.specs.Table.{plantedOf}
 use Rattle.fill.specs.Filled.{lineOf}
 use Rattle.sheet.specs.Desk.{desk, stateAt}
-use Rattle.textlines.proofs.Works.{worked-as}
-use Rattle.textlines.proofs.Fills.{part-short}
+use Rattle.filling.proofs.Works.{worked-as}
+use Rattle.filling.proofs.Fills.{part-short}
 use Rattle.textlines.proofs.break_first.Statement.{statement}
 use Rattle.textlines.proofs.break_first.Tie as tie
 

@@ -7,13 +7,13 @@ use Rattle.rules.specs.Settings as rule
 use Rattle.rules.specs.Filling.{words, standingRow}
 use Rattle.traps.specs.Table.{plantedOf}
 use Rattle.words.specs.Parts.{part}
-use Rattle.rows.proofs.Layouts.{standing-is}
+use Rattle.standing.proofs.Layouts.{standing-is}
 use Rattle.settings.specs.Layouts.{layoutOf}
 use Rattle.settings.specs.LayoutLaws.{indent-most}
 use Rattle.springs.specs.declared.Held.the-variants as held
 use Rattle.sheet.specs.Desk.{desk}
-use Rattle.textlines.proofs.Works.{written-front, moves-on}
-use Rattle.textlines.proofs.Fills.{part-short, line-stands}
+use Rattle.filling.proofs.Works.{written-front, moves-on}
+use Rattle.filling.proofs.Fills.{part-short, line-stands}
 use Rattle.textlines.proofs.stand.Statement.{statement}
 use Rattle.textlines.proofs.stand.Tie as tie
 

@@ -6,8 +6,8 @@ use borrow.Author.Needs.{needs}
 use Rattle.traps.specs.Table.{plantedOf}
 use Rattle.words.specs.Parts.{part}
 use Rattle.sheet.specs.Desk.{desk}
-use Rattle.textlines.proofs.Works.{worked-as}
-use Rattle.textlines.proofs.Fills.{part-short, text-starts, text-blank, text-words}
+use Rattle.filling.proofs.Works.{worked-as}
+use Rattle.filling.proofs.Fills.{part-short, text-starts, text-blank, text-words}
 use Rattle.textlines.proofs.text_line.Statement.{statement}
 use Rattle.textlines.proofs.text_line.Tie as tie
 

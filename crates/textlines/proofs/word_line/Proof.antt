@@ -9,9 +9,9 @@ use Rattle.traps.specs.Table.{plantedOf}
 use Rattle.words.specs.Parts.{part}
 use Rattle.settings.specs.Layouts.{layoutOf}
 use Rattle.sheet.specs.Desk.{desk, stateAt}
-use Rattle.textlines.specs.Words.{Follows}
-use Rattle.textlines.proofs.Works.{worked-as}
-use Rattle.textlines.proofs.Fills.{way-is}
+use Rattle.filling.specs.Words.{Follows}
+use Rattle.filling.proofs.Works.{worked-as}
+use Rattle.filling.proofs.Fills.{way-is}
 use Rattle.textlines.proofs.word_line.Statement.{statement}
 use Rattle.textlines.proofs.word_line.Tie as tie
 

@@ -1,8 +1,8 @@
 use borrow.Author.Needs.{needs}
 use mathlib.Core.Path.{sym, _∙_, subst}
 use denote.Ref.{now}
-use Rattle.turns.specs.Turns.{recordOf, placeOf, placeIn, weight, ClosedIs}
-use Rattle.turns.proofs.Going.{Going, go-start, may-write, same-out, ends-full, ends-closed, turns-on, ends-with, goes-on, goes-less}
+use Rattle.turning.specs.Turns.{recordOf, placeOf, placeIn, weight, ClosedIs}
+use Rattle.turning.proofs.Going.{Going, go-start, may-write, same-out, ends-full, ends-closed, turns-on, ends-with, goes-on, goes-less}
 use Rattle.turns.proofs.run.Statement.{statement}
 use Rattle.turns.proofs.run.Tie as tie
 

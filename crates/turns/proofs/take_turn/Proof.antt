@@ -1,8 +1,8 @@
 use native.Mathlib.Omega.{arith}
 use mathlib.Core.Path.{refl}
 use denote.Ref.{now}
-use Rattle.turns.specs.Turns.{recordOf, resting}
-use Rattle.turns.proofs.Leading.{leads-work, leads-take, leads-end, stops-input, turned-on, turned-at, is-busy, is-asking}
+use Rattle.turning.specs.Turns.{recordOf, resting}
+use Rattle.turning.proofs.Leading.{leads-work, leads-take, leads-end, stops-input, turned-on, turned-at, is-busy, is-asking}
 use borrow.Author.Needs.{needs}
 use Rattle.turns.proofs.take_turn.Statement.{statement}
 use Rattle.turns.proofs.take_turn.Tie as tie
