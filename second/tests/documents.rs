@@ -170,22 +170,22 @@ fn the_vectors_exist() {
     }
 }
 
-/// The crates whose edits the tables name.
-const EDITED: [&str; 5] = ["rules", "stream", "textlines", "turns", "session"];
-
-/// The edits that the tables name are there.
+/// The edits that the tables name, by crate and name, are there.
 #[test]
 fn the_edits_exist() {
+    let mut named = 0;
     for [quote, _, cell, _] in rules() {
         for span in spans(&cell) {
-            if let Some((crate_name, edit)) = span.split_once('/').filter(|(name, _)| EDITED.contains(name)) {
-                if !edit.contains('.') {
-                    let path = format!("crates/{crate_name}/must-fail/{edit}.edit");
+            if let Some((crate_name, edit)) = span.split_once('/') {
+                if root().join("crates").join(crate_name).is_dir() {
+                    let path = format!("crates/{crate_name}/edits/{edit}.edit");
                     assert!(root().join(&path).exists(), "{quote}: no {path}");
+                    named += 1;
                 }
             }
         }
     }
+    assert!(named > 5, "{named} edits");
 }
 
 /// The functions that the tables name are there, in the crate named.

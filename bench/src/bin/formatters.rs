@@ -1,7 +1,7 @@
 //! Measures the program against other formatters on the same text of filled words with requests, and the product
 //! through its C interface on that text.
 //!
-//! Each formatter runs in turn on the same file, its pages are thrown away, and the medians of the times are compared.
+//! All of them run in turn on the same text, the pages are thrown away, and the medians of the times are compared.
 //! Nothing is asserted of the times. A formatter that is not installed is named and left out.
 #[path = "../../../tests/product/src/binding.rs"]
 mod binding;
@@ -25,6 +25,7 @@ const SIZE: usize = 20_000_000;
 const ROUNDS: usize = 5;
 /// Blocks of one byte are measured on so many bytes of the text.
 const PIECE: usize = 1_000_000;
+const TURNS: usize = 15;
 const COPIES: usize = 1_000_000;
 const WORDS: [&str; 20] = [
     "cable", "exchange", "pair", "lamp", "cover", "check", "the", "and", "of", "line", "relay", "a", "to", "is", "set",
@@ -80,53 +81,18 @@ fn write_text(path: &Path) -> io::Result<()> {
     file.flush()
 }
 
+/// How the text is formatted: by a program that gets its file, or by calls of the C interface.
+enum Way<'a> {
+    Program(&'a str, &'a [&'a str]),
+    Calls { block: usize, room: usize },
+}
+
 /// How long a command takes, or nothing if there is no such program.
 fn timed(program: &str, words: &[&str], text: &Path) -> Option<f64> {
     let start = Instant::now();
     let status =
         Command::new(program).args(words).arg(text).stdout(Stdio::null()).stderr(Stdio::null()).status().ok()?;
     status.success().then(|| start.elapsed().as_secs_f64())
-}
-
-fn median(mut values: Vec<f64>) -> f64 {
-    values.sort_by(f64::total_cmp);
-    values[values.len() / 2]
-}
-
-fn main() -> ExitCode {
-    let Some(program) = env::args().nth(1) else {
-        eprintln!("usage: formatters PROGRAM");
-        return ExitCode::from(2);
-    };
-    let text: PathBuf = env::temp_dir().join(format!("rockavine-bench-{}.txt", std::process::id()));
-    if let Err(error) = write_text(&text) {
-        eprintln!("{}: {error}", text.display());
-        return ExitCode::FAILURE;
-    }
-    let commands: [(&str, &str, &[&str]); 4] = [
-        ("rockavine", &program, &[]),
-        ("GNU nroff", "nroff", &[]),
-        ("mandoc", "mandoc", &["-Tascii"]),
-        ("coreutils fmt", "fmt", &[]),
-    ];
-    let mut times: Vec<Vec<f64>> = vec![Vec::new(); commands.len()];
-    for _ in 0..ROUNDS {
-        for (index, (_, program, words)) in commands.iter().enumerate() {
-            times[index].extend(timed(program, words, &text));
-        }
-    }
-    let source = fs::read(&text);
-    let _ = fs::remove_file(&text);
-    let code = report(&commands, times);
-    let Ok(source) = source else {
-        eprintln!("{}: cannot be read", text.display());
-        return ExitCode::FAILURE;
-    };
-    if through_c(&source) {
-        code
-    } else {
-        ExitCode::FAILURE
-    }
 }
 
 /// How long a session takes whose source comes in blocks of this length, and how many calls it has; nothing if it is
@@ -152,20 +118,80 @@ fn session(source: &[u8], block: usize, room: usize) -> Option<(f64, usize)> {
     }
 }
 
-/// The median time of a session, and the time of one of its calls.
-fn measured(how: &str, source: &[u8], block: usize, room: usize) -> bool {
-    let rounds: Option<Vec<(f64, usize)>> = (0..ROUNDS).map(|_| session(source, block, room)).collect();
-    let Some(rounds) = rounds else {
-        println!("{how}: the document is refused");
+fn median(mut values: Vec<f64>) -> f64 {
+    values.sort_by(f64::total_cmp);
+    values[values.len() / 2]
+}
+
+fn main() -> ExitCode {
+    let Some(program) = env::args().nth(1) else {
+        eprintln!("usage: formatters PROGRAM");
+        return ExitCode::from(2);
+    };
+    let text: PathBuf = env::temp_dir().join(format!("rockavine-bench-{}.txt", std::process::id()));
+    let code = match measure(&program, &text) {
+        Ok(true) => ExitCode::SUCCESS,
+        Ok(false) => ExitCode::FAILURE,
+        Err(error) => {
+            eprintln!("{}: {error}", text.display());
+            ExitCode::FAILURE
+        }
+    };
+    let _ = fs::remove_file(&text);
+    code
+}
+
+/// All measurements; false if the product or its program does not format the text.
+fn measure(program: &str, text: &Path) -> io::Result<bool> {
+    write_text(text)?;
+    let source = fs::read(text)?;
+    let ways = [
+        ("C, whole", Way::Calls { block: source.len(), room: 65_536 }),
+        ("C, blocks and rooms of 512", Way::Calls { block: 512, room: 512 }),
+        ("rockavine, the program", Way::Program(program, &[])),
+        ("GNU nroff", Way::Program("nroff", &[])),
+        ("mandoc", Way::Program("mandoc", &["-Tascii"])),
+        ("coreutils fmt", Way::Program("fmt", &[])),
+    ];
+    let mut times: Vec<Vec<f64>> = vec![Vec::new(); ways.len()];
+    for _ in 0..ROUNDS {
+        for (times, (_, way)) in times.iter_mut().zip(&ways) {
+            times.extend(match way {
+                Way::Program(program, words) => timed(program, words, text),
+                Way::Calls { block, room } => session(&source, *block, *room).map(|(time, _)| time),
+            });
+        }
+    }
+    let times: Vec<Option<f64>> = times.into_iter().map(|t| (t.len() == ROUNDS).then(|| median(t))).collect();
+    let names: Vec<&str> = ways.iter().map(|(name, _)| *name).collect();
+    Ok(report(&names, &times, source.len()) && one_byte_calls(&source[..PIECE.min(source.len())]))
+}
+
+/// Prints the times, and each as a multiple of the product's three; false if one of these is missing.
+fn report(names: &[&str], times: &[Option<f64>], size: usize) -> bool {
+    let [Some(whole), Some(blocks), Some(program)] = times[..3] else {
+        println!("the product or its program did not format the text");
         return false;
     };
-    let (calls, time) = (rounds[0].1, median(rounds.iter().map(|round| round.0).collect()));
-    let rate = source.len() as f64 / time / 1e6;
-    println!("{how:30} {time:6.2} s  {rate:6.1} MB/s  {:9.0} ns a call", time / calls as f64 * 1e9);
+    println!("{:28} {:>8} {:>8}   as a multiple of the time of:", "", "s", "MB/s");
+    println!("{:28} {:>8} {:>8} {:>10} {:>10} {:>10}", "", "", "", "C, whole", "C, 512", "program");
+    for (name, time) in names.iter().zip(times) {
+        let Some(time) = time else {
+            println!("{name:28} not installed, or it failed");
+            continue;
+        };
+        let rate = size as f64 / time / 1e6;
+        println!(
+            "{name:28} {time:8.3} {rate:8.1} {:10.2} {:10.2} {:10.2}",
+            time / whole,
+            time / blocks,
+            time / program
+        );
+    }
     true
 }
 
-/// The cost of copying a record, in seconds.
+/// The cost of copying a record, in nanoseconds.
 fn copied() -> f64 {
     let record = Record::start();
     let mut copy = record.clone();
@@ -174,38 +200,23 @@ fn copied() -> f64 {
         copy.clone_from(black_box(&record));
         black_box(&copy);
     }
-    start.elapsed().as_secs_f64() / COPIES as f64
+    start.elapsed().as_secs_f64() / COPIES as f64 * 1e9
 }
 
-/// The product through its C interface; false if it refuses the text.
-fn through_c(source: &[u8]) -> bool {
-    let piece = &source[..PIECE.min(source.len())];
-    let done = measured("C, whole", source, source.len(), 65_536)
-        && measured("C, blocks and rooms of 512", source, 512, 512)
-        && measured("C, blocks of 1, rooms of 512", piece, 1, 512);
-    println!("{:30} {:>36.0} ns", "copying a record", copied() * 1e9);
-    done
-}
-
-fn report(commands: &[(&str, &str, &[&str]); 4], times: Vec<Vec<f64>>) -> ExitCode {
-    if times[0].is_empty() {
-        println!("{} did not run", commands[0].1);
-        return ExitCode::FAILURE;
+/// Calls with blocks of one byte, in turn with copies of a record; false if the text is refused.
+fn one_byte_calls(piece: &[u8]) -> bool {
+    let (mut calls, mut copies) = (Vec::new(), Vec::new());
+    for _ in 0..TURNS {
+        let Some((time, count)) = session(piece, 1, 512) else {
+            return false;
+        };
+        calls.push(time / count as f64 * 1e9);
+        copies.push(copied());
     }
-    let own = median(times[0].clone());
-    for (command, times) in commands.iter().zip(times) {
-        if times.is_empty() {
-            println!("{:14} not installed, or it failed", command.0);
-            continue;
-        }
-        let time = median(times);
-        println!(
-            "{:14} {:6.2} s  {:6.1} MB/s  {:5.2} of rockavine's time",
-            command.0,
-            time,
-            SIZE as f64 / time / 1e6,
-            time / own
-        );
-    }
-    ExitCode::SUCCESS
+    let (call, copy) = (median(calls), median(copies));
+    println!(
+        "C, blocks of 1, rooms of 512: {call:.1} ns a call; copying a record: {copy:.1} ns; ratio {:.2}",
+        call / copy
+    );
+    true
 }

@@ -11,7 +11,6 @@ pub mod TextLines
 pub mod Texts
 pub mod Settings
 pub mod Requests
--- lines; one piece of work; calls
+-- lines; one piece of work
 pub mod Lines
 pub mod Steps
-pub mod Calls

@@ -99,7 +99,7 @@ fn feed(start: Record, store: &mut [u8], block: &[u8], last: bool) -> Fed {
     let mut turns = u64::MAX;
     while turns > 0 {
         turns -= 1;
-        let mut room = [0u8; 4096];
+        let mut room = [0u8; 65536];
         let reply = session::call(record, &mut *store, rest(block, from), last, &mut room);
         let answer = reply.answer;
         record = reply.next;
@@ -126,7 +126,7 @@ fn feed(start: Record, store: &mut [u8], block: &[u8], last: bool) -> Fed {
 
 // Reads a block and feeds it; a block of no bytes is the last.
 fn feed_some(fd: i32, record: Record, store: &mut [u8]) -> Fed {
-    let mut block = [0u8; 4096];
+    let mut block = [0u8; 65536];
     let got = libc::read(fd, &mut block);
     if got < 0 {
         os::fail(b"rockavine: input");

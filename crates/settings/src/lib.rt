@@ -6,8 +6,7 @@ use measure::Rows;
 use scales::Down;
 ghost use mathlib.Core.Path.{_≡_};
 ghost use Rattle.measure.specs.Counts.{acrossOf};
-ghost use Rattle.lengths.specs.Views.{settingOf, printer};
-ghost use Rattle.rules.specs.Settings.{steady as steadyOf, startLayout, withTotal, withFilling, withAdjusting, withCentred};
+ghost use Rattle.rules.specs.Settings.{withTotal, withFilling, withAdjusting, withCentred};
 ghost use Rattle.rules.specs.Acts.{spacing as spacingOf};
 ghost use Rattle.rules.specs.Filling.{indentNow, begun as begunOf};
 ghost use Rattle.rules.specs.TextLines.{asItStands, counted as countedOf};
@@ -55,34 +54,6 @@ pub enum NewLayout {
     Is(Layout),
     Malformed,
     OutOfRange,
-}
-
-// A setting at the start.
-fn steady(count: Cells) -> Setting
-    ensures { λ r. ⌜ settingOf r ≡ steadyOf (acrossOf count) ⌝ }
-{
-    Setting {
-        now: count,
-        former: count,
-    }
-}
-
-// "Start: ll 65, in 0, po 0, pl 66, filling and adjusting on"
-pub fn start_layout(printer: Printer) -> Layout
-    requires { ⌜ SoundPrinter printer ⌝ }
-    ensures { λ r. ⌜ Laid r (startLayout (printerOf printer)) ⌝ }
-{
-    let page = printer.page;
-    Layout {
-        line: steady(printer.line),
-        indent: steady(Cells(0)),
-        offset: steady(Cells(0)),
-        page,
-        total: Total::Nothing,
-        filling: true,
-        adjusting: true,
-        centred: 0,
-    }
 }
 
 // The ti total set anew, or used up.
