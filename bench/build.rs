@@ -1,4 +1,4 @@
-//! Links the archives that `rt staticlib bench_parts` and `rt staticlib cabinet` write.
+//! Links the archives that `rt staticlib bench_parts` and `rt staticlib rockavine_c` write.
 use std::env;
 use std::path::Path;
 
@@ -9,6 +9,6 @@ fn main() {
     println!("cargo:rustc-link-search=native={}", folder.display());
     println!("cargo:rustc-link-lib=static=bench_parts");
     // The product is only in the binary that measures it: both archives have the library's own functions.
-    println!("cargo:rerun-if-changed={}", folder.join("libcabinet.a").display());
-    println!("cargo:rustc-link-arg-bin=formatters={}", folder.join("libcabinet.a").display());
+    println!("cargo:rerun-if-changed={}", folder.join("librockavine_c.a").display());
+    println!("cargo:rustc-link-arg-bin=formatters={}", folder.join("librockavine_c.a").display());
 }

@@ -189,14 +189,15 @@ fn the_edits_exist() {
     assert!(named > 5, "{named} edits");
 }
 
-/// The functions that the tables name are there, in the crate named.
+/// The functions that the tables name are there, in the crate and the module named.
 #[test]
 fn the_functions_exist() {
     let mut named = 0;
     for [quote, _, _, functions] in rules() {
         for span in spans(&functions) {
-            let (crate_name, function) = span.split_once("::").unwrap_or_else(|| panic!("{quote}: {span}"));
-            let text = read(&format!("crates/{crate_name}/src/lib.rt"));
+            let (path, function) = span.rsplit_once("::").unwrap_or_else(|| panic!("{quote}: {span}"));
+            let (crate_name, module) = path.split_once("::").unwrap_or((path, "lib"));
+            let text = read(&format!("crates/{crate_name}/src/{module}.rt"));
             let there = ["(", "<"].iter().any(|next| text.contains(&format!("fn {function}{next}")));
             assert!(there, "{quote}: no function {span}");
             named += 1;

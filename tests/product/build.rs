@@ -1,4 +1,4 @@
-//! Links the archive that `rt staticlib cabinet` writes; the folder it lies in may be named by ROCKAVINE_LIBRARY.
+//! Links the archive that `rt staticlib rockavine_c` writes; the folder it lies in may be named by ROCKAVINE_LIBRARY.
 use std::env;
 use std::path::{Path, PathBuf};
 
@@ -7,7 +7,7 @@ fn main() {
     let written = || Path::new(&root).join("../../target/staticlib");
     let folder = env::var_os("ROCKAVINE_LIBRARY").map_or_else(written, PathBuf::from);
     println!("cargo:rerun-if-env-changed=ROCKAVINE_LIBRARY");
-    println!("cargo:rerun-if-changed={}", folder.join("libcabinet.a").display());
+    println!("cargo:rerun-if-changed={}", folder.join("librockavine_c.a").display());
     println!("cargo:rustc-link-search=native={}", folder.display());
-    println!("cargo:rustc-link-lib=static=cabinet");
+    println!("cargo:rustc-link-lib=static=rockavine_c");
 }

@@ -1,2 +1,3 @@
-pub mod Writing
-pub mod Filled
+pub mod Words
+pub mod Collected
+pub mod Unfilled

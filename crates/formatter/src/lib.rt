@@ -1,23 +1,27 @@
 // One piece of work on the whole state: a line as it was taken, and the items of the input stack.
-use bodies::Top;
-use frames::What;
-use performing::moved;
-use performing::stay;
-use settings::Printer;
-use sheet::Outcome;
-use springs::Way;
+pub mod held_items;
+pub mod stored_lines;
+pub mod stored_text;
+
+use composition::page_rows::Outcome;
+use input_stack::frames::What;
+use line_execution::no_break_requests::moved;
+use line_execution::no_break_requests::stay;
+use page::springs::Way;
+use settings::layout::Printer;
+use state::Status;
+use state::Step;
 use stored_lines::Performed;
-use whole::Status;
-use whole::Step;
+use texts::lines::Top;
 ghost use mathlib.Core.List.{[]};
 ghost use Rattle.rules.specs.ControlLines as rules;
 ghost use Rattle.rules.specs.Session.{workEnd};
-ghost use Rattle.settings.specs.Layouts.{printerOf};
-ghost use Rattle.sheet.specs.Desk as sheet;
-ghost use Rattle.sheet.specs.Desk.{desk, Worked};
-ghost use Rattle.whole.specs.Whole.{Did};
-ghost use Rattle.whole.specs.Statuses.{wholeOf, Begins};
-ghost use Rattle.stored_lines.specs.Works.{ReadyWork, WorkedTo};
+ghost use Rattle.settings.specs.Layout.Layouts.{printerOf};
+ghost use Rattle.composition.specs.PageRows.Desk as sheet;
+ghost use Rattle.composition.specs.PageRows.Desk.{desk, Worked};
+ghost use Rattle.state.specs.Whole.{Did};
+ghost use Rattle.state.specs.Statuses.{wholeOf, Begins};
+ghost use Rattle.formatter.specs.StoredLines.Works.{ReadyWork, WorkedTo};
 
 // A source line, as it was taken.
 pub fn deal(
@@ -46,7 +50,7 @@ pub fn deal(
     let opening = status.opening;
     let none = [0u16; 9];
     let mut out = [0u8; 512];
-    let dealt = dealing::read(
+    let dealt = line_expansion::read(
         line,
         Top::Source(line.len()),
         opening.there,
@@ -69,7 +73,7 @@ pub fn deal(
         0,
         &mut out,
     );
-    finishing::finish(
+    line_execution::expanded_lines::finish(
         dealt,
         &out,
         printer,
@@ -109,7 +113,7 @@ fn work_end(
     let planted = status.planted;
     let stack = status.stack;
     if page.last {
-        return ejecting::eject_last(
+        return composition::eject::eject_last(
             layout,
             page,
             collected,
@@ -124,7 +128,7 @@ fn work_end(
             status.texts,
         );
     }
-    ejecting::begin_end(
+    composition::eject::begin_end(
         layout,
         page,
         collected,
@@ -179,7 +183,7 @@ pub fn work(
         );
         return stored_lines::counted(moved(outcome, status), stored);
     }
-    let entry = input::top(stack, &*ends);
+    let entry = input_stack::stack::top(stack, &*ends);
     let what = entry.what;
     match what {
         What::Reading(name, place, count) => stored_text::read_text(
@@ -203,7 +207,7 @@ pub fn work(
             values,
             steps,
         ),
-        _ => resuming::take_item(
+        _ => held_items::take_item(
             what,
             stored,
             printer,

@@ -1,30 +1,30 @@
 // Reads arguments of requests, one to a line, and writes for each its value in units, in cells and in rows, or that it is refused.
 ghost use Prim.Native.Nat.{_≤_};
 ghost use lib.ListN.{length};
-use arithmetic::Value;
 use libc::STDIN_FILENO;
+use number::arithmetic::Value;
+use number::scales::Across;
+use number::scales::Down;
 use report::text;
 use report::wide;
-use scales::Across;
-use scales::Down;
 
 fn answer(argument: &[u8]) {
     let pitch = measure::ten_pitch();
-    match scales::units(argument, pitch) {
+    match number::scales::units(argument, pitch) {
         Value::Is(v) => report::number(wide(v)),
         Value::Bad => text(b"refused"),
     }
     text(b" ");
-    match scales::cells(argument, pitch) {
+    match number::scales::cells(argument, pitch) {
         Across::Are(c) => report::number(wide(c.0)),
         Across::Bad => text(b"refused"),
     }
     text(b" ");
-    match scales::rows(argument, pitch) {
+    match number::scales::rows(argument, pitch) {
         Down::Are(r) => report::number(wide(r.0)),
         Down::Bad => text(b"refused"),
     }
-    if scales::signed(argument) {
+    if number::scales::signed(argument) {
         text(b" a change");
     }
     text(b"\n");

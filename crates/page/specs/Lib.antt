@@ -1,2 +1,2 @@
-pub mod Landing
-pub mod LandingLaws
+pub mod Position
+pub mod Springs

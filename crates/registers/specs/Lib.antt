@@ -1,4 +1,3 @@
-pub mod Columns
-pub mod Places
-pub mod Moves
-pub mod Answers
+pub mod Table
+pub mod Interpolation
+pub mod Checks

@@ -1,2 +1,3 @@
-pub mod Texts
-pub mod KeptLaws
+pub mod Nr
+pub mod Wh
+pub mod Definitions

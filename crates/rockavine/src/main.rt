@@ -2,8 +2,8 @@
 use libc::STDERR_FILENO;
 use libc::STDIN_FILENO;
 use libc::STDOUT_FILENO;
+use record::Record;
 use stream::Answer;
-use turning::Record;
 
 // The record after a block, and whether the session goes on.
 struct Fed {

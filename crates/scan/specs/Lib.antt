@@ -1,2 +1,4 @@
-pub mod Acts
+pub mod Output
+pub mod Escapes
+pub mod Arguments
 pub mod Expansion

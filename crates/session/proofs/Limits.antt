@@ -10,25 +10,25 @@ use Rattle.stream.specs.declared.Answer.the-variants as answer
 use Rattle.stream.specs.Answers.{done, refused}
 use Rattle.rules.specs.State.{State}
 use Rattle.limits.specs.Within.{Within}
-use Rattle.springs.specs.Held.{Fits}
-use Rattle.whole.specs.Whole.{stateIn, SoundWhole}
-use Rattle.soundness.specs.SoundLaws.{sound-whole, whole-passes}
-use Rattle.checks.specs.LimitLaws.{Kept, within-kept, kept-within, open-within, open-kept, closed-within, closed-kept}
-use Rattle.source.specs.declared.Source.{Source}
-use Rattle.turning.specs.declared.Record.{Record}
-use Rattle.turning.specs.declared.Reply.{Reply}
-use Rattle.turning.specs.declared.Waiting.{Waiting}
-use Rattle.turning.specs.declared.Closing.{Closing}
-use Rattle.turning.specs.declared.Closing.the-variants.{Open, Done, Refused}
+use Rattle.page.specs.Springs.Held.{Fits}
+use Rattle.state.specs.Whole.{stateIn, SoundWhole}
+use Rattle.record_checks.specs.Soundness.SoundLaws.{sound-whole, whole-passes}
+use Rattle.record_checks.specs.StateLimits.LimitLaws.{Kept, within-kept, kept-within, open-within, open-kept, closed-within, closed-kept}
+use Rattle.source_line.specs.declared.Source.{Source}
+use Rattle.record.specs.declared.Record.{Record}
+use Rattle.record.specs.declared.Reply.{Reply}
+use Rattle.record.specs.declared.Waiting.{Waiting}
+use Rattle.record.specs.declared.Closing.{Closing}
+use Rattle.record.specs.declared.Closing.the-variants.{Open, Done, Refused}
 use Rattle.session.specs.declared.Stop.{Stop}
 use Rattle.session.specs.declared.Stop.the-variants.{Goes}
-use Rattle.turning.specs.View.{sourced, closedAs, wholeIn, Legal}
-use Rattle.turning.specs.Contract.{Closes}
-use Rattle.turning.specs.Turns.{Turns, Runs}
-use Rattle.turning.proofs.Leading.{stops-closed}
-use Rattle.turning.specs.Inside.{InsideCall, withBlock}
-use Rattle.turning.proofs.Going.{go-start, does-stop}
-use Rattle.turning.proofs.Inside.{runs-inside}
+use Rattle.record.specs.View.{sourced, closedAs, wholeIn, Legal}
+use Rattle.record.specs.Contract.{Closes}
+use Rattle.record.specs.Turns.{Turns, Runs}
+use Rattle.record.proofs.Leading.{stops-closed}
+use Rattle.record.specs.Inside.{InsideCall, withBlock}
+use Rattle.record.proofs.Going.{go-start, does-stop}
+use Rattle.record.proofs.Inside.{runs-inside}
 use Rattle.session.specs.Contract.{Called, served, turned}
 use Rattle.session.specs.Limits.{Sized, EndsWith, isOpen, AnsweredAt, AnsweredJudged, Placed, PlacedJudged, soundIn, withinIn, Judged}
 

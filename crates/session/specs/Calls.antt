@@ -19,13 +19,13 @@ use Rattle.rules.specs.Load.{Good, formatter}
 use Rattle.rules.specs.Falls.{falls}
 use Rattle.rules.specs.Pages.{pages}
 use Rattle.rules.specs.Pages as rules
-use Rattle.turning.specs.declared.Record.{Record}
-use Rattle.turning.specs.declared.Reply.{Reply}
-use Rattle.turning.specs.declared.Closing.{Closing}
-use Rattle.turning.specs.declared.Closing.the-variants.{Open, Done, Refused}
-use Rattle.turning.specs.View.{stateOf, waitingOf, Legal, formed-good}
-use Rattle.turning.specs.Contract.{callOn, Closes, Ended, EndedBy, Does}
-use Rattle.turning.specs.Refusing.{Closed, IsClosed, closed-keeps}
+use Rattle.record.specs.declared.Record.{Record}
+use Rattle.record.specs.declared.Reply.{Reply}
+use Rattle.record.specs.declared.Closing.{Closing}
+use Rattle.record.specs.declared.Closing.the-variants.{Open, Done, Refused}
+use Rattle.record.specs.View.{stateOf, waitingOf, Legal, formed-good}
+use Rattle.record.specs.Contract.{callOn, Closes, Ended, EndedBy, Does}
+use Rattle.record.specs.Refusing.{Closed, IsClosed, closed-keeps}
 use Rattle.session.specs.Contract.{Nothing, Called, served, turned}
 
 -- a call as its caller sees it: what it lent, and what it was answered

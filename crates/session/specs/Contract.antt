@@ -6,11 +6,11 @@ use Prim.Native.Nat.{ℕ}
 use lib.ListN.{length}
 use Rattle.stream.specs.declared.Answer.{Answer}
 use Rattle.stream.specs.declared.Answer.the-variants as answer
-use Rattle.turning.specs.declared.Record.{Record}
-use Rattle.turning.specs.declared.Reply.{Reply}
-use Rattle.turning.specs.View.{Legal}
-use Rattle.turning.specs.Contract.{callOn, Ended, Does}
-use Rattle.turning.specs.Turns.{Through}
+use Rattle.record.specs.declared.Record.{Record}
+use Rattle.record.specs.declared.Reply.{Reply}
+use Rattle.record.specs.View.{Legal}
+use Rattle.record.specs.Contract.{callOn, Ended, Does}
+use Rattle.record.specs.Turns.{Through}
 
 -- nothing is taken, written or changed
 pub record Nothing (a : Answer) (r : Record) (st out : List ℕ) (p : Reply) (st' out' : List ℕ) : Type 0 where

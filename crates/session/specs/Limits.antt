@@ -6,18 +6,18 @@ use Prim.Native.Nat.{ℕ, _≤_}
 use lib.ListN.{length}
 use Rattle.stream.specs.declared.Answer.{Answer}
 use Rattle.limits.specs.Within.{Refusal}
-use Rattle.source.specs.declared.Source.{Source}
-use Rattle.register_checks.specs.Checks as registers
-use Rattle.soundness.specs.Checks.{Lent, isSound}
-use Rattle.checks.specs.LimitChecks.{isWithin}
-use Rattle.turning.specs.declared.Record.{Record}
-use Rattle.turning.specs.declared.Waiting.{Waiting}
-use Rattle.turning.specs.declared.Closing.{Closing}
-use Rattle.turning.specs.declared.Closing.the-variants.{Open, Done, Refused}
+use Rattle.source_line.specs.declared.Source.{Source}
+use Rattle.registers.specs.Checks.Checks as registers
+use Rattle.record_checks.specs.Soundness.Checks.{Lent, isSound}
+use Rattle.record_checks.specs.StateLimits.LimitChecks.{isWithin}
+use Rattle.record.specs.declared.Record.{Record}
+use Rattle.record.specs.declared.Waiting.{Waiting}
+use Rattle.record.specs.declared.Closing.{Closing}
+use Rattle.record.specs.declared.Closing.the-variants.{Open, Done, Refused}
 use Rattle.session.specs.declared.Stop.{Stop}
 use Rattle.session.specs.declared.Stop.the-variants.{Goes, With}
-use Rattle.turning.specs.View.{lastLine, Legal}
-use Rattle.turning.specs.Contract.{Closes}
+use Rattle.record.specs.View.{lastLine, Legal}
+use Rattle.record.specs.Contract.{Closes}
 
 -- the arrays of a record have their lengths, which their types say
 pub record Sized (r : Record) : Type 0 where

@@ -12,21 +12,21 @@ use Rattle.rules.specs.Printers.{tenToTheInch}
 use Rattle.rules.specs.State.{start}
 use Rattle.rules.specs.Pages.{pages}
 use Rattle.limits.specs.Within.{Within, ten-within}
-use Rattle.lengths.specs.declared.Setting.{Setting}
-use Rattle.settings.specs.declared.Layout.{Layout}
-use Rattle.settings.specs.declared.Total.the-variants as total
-use Rattle.settings.specs.Layouts.{layoutOf, Limits}
-use Rattle.traps.specs.Table.{emptyTable}
-use Rattle.input.specs.Frames.{noFrames, framesTo}
-use Rattle.input.specs.Items.{itemsOf}
-use Rattle.texts.specs.Table.{cut, lies-none}
-use Rattle.sheet.specs.Desk.{noLine}
-use Rattle.whole.specs.declared.Status.{Status}
-use Rattle.source.specs.declared.Source.{Source}
-use Rattle.turning.specs.declared.Record.{Record}
-use Rattle.turning.specs.declared.Place.{Place}
-use Rattle.turning.specs.View.{stateOf, Legal, Formed}
-use Rattle.turning.specs.Turns.{recordOf, resting}
+use Rattle.settings.specs.declared.lengths.Setting.{Setting}
+use Rattle.settings.specs.declared.layout.Layout.{Layout}
+use Rattle.settings.specs.declared.layout.Total.the-variants as total
+use Rattle.settings.specs.Layout.Layouts.{layoutOf, Limits}
+use Rattle.traps.specs.Table.Table.{emptyTable}
+use Rattle.input_stack.specs.Stack.Frames.{noFrames, framesTo}
+use Rattle.input_stack.specs.Stack.Items.{itemsOf}
+use Rattle.texts.specs.Table.Table.{cut, lies-none}
+use Rattle.composition.specs.PageRows.Desk.{noLine}
+use Rattle.state.specs.declared.Status.{Status}
+use Rattle.source_line.specs.declared.Source.{Source}
+use Rattle.record.specs.declared.Record.{Record}
+use Rattle.record.specs.declared.Place.{Place}
+use Rattle.record.specs.View.{stateOf, Legal, Formed}
+use Rattle.record.specs.Turns.{recordOf, resting}
 use Rattle.session.specs.Calls.{Calls, condition-3-from}
 
 -- a setting of so many cells

@@ -1,24 +1,28 @@
 // A session: calls that take bytes of a source and write bytes of its pages.
-use lengths::Setting;
+pub mod call_loop;
+pub mod item_work;
+pub mod source_input;
+
 use measure::Cells;
 use measure::Rows;
-use page::Page;
+use page::position::Page;
+use record::Closing;
+use record::Place;
+use record::Ran;
+use record::Record;
+use record::Reply;
+use record::Waiting;
 use rules::Name;
-use settings::Layout;
-use settings::Total;
-use source::Source;
+use settings::layout::Layout;
+use settings::layout::Total;
+use settings::lengths::Setting;
+use source_line::Source;
+use state::Opening;
+use state::Status;
 use stream::Answer;
-use turning::Closing;
-use turning::Place;
-use turning::Ran;
-use turning::Record;
-use turning::Reply;
-use turning::Waiting;
-use whole::Opening;
-use whole::Status;
 ghost use mathlib.Core.Path.{_≡_};
-ghost use Rattle.turning.specs.View.{lastLine, Legal};
-ghost use Rattle.turning.specs.Turns.{recordOf, replyFrom};
+ghost use Rattle.record.specs.View.{lastLine, Legal};
+ghost use Rattle.record.specs.Turns.{recordOf, replyFrom};
 ghost use Rattle.session.specs.Start.{firstLayout, firstStatus, startPlace, startRecord};
 ghost use Rattle.session.specs.Contract.{Called};
 ghost use Rattle.session.specs.Limits.{Sized, EndsWith, isOpen, AnsweredJudged, PlacedJudged, Judged};
@@ -64,9 +68,9 @@ fn first_status() -> Status
             used: Rows(0),
             last: false,
         },
-        collected: sheet::nothing_collected(),
-        planted: traps::empty(),
-        stack: input::empty(),
+        collected: composition::page_rows::nothing_collected(),
+        planted: traps::table::empty(),
+        stack: input_stack::stack::empty(),
         texts: 0,
         opening: Opening {
             there: false,
@@ -268,7 +272,7 @@ pub fn is_legal(
     if !is_placed(source, waiting, closing) {
         return false;
     }
-    if !soundness::is_sound(
+    if !record_checks::soundness::is_sound(
         status,
         store.len(),
         ends,
@@ -280,7 +284,7 @@ pub fn is_legal(
     ) {
         return false;
     }
-    checks::is_within(
+    record_checks::state_limits::is_within(
         status,
         is_open(closing),
         ends,
@@ -327,7 +331,7 @@ pub fn serve(
             taken: 0,
             written: 0,
         },
-        Stop::Goes => turns::run(
+        Stop::Goes => call_loop::run(
             block,
             last,
             place,

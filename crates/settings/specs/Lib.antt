@@ -1,2 +1,2 @@
-pub mod Layouts
-pub mod LayoutLaws
+pub mod Lengths
+pub mod Layout

@@ -1,5 +1,2 @@
 pub mod Table
-pub mod Places
-pub mod Changes
-pub mod KeptLaws
-pub mod Checks
+pub mod Lines

@@ -3,11 +3,11 @@ use native.Mathlib.Omega.{arith}
 use denote.Ref.{now}
 use mathlib.Core.List.{[]}
 use lib.Seq.{take-length}
-use Rattle.settings.specs.Layouts.{printerOf}
-use Rattle.springs.proofs.Stacks.{no-arguments}
-use Rattle.whole.specs.Statuses.{wholeOf}
-use Rattle.stored_lines.specs.WorkLaws.{read-did, sound-valued, shows}
-use Rattle.stored_lines.proofs.Reading.{no-arguments-of}
+use Rattle.settings.specs.Layout.Layouts.{printerOf}
+use Rattle.page.proofs.springs.Stacks.{no-arguments}
+use Rattle.state.specs.Statuses.{wholeOf}
+use Rattle.formatter.specs.StoredLines.WorkLaws.{read-did, sound-valued, shows}
+use Rattle.formatter.proofs.stored_lines.Reading.{no-arguments-of}
 use borrow.Author.Needs.{needs}
 use Rattle.formatter.proofs.deal.Statement.{statement}
 use Rattle.formatter.proofs.deal.Tie as tie

@@ -4,13 +4,13 @@ use native.Mathlib.Omega.{arith}
 use denote.Ref.{now}
 use mathlib.Core.Bool.{true}
 use Rattle.rules.specs.Session.{idle, workEnd}
-use Rattle.settings.specs.Layouts.{printerOf}
-use Rattle.input.specs.declared.Entry.{Entry}
-use Rattle.springs.specs.declared.Way.the-variants.{Refused}
-use Rattle.whole.specs.WholeLaws.{desk-did, stay-did}
-use Rattle.whole.specs.Statuses.{wholeOf}
-use Rattle.stored_lines.specs.WorkLaws.{worked-end, idle-open, idle-none}
-use Rattle.stored_lines.proofs.Others.{no-text}
+use Rattle.settings.specs.Layout.Layouts.{printerOf}
+use Rattle.input_stack.specs.declared.stack.Entry.{Entry}
+use Rattle.page.specs.declared.springs.Way.the-variants.{Refused}
+use Rattle.state.specs.WholeLaws.{desk-did, stay-did}
+use Rattle.state.specs.Statuses.{wholeOf}
+use Rattle.formatter.specs.StoredLines.WorkLaws.{worked-end, idle-open, idle-none}
+use Rattle.formatter.proofs.stored_lines.Others.{no-text}
 use borrow.Author.Needs.{needs}
 use Rattle.formatter.proofs.work.Statement.{statement}
 use Rattle.formatter.proofs.work.Tie as tie

@@ -4,9 +4,9 @@ use denote.Ref.{now}
 use mathlib.Core.Bool.{Bool}
 use Rattle.rules.specs.Rows.{ejectLast, beginEnd}
 use Rattle.rules.specs.Session.{workEnd}
-use Rattle.traps.specs.Table.{plantedOf}
-use Rattle.sheet.specs.Desk.{desk, stateAt}
-use Rattle.filling.proofs.Works.{worked-as}
+use Rattle.traps.specs.Table.Table.{plantedOf}
+use Rattle.composition.specs.PageRows.Desk.{desk, stateAt}
+use Rattle.composition.proofs.filling.Works.{worked-as}
 use borrow.Author.Needs.{needs}
 use Rattle.formatter.proofs.work_end.Statement.{statement}
 use Rattle.formatter.proofs.work_end.Tie as tie

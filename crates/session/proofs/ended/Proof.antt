@@ -1,6 +1,6 @@
 use mathlib.Core.Path.{refl, sym, subst}
 use Rattle.stream.specs.declared.Answer.the-variants as answer
-use Rattle.turning.specs.Contract.{Closes}
+use Rattle.record.specs.Contract.{Closes}
 use borrow.Author.Needs.{needs}
 use Rattle.session.proofs.ended.Statement.{statement}
 use Rattle.session.proofs.ended.Tie as tie

@@ -1,7 +1,7 @@
 -- `session::is_answered` meets its contract. Assumes nothing.
 use native.Mathlib.Omega.{arith}
 use borrow.Author.Tests.{eqb-true, eqb-false}
-use Rattle.turning.specs.declared.Closing.the-variants.{Open, Done}
+use Rattle.record.specs.declared.Closing.the-variants.{Open, Done}
 use Rattle.session.proofs.Limits.{answered-no, answered-yes}
 use borrow.Author.Needs.{needs}
 use Rattle.session.proofs.is_answered.Statement.{statement}

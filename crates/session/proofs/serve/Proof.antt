@@ -1,6 +1,6 @@
 use mathlib.Core.Path.{subst}
 use denote.Ref.{now}
-use Rattle.turning.specs.Turns.{recordOf}
+use Rattle.record.specs.Turns.{recordOf}
 use Rattle.session.specs.Limits.{EndsWith}
 use Rattle.session.proofs.Limits.{call-ended, call-served}
 use borrow.Author.Needs.{needs}

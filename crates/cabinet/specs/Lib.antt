@@ -1,4 +1,0 @@
--- what a call from C promises
-pub mod Calls
--- condition 3 over it
-pub mod Condition

@@ -1,0 +1,118 @@
+-- `composition::filling::fill_line` meets its contract. Assumes nothing.
+use mathlib.Core.Path.{_≡_, sym, ap, _∙_, subst}
+use mathlib.Core.Bool.{Bool, false}
+use mathlib.Core.List.{List, []}
+use native.Mathlib.Omega.{arith}
+use denote.Ref.{now}
+use borrow.Author.Needs.{needs}
+use Rattle.measure.specs.Counts.{acrossOf}
+use Rattle.rules.specs.Filling.{Word, words, leads}
+use Rattle.rules.specs.TextLines.{fills, textWay}
+use Rattle.traps.specs.Table.Table.{plantedOf}
+use Rattle.texts.specs.Table.Table.{textsOf}
+use Rattle.fill.specs.Words.Parts.{part}
+use Rattle.fill.specs.Words.Words.{nextOf}
+use Rattle.page.proofs.springs.Stacks.{fits-few}
+use Rattle.composition.specs.PageRows.Desk.{desk, stateAt}
+use Rattle.composition.specs.Filling.Words.{Follows}
+use Rattle.composition.proofs.filling.Works.{worked-as}
+use Rattle.composition.proofs.filling.Fills.{filled-from, line-behind, line-new, line-none}
+use Rattle.composition.proofs.filling.fill_line.Statement.{statement}
+use Rattle.composition.proofs.filling.fill_line.Tie as tie
+
+next-word-requires : tie.Need-next-word-requires
+next-word-requires c κs = search needs
+
+enum-known-found : tie.Need-enum-known-found
+enum-known-found c = search needs
+
+enum-told : tie.Need-enum-told
+enum-told c = search needs
+
+unchanged-requires : tie.Need-unchanged-requires
+unchanged-requires c κs = search needs
+
+returns : tie.Need-returns
+returns c =
+    let y = c .before .before .before .before in let a = y .args in let b = y .pre .0 in
+    let d = desk (a .layout) (a .page) (a .collected) (now (a .cells)) (a .stack) (now (a .arena)) (now (a .ends)) in
+    let l = part (now (a .line)) 0 (a .to) in
+    let e : words l ≡ [] = sym (c .before .before .before .next-word .ensures .0) ∙ ap (nextOf (now (a .line)) (a .to)) (c .before .enum-told .given .1) in
+    rw (c .unchanged .ensures) (record {
+      is = λ st ks ls i x.
+          let ts = textsOf st (now (a .firsts)) (now (a .seconds)) ks ls (a .texts) in
+          sym (ap (λ (v : List Word). textWay fills v l (stateAt ts (plantedOf (a .planted)) d x)) e ∙ line-none ts (plantedOf (a .planted)) (a .layout) (a .page) (a .collected) (now (a .cells)) (a .stack) (now (a .arena)) (now (a .ends)) 0 x l);
+      good = λ st ks ls i g. g;
+      sound = b .sound;
+      fits = fits-few (a .stack) (now (a .ends)) (b .items);
+      few = omega arith;
+      long = b .long;
+    })
+
+gap-after-requires : tie.Need-gap-after-requires
+gap-after-requires c κs = search needs
+
+cast-gap : tie.Need-cast-gap
+cast-gap c = search needs
+
+place-requires : tie.Need-place-requires
+place-requires c κs = search needs
+
+fill-placed-requires : tie.Need-fill-placed-requires
+fill-placed-requires c κs =
+    let y = c .before .before .before .before .before .before .before .before .before .before .before .before .before in let b = y .pre .0 in let p = c .before .before .before .before .place .ensures in (
+      record {
+        sound = record { limits = b .sound .limits; above = b .sound .above; numbered = b .sound .numbered; few = b .sound .few; line = record { long = p .cells .long; few = b .sound .line .few; narrow = b .sound .line .narrow }; indent = b .sound .indent; next = b .sound .next; columns = b .sound .columns };
+        items = b .items;
+        short = b .short;
+        long = b .long;
+        names = b .names;
+      },
+      filled-from _ _ _ _ _ _ _ _ _ _ p (y .pre .1) (c .before .before .before .before .before .before .before .before .gap-after .ensures .1),
+    )
+
+returns-2 : tie.Need-returns-2
+returns-2 c =
+    let y = c .before .before .before .before .before .before .before .before .before .before .before .before .before .before in let a = y .args in let p = c .before .before .before .before .before .place .ensures in let t = c .before .before .before .before .before .before .before .before .if1 .taken in
+    let d = desk (a .layout) (a .page) (a .collected) (now (a .cells)) (a .stack) (now (a .arena)) (now (a .ends)) in
+    let f = c .before .before .before .before .before .before .before .before .before .before .before .found .given in
+    let l = part (now (a .line)) 0 (a .to) in
+    let e = sym (c .before .before .before .before .before .before .before .before .before .before .before .before .before .next-word .ensures .0) ∙ ap (nextOf (now (a .line)) (a .to)) (f .1) in
+    let g = c .before .before .before .before .before .before .before .before .before .gap-after in
+    let q : leads (words l) ≡ false = subst (λ (v : Bool). Follows v (words l)) t (y .pre .2) in
+    worked-as _ (now (a .firsts)) (now (a .seconds)) (a .texts) (a .planted) d _ (a .layout) (a .collected) _ _ _ _ _ (c .fill-placed .ensures)
+    (λ ts x. line-behind ts (plantedOf (a .planted)) (a .layout) (a .page) (a .collected) (now (a .cells)) (a .stack) (now (a .arena)) (now (a .ends)) (g .result) x l _ (words l) _ _ _ e t q (g .ensures .0)
+    (p .is (acrossOf (a .collected .indent)) (a .collected .next)))
+
+fill-new-requires : tie.Need-fill-new-requires
+fill-new-requires c κs =
+    let y = c .before .before .before .before .before .before .before .before .before .before in let w = rw (c .before .before .before .before .before .before .before .found .given .1) at (c .before .before .before .before .before .before .before .before .before .next-word .ensures .1) in
+    (y .pre .0, record { places = record { long = y .pre .1 .long; ordered = omega (arith, w .some); few = omega (arith, w .high, y .pre .1 .few) }; high = w .high; few = y .pre .1 .few; leads = omega (arith, w .gap); small = c .before .before .before .before .before .gap-after .ensures .1 }, c .before .before .before .before .if1 .left)
+
+returns-3 : tie.Need-returns-3
+returns-3 c =
+    let y = c .before .before .before .before .before .before .before .before .before .before .before in let a = y .args in
+    let d = desk (a .layout) (a .page) (a .collected) (now (a .cells)) (a .stack) (now (a .arena)) (now (a .ends)) in
+    let f = c .before .before .before .before .before .before .before .before .found .given in
+    let l = part (now (a .line)) 0 (a .to) in
+    let e = sym (c .before .before .before .before .before .before .before .before .before .before .next-word .ensures .0) ∙ ap (nextOf (now (a .line)) (a .to)) (f .1) in
+    let g = c .before .before .before .before .before .before .gap-after in
+    worked-as _ (now (a .firsts)) (now (a .seconds)) (a .texts) (a .planted) d _ (a .layout) (a .collected) (now (a .cells)) _ _ _ _ (c .fill-new .ensures)
+    (λ ts x. line-new ts (plantedOf (a .planted)) (a .layout) (a .page) (a .collected) (now (a .cells)) (a .stack) (now (a .arena)) (now (a .ends)) (g .result) x l (words l) _ _ _ e (c .before .before .before .before .before .if1 .left) (g .ensures .0))
+
+pub fill-line-spec : {M : Type 1} → statement M
+fill-line-spec =
+    tie.close
+    (tie.spec
+    next-word-requires
+    enum-known-found
+    enum-told
+    unchanged-requires
+    returns
+    gap-after-requires
+    cast-gap
+    place-requires
+    fill-placed-requires
+    returns-2
+    fill-new-requires
+    returns-3)

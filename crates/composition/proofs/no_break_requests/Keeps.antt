@@ -1,0 +1,238 @@
+-- Requests that neither break nor change a table, and texts that are called, as pieces of work. Assumes nothing.
+use mathlib.Core.Path.{_≡_, refl, sym, ap, _∙_}
+use mathlib.Core.Bool.{Bool, true, false, not, false≢true}
+use mathlib.Core.Option.{Option, some}
+use mathlib.Core.List.{List, [], _∷_}
+use Prim.Native.Nat.{ℕ, _-_, _≤_, _<_}
+use native.Mathlib.Omega.{arith}
+use lib.Dec.{eqb}
+use lib.ListN.{length, take, drop, length-drop}
+use lib.Seq.{length-take-le, take-all}
+use Rattle.measure.specs.Counts.{downOf}
+use Rattle.rules.specs.declared.Name.{Name}
+use Rattle.rules.specs.declared.Unbreaking.{Unbreaking}
+use Rattle.rules.specs.declared.Unbreaking.the-variants.{Pl, Po, Ll, Ad, Na, Nr, De, Rm, Wh, If}
+use Rattle.rules.specs.Bytes.{byte}
+use Rattle.rules.specs.Printers as printers
+use Rattle.rules.specs.Refusals.{Judged, value, _>>=_}
+use Rattle.rules.specs.Texts.{Text, textOf}
+use Rattle.rules.specs.Arguments.{Part, arguments, condition}
+use Rattle.rules.specs.State.{State, Item, again, withStack, withLayout}
+use Rattle.rules.specs.Settings as rule
+use Rattle.rules.specs.Rows.{Next, goes, call}
+use Rattle.rules.specs.Lines.{lineOf, simplyHolds, holdsIf, holds}
+use Rattle.rules.specs.Acts.{settles, argument, follows, ifLine, perform}
+use Rattle.texts.specs.declared.table.Place.{Place}
+use Rattle.texts.specs.declared.table.Place.the-variants.{At, Not}
+use Rattle.texts.specs.Table.Places.{placeOf}
+use Rattle.texts.specs.Table.Table.{namesOf, textsOf, Lies}
+use Rattle.texts.proofs.table.Laws.{found-text, not-text}
+use Rattle.scan.specs.Arguments.Around.{argumentsOf}
+use Rattle.line_syntax.specs.declared.lines.Condition.{Condition}
+use Rattle.line_syntax.specs.Lines.Places.{ConditionAt}
+use Rattle.traps.specs.declared.table.Planted.{Planted}
+use Rattle.traps.specs.Table.Table.{plantedOf}
+use Rattle.settings.specs.declared.layout.Printer.{Printer}
+use Rattle.settings.specs.declared.layout.Layout.{Layout}
+use Rattle.settings.specs.declared.layout.NewLayout.{NewLayout}
+use Rattle.settings.specs.declared.layout.NewLayout.the-variants.{Is, Malformed, OutOfRange}
+use Rattle.line_syntax.specs.declared.conditions.Condition as settings
+use Rattle.settings.specs.Lengths.Views.{printer}
+use Rattle.line_syntax.specs.Conditions.Conditions.{conditionIs}
+use Rattle.settings.specs.Layout.Layouts.{printerOf, newLayoutIs, Performed}
+use Rattle.settings.specs.Layout.LayoutLaws.{of-new, layoutKeeps, performed-is}
+use Rattle.input_stack.specs.declared.frames.What.{What}
+use Rattle.input_stack.specs.declared.stack.Stack.{Stack}
+use Rattle.input_stack.specs.Stack.Frames.{Columns}
+use Rattle.input_stack.specs.Stack.Items.{itemBy, stackOf}
+use Rattle.page.specs.declared.position.Page.{Page}
+use Rattle.page.specs.declared.springs.Called.{Called}
+use Rattle.page.specs.declared.springs.Held.the-variants as held
+use Rattle.page.specs.declared.springs.Way.the-variants.{On}
+use Rattle.page.specs.Springs.Held.{noEnds, PlainItem, HeldTo}
+use Rattle.page.specs.Springs.Calls.{wayIf, CalledTo}
+use Rattle.page.proofs.springs.Stacks.{fits-few, over-items, over-good, over-fits}
+use Rattle.composition.specs.declared.page_rows.Collected.{Collected}
+use Rattle.composition.specs.PageRows.Desk.{desk, stateAt, Sound, Worked}
+use Rattle.composition.specs.NoBreakRequests.Keeping.{isIf, isKept, changedTo, followed, Followed, calledText, Known}
+
+-- all bytes from a place on
+pub all-from : (l : List ℕ) (at : ℕ) → take (length l - at) (drop at l) ≡ drop at l
+all-from l at = take-all (length l - at) (drop at l) (omega (arith, length-drop at l))
+
+-- one request looks at what follows, and the others set the layout
+pub if-only : (q : Unbreaking) → isIf q ≡ true → q ≡ If
+if-only Pl e = absurd (false≢true e)
+if-only Po e = absurd (false≢true e)
+if-only Ll e = absurd (false≢true e)
+if-only Ad e = absurd (false≢true e)
+if-only Na e = absurd (false≢true e)
+if-only Nr e = absurd (false≢true e)
+if-only De e = absurd (false≢true e)
+if-only Rm e = absurd (false≢true e)
+if-only Wh e = absurd (false≢true e)
+if-only If e = refl
+
+pub layout-only : (q : Unbreaking) → isKept q ≡ true → isIf q ≡ false → layoutKeeps q ≡ true
+layout-only Pl k e = refl
+layout-only Po k e = refl
+layout-only Ll k e = refl
+layout-only Ad k e = refl
+layout-only Na k e = refl
+layout-only Nr k e = k
+layout-only De k e = k
+layout-only Rm k e = k
+layout-only Wh k e = k
+layout-only If k e = sym e
+
+-- What holds of a condition depends on the pitch alone.
+module _ (p : Printer) (page : ℕ) where
+  simply-same : (l : List ℕ) → simplyHolds (printer (p .pitch) 0) page l ≡ simplyHolds (printerOf p) page l
+  simply-same [] = refl
+  simply-same (b ∷ []) = refl
+  simply-same (b ∷ c ∷ l) = refl
+
+  if-same : (t : Bool) (b : ℕ) (l : List ℕ) → holdsIf (printer (p .pitch) 0) page t b l ≡ holdsIf (printerOf p) page t b l
+  if-same true b l = ap (λ (j : Judged Bool). j >>= λ v. value (not v)) (simply-same l)
+  if-same false b l = simply-same (b ∷ l)
+
+  holds-same : (l : List ℕ) → holds (printer (p .pitch) 0) page l ≡ holds (printerOf p) page l
+  unfolding holds
+  holds-same [] = refl
+  holds-same (b ∷ l) = if-same (eqb b (byte "!")) b l
+
+-- a condition that is there is judged
+judged : (p : printers.Printer) (l rest : List ℕ) (s : State) → 0 < length l → ifLine p l rest s ≡ (holds p (s .page .number) l >>= λ v. value (follows v rest s))
+judged p [] rest s h = absurd (omega arith)
+judged p (b ∷ l) rest s h = refl
+
+module _ (p : Printer) (line : List ℕ) (r : Condition) (h : ConditionAt line 0 r) (s : State) where
+  if-is : settles (ifLine (printerOf p) (take (r .to - r .from) (drop (r .from) line)) (drop (r .rest) line) s) s ≡ settles (perform (printerOf p) If line s) s
+  unfolding perform
+  if-is = ap (λ (c : Part). settles (ifLine (printerOf p) (c .part) (c .rest) s) s) (h .is)
+
+  -- `.if` alone does nothing
+  pub if-none : r .from ≡ r .to → goes s ≡ settles (perform (printerOf p) If line s) s
+  if-none e =
+      let z : r .to - r .from ≡ 0 = omega arith in
+      sym (ap (λ (n : ℕ). settles (ifLine (printerOf p) (take n (drop (r .from) line)) (drop (r .rest) line) s) s) z) ∙ if-is
+
+  -- else the condition says whether the rest follows
+  pub if-holds : (v : settings.Condition) → conditionIs v ≡ holds (printer (p .pitch) 0) (s .page .number) (take (r .to - r .from) (drop (r .from) line)) → r .from < r .to
+      → settles (conditionIs v >>= λ t. value (follows t (drop (r .rest) line) s)) s ≡ settles (perform (printerOf p) If line s) s
+  if-holds v e d =
+      let l = take (r .to - r .from) (drop (r .from) line) in let rest = drop (r .rest) line in
+      let k : r .to - r .from ≤ length (drop (r .from) line) = omega (arith, length-drop (r .from) line, h .onward, h .inside) in
+      ap (λ (j : Judged Bool). settles (j >>= λ t. value (follows t rest s)) s) (e ∙ holds-same p (s .page .number) l)
+      ∙ sym (ap (λ (j : Judged State). settles j s) (judged (printerOf p) l rest s (omega (arith, length-take-le (r .to - r .from) (drop (r .from) line) k))))
+      ∙ if-is
+
+followed-none-items : (l : List ℕ) (k : List Item) → length l ≡ 0 → k ≡ followed l k
+followed-none-items [] k e = refl
+followed-none-items (b ∷ l) k e = absurd (omega arith)
+
+followed-some : (l : List ℕ) (k : List Item) → 0 < length l → again (lineOf l) ∷ k ≡ followed l k
+followed-some [] k h = absurd (omega arith)
+followed-some (b ∷ l) k h = refl
+
+module _ (rest : List ℕ) (s : Stack) (arena ends : List ℕ) (d : s .depth ≤ 16) where
+  -- nothing follows
+  pub followed-none : length rest ≡ 0 → Columns s arena ends → Followed rest s arena ends s arena ends
+  followed-none e k = record { is = λ ts. followed-none-items rest (stackOf ts s arena ends) e; good = λ ts g. g; columns = k; fits = fits-few s ends d }
+
+  -- a line follows
+  pub followed-line : (w : What) (bytes : List ℕ) (r : Stack) (arena' ends' : List ℕ) → HeldTo (held.Item w) bytes s arena ends r arena' ends' → PlainItem w → 0 < length rest
+      → ((ts : List Text) → itemBy ts w bytes noEnds ≡ again (lineOf rest)) → Followed rest s arena ends r arena' ends'
+  followed-line w bytes r arena' ends' t e h law = record {
+    is = λ ts.
+        over-items (held.Item w) bytes s arena ends r arena' ends' t ts
+        ∙ ap (λ (i : Item). i ∷ stackOf ts s arena ends) (law ts)
+        ∙ followed-some rest (stackOf ts s arena ends) h;
+    good = λ ts g. over-good (held.Item w) bytes s arena ends r arena' ends' t ts e g;
+    columns = t .columns;
+    fits = over-fits (held.Item w) bytes s arena ends r arena' ends' t e d;
+  }
+
+follows-is : (rest : List ℕ) (s : State) → goes (withStack (followed rest (s .input .stack)) s) ≡ goes (follows true rest s)
+follows-is [] s = refl
+follows-is (b ∷ l) s = refl
+
+-- a name that a text has is known
+pub known : (m : Name) (st fs ss ks ls : List ℕ) (n : ℕ) (t : Text) → Lies st fs ss ks ls n → textOf m (textsOf st fs ss ks ls n) ≡ some t → Known m fs ss n
+known m st fs ss ks ls n t i h = go (placeOf m (namesOf fs ss n)) refl
+  where
+    go : (p : Place) → placeOf m (namesOf fs ss n) ≡ p → Known m fs ss n
+    go (At k) e = (k, e)
+    go Not e = let z : _≡_ {A = ℕ} 0 1 = cc (not-text st fs ss ks ls n i m e) in absurd (omega arith)
+
+-- a known name has a text in every store
+pub known-text : (m : Name) (st fs ss ks ls : List ℕ) (n : ℕ) → Known m fs ss n → Lies st fs ss ks ls n → (t : Text) × (textOf m (textsOf st fs ss ks ls n) ≡ some t)
+known-text m st fs ss ks ls n k i = (_, found-text st fs ss ks ls n i m (k .0) (k .1))
+
+module _ (fs ss : List ℕ) (n : ℕ) (planted : Planted) (y : Layout) (g : Page) (c : Collected) (cells : List ℕ) (k : Stack) (arena ends row : List ℕ) (s : Sound planted (desk y g c cells k arena ends)) (few : k .depth ≤ 16) (long : length row ≡ 872) where
+  -- a request that sets the layout, or is refused
+  set-law : (p : Printer) (q : Unbreaking) (line : List ℕ) (r : NewLayout) → Performed p q y (downOf (g .used)) (argument 0 line) r → layoutKeeps q ≡ true → (ts : List Text) (x : State)
+      → let v = stateAt ts (plantedOf planted) (desk y g c cells k arena ends) x in settles (newLayoutIs r >>= λ z. value (withLayout z v)) v ≡ settles (perform (printerOf p) q line v) v
+  set-law p q line r t e ts x =
+      let v = stateAt ts (plantedOf planted) (desk y g c cells k arena ends) x in
+      ap (λ (j : Judged rule.Layout). settles (j >>= λ z. value (withLayout z v)) v) (t .is)
+      ∙ ap (λ (j : Judged State). settles j v) (performed-is (printerOf p) q line v e)
+
+  pub sets : (p : Printer) (q : Unbreaking) (line : List ℕ) (r : NewLayout) → Performed p q y (downOf (g .used)) (argument 0 line) r → layoutKeeps q ≡ true
+      → let o = changedTo r y g c k in Worked (λ ts v. settles (perform (printerOf p) q line v) v) fs ss n planted (desk y g c cells k arena ends) (o .way) (o .written) (desk (o .layout) (o .page) (o .collected) cells (o .stack) arena ends) row
+  sets p q line (Is z) t e = record {
+    is = λ st ks ls i x. set-law p q line (Is z) t e (textsOf st fs ss ks ls n) x;
+    good = λ st ks ls i h. h;
+    sound = record { limits = of-new (Is z) z (t .limits) refl; above = of-new (Is z) z (t .above (s .above)) refl; numbered = s .numbered; few = s .few; line = s .line; indent = s .indent; next = s .next; columns = s .columns };
+    fits = fits-few k ends few;
+    few = omega arith;
+    long = long;
+  }
+  sets p q line Malformed t e = record {
+    is = λ st ks ls i x. set-law p q line Malformed t e (textsOf st fs ss ks ls n) x;
+    good = λ st ks ls i h. h;
+    sound = s;
+    fits = fits-few k ends few;
+    few = omega arith;
+    long = long;
+  }
+  sets p q line OutOfRange t e = record {
+    is = λ st ks ls i x. set-law p q line OutOfRange t e (textsOf st fs ss ks ls n) x;
+    good = λ st ks ls i h. h;
+    sound = s;
+    fits = fits-few k ends few;
+    few = omega arith;
+    long = long;
+  }
+
+  -- the rest of an if has followed
+  pub follows-on : (rule : List Text → State → Next) (rest : List ℕ) (r : Stack) (arena' ends' : List ℕ) → Followed rest k arena ends r arena' ends'
+      → ((ts : List Text) (x : State) → let v = stateAt ts (plantedOf planted) (desk y g c cells k arena ends) x in goes (follows true rest v) ≡ rule ts v)
+      → Worked rule fs ss n planted (desk y g c cells k arena ends) On 0 (desk y g c cells r arena' ends') row
+  follows-on rule rest r arena' ends' f law = record {
+    is = λ st ks ls i x.
+        let ts = textsOf st fs ss ks ls n in let v = stateAt ts (plantedOf planted) (desk y g c cells k arena ends) x in
+        ap (λ (q : List Item). goes (withStack q v)) (f .is ts) ∙ follows-is rest v ∙ law ts x;
+    good = λ st ks ls i h. f .good (textsOf st fs ss ks ls n) h;
+    sound = record { limits = s .limits; above = s .above; numbered = s .numbered; few = s .few; line = s .line; indent = s .indent; next = s .next; columns = f .columns };
+    fits = f .fits;
+    few = omega arith;
+    long = long;
+  }
+
+  -- a text was called
+  pub calls-text : (m : Name) (line args given bytes : List ℕ) (count : ℕ) (r : Called) (arena' ends' : List ℕ) → CalledTo m count args given held.Nothing bytes (g .last) k arena ends r arena' ends'
+      → argumentsOf args given count ≡ arguments line → Known m fs ss n
+      → Worked (λ ts v. goes (calledText (textOf m ts) line v)) fs ss n planted (desk y g c cells k arena ends) (wayIf (r .full)) 0 (desk y g c cells (r .stack) arena' ends') row
+  calls-text m line args given bytes count r arena' ends' t e h = record {
+    is = λ st ks ls i x.
+        let ts = textsOf st fs ss ks ls n in let v = stateAt ts (plantedOf planted) (desk y g c cells k arena ends) x in let u = known-text m st fs ss ks ls n h i in
+        ap goes (t .is ts (u .0) (u .1) v refl)
+        ∙ ap (λ (l : List (List ℕ)). goes (call (u .0) l [] v)) e
+        ∙ sym (ap (λ (o : Option Text). goes (calledText o line v)) (u .1));
+    good = λ st ks ls i q. let u = known-text m st fs ss ks ls n h i in t .good (textsOf st fs ss ks ls n) (u .0) (u .1) q;
+    sound = record { limits = s .limits; above = s .above; numbered = s .numbered; few = s .few; line = s .line; indent = s .indent; next = s .next; columns = t .columns };
+    fits = fits-few (r .stack) ends' (t .few);
+    few = omega arith;
+    long = long;
+  }

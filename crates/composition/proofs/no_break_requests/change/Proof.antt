@@ -1,0 +1,45 @@
+-- `composition::no_break_requests::change` meets its contract. Assumes nothing.
+use borrow.Author.Needs.{needs}
+use Rattle.composition.proofs.no_break_requests.change.Statement.{statement}
+use Rattle.composition.proofs.no_break_requests.change.Tie as tie
+
+enum-known-new : tie.Need-enum-known-new
+enum-known-new c = search needs
+
+stay-requires : tie.Need-stay-requires
+stay-requires c κs = search needs
+
+enum-told : tie.Need-enum-told
+enum-told c = search needs
+
+stay-requires-2 : tie.Need-stay-requires-2
+stay-requires-2 c κs = search needs
+
+enum-told-2 : tie.Need-enum-told-2
+enum-told-2 c = search needs
+
+stay-requires-3 : tie.Need-stay-requires-3
+stay-requires-3 c κs = search needs
+
+returns : tie.Need-returns
+returns c = rw (c .stay .ensures, c .before .before .new .given .1)
+
+returns-2 : tie.Need-returns-2
+returns-2 c = rw (c .stay2 .ensures, c .before .enum-told .given .1)
+
+returns-3 : tie.Need-returns-3
+returns-3 c = rw (c .stay3 .ensures, c .before .enum-told2 .given .1)
+
+pub change-spec : {M : Type 1} → statement M
+change-spec =
+    tie.close
+    (tie.spec
+    enum-known-new
+    stay-requires
+    enum-told
+    stay-requires-2
+    enum-told-2
+    stay-requires-3
+    returns
+    returns-2
+    returns-3)

@@ -1,0 +1,82 @@
+-- What the words of a text line lead to, as the code holds it. Assumes nothing.
+use mathlib.Core.Path.{_≡_}
+use mathlib.Core.Bool.{Bool, true, false}
+use mathlib.Core.List.{List, [], _∷_, _++_}
+use Prim.Native.Nat.{ℕ, _≤_, _<_}
+use lib.ListN.{length, replicate}
+use Rattle.rules.specs.Bytes.{fixedBlank}
+use Rattle.rules.specs.Filling.{Word, word, leads}
+use Rattle.rules.specs.Filling as rule
+use Rattle.rules.specs.TextLines.{nextGap, Way, breaks, stands, fills, breaksIf}
+use Rattle.fill.specs.Words.Parts.{Places}
+use Rattle.fill.specs.Collected.Filled.{Line}
+use Rattle.fill.specs.declared.collected.Overflow.{Overflow}
+use Rattle.fill.specs.declared.words.WordAt.{WordAt}
+use Rattle.fill.specs.declared.collected.Placed.{Placed}
+use Rattle.fill.specs.declared.collected.Placed.the-variants.{All, Full}
+use Rattle.settings.specs.declared.layout.Layout.{Layout}
+use Rattle.input_stack.specs.declared.frames.What.the-variants.{Others}
+use Rattle.input_stack.specs.declared.stack.Stack.{Stack}
+use Rattle.page.specs.declared.position.Page.{Page}
+use Rattle.page.specs.declared.springs.Held.{Held}
+use Rattle.page.specs.declared.springs.Held.the-variants.{Nothing, Item}
+use Rattle.page.specs.declared.springs.Way.the-variants.{On}
+use Rattle.composition.specs.declared.page_rows.Collected.{Collected}
+use Rattle.composition.specs.declared.page_rows.Outcome.{Outcome}
+
+-- the words that are left are held
+abbrev pub othersHeld : List Word → (gap : ℕ) → Held
+othersHeld [] g = Nothing
+othersHeld (w ∷ ws) g = Item (Others g)
+
+-- the gap to what comes next
+abbrev pub gapBehind : List Word → (gap : ℕ) → ℕ
+gapBehind ws g = nextGap ws g
+
+-- the collected line with so many cells and this gap behind it
+abbrev pub longer : (count gap : ℕ) → Collected → Collected
+longer n g c = record { there = true; indent = c .indent; room = c .room; length = n; next = g }
+
+-- all words fitted
+abbrev pub collectedTo : (count gap : ℕ) → Layout → Page → Collected → Stack → Outcome
+collectedTo n g y p c s = record { way = On; layout = y; page = p; collected = longer n g c; stack = s; written = 0 }
+
+-- the first word of a line, with its leading spaces as fixed blanks
+abbrev pub leadingWord : (lead : ℕ) → List ℕ → Word
+leadingWord n bs = word 0 (replicate n fixedBlank ++ bs)
+
+-- a word of the line does not fit behind so many cells
+pub record Overflows (line : List ℕ) (to : ℕ) (cells : List ℕ) (room gap : ℕ) (o : Overflow) : Type 0 where
+  pub places : Places line (o .to) to
+  pub word : o .from < o .to
+  pub collected : Line cells (o .length) room
+  pub small : gap ≤ 2
+
+-- words were placed in so many cells
+abbrev pub Filled : (line : List ℕ) → (to : ℕ) → (cells : List ℕ) → (room gap : ℕ) → Placed → Type 0
+Filled line to cells room gap (All n) = Line cells n room × (gap ≤ 2)
+Filled line to cells room gap (Full o) = Overflows line to cells room gap o
+
+-- a word of the line that is to start a collected line
+pub record Starts (line : List ℕ) (to lead gap : ℕ) (w : WordAt) : Type 0 where
+  pub places : Places line (w .from) (w .to)
+  pub high : w .to ≤ to
+  pub few : to ≤ 512
+  pub leads : lead ≤ w .from
+  pub small : gap ≤ 2
+
+-- nothing is done
+abbrev pub sameOutcome : Layout → Page → Collected → Stack → Outcome
+sameOutcome y p c s = record { way = On; layout = y; page = p; collected = c; stack = s; written = 0 }
+
+-- a line that goes on behind a collected one has no leading spaces
+abbrev pub Follows : (there : Bool) → List Word → Type 0
+Follows true ws = leads ws ≡ false
+Follows false ws = Unit
+
+-- what a line of words asks for on a page that has started, by whether a line is collected, and by nf, ce and leading spaces
+abbrev pub wordWay : (there asItStands leads : Bool) → rule.Collected → Way
+wordWay true true l c = breaks c
+wordWay true false l c = breaksIf l c
+wordWay false true l c = stands
+wordWay false false l c = fills

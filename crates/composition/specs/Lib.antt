@@ -1,0 +1,4 @@
+pub mod PageRows
+pub mod Filling
+pub mod BreakRequests
+pub mod NoBreakRequests

@@ -1,0 +1,336 @@
+// What a breaking request does: it starts the first page, or breaks, or acts.
+use super::page_rows::Collected;
+use super::page_rows::Outcome;
+use input_stack::frames::What;
+use input_stack::stack::Stack;
+use number::scales::Down;
+use page::position::Page;
+use page::springs::Held;
+use page::springs::Way;
+use rules::Breaking;
+use rules::Name;
+use settings::layout::Layout;
+use settings::layout::NewLayout;
+use settings::layout::Printer;
+use traps::table::Planted;
+ghost use mathlib.Core.Path.{_≡_};
+ghost use mathlib.Core.Bool.{_&&_};
+ghost use mathlib.Core.List.{[]};
+ghost use lib.ListN.{length};
+ghost use Rattle.rules.specs.Acts as rule;
+ghost use Rattle.settings.specs.Layout.Layouts.{printerOf, SoundPrinter};
+ghost use Rattle.composition.specs.PageRows.Desk.{desk, Begins, Worked};
+ghost use Rattle.composition.specs.BreakRequests.Acting.{stayed, settledBy, workOf, spaces, actBy};
+ghost use Rattle.composition.specs.BreakRequests.Obeying.{heldLine, heldRequest, startsFirst, obeyed};
+
+// What a request has to do after its break.
+pub enum Work {
+    Spaces,
+    Ejects,
+    Lays,
+}
+
+// sp and bp move down the page; the others change the layout at most.
+fn work_of(request: Breaking) -> Work
+    ensures { λ r. ⌜ r ≡ workOf request ⌝ }
+{
+    match request {
+        Breaking::Br => Work::Lays,
+        Breaking::Sp => Work::Spaces,
+        Breaking::Bp => Work::Ejects,
+        Breaking::Fi => Work::Lays,
+        Breaking::Nf => Work::Lays,
+        Breaking::Ce => Work::Lays,
+        Breaking::In => Work::Lays,
+        Breaking::Ti => Work::Lays,
+    }
+}
+
+// Nothing is written or moved.
+fn stay(way: Way, layout: Layout, page: Page, collected: Collected, stack: Stack) -> Outcome
+    ensures { λ r. ⌜ r ≡ stayed way layout page collected stack ⌝ }
+{
+    Outcome {
+        way,
+        layout,
+        page,
+        collected,
+        stack,
+        written: 0,
+    }
+}
+
+// The new layout of a request, or its refusal.
+fn settle(new: NewLayout, layout: Layout, page: Page, collected: Collected, stack: Stack) -> Outcome
+    ensures { λ r. ⌜ r ≡ settledBy new layout page collected stack ⌝ }
+{
+    match new {
+        NewLayout::Is(other) => stay(Way::On, other, page, collected, stack),
+        NewLayout::Malformed => stay(Way::Refused(6), layout, page, collected, stack),
+        NewLayout::OutOfRange => stay(Way::Refused(7), layout, page, collected, stack),
+    }
+}
+
+// sp, with its argument.
+fn space(
+    argument: &[u8],
+    printer: Printer,
+    layout: Layout,
+    page: Page,
+    collected: Collected,
+    planted: Planted,
+    cells: &[u8; 512],
+    row: &mut [u8; 872],
+    stack: Stack,
+    arena: &mut [u8; 8704],
+    ends: &mut [u16; 221],
+    firsts: &[u8; 64],
+    seconds: &[u8; 64],
+    texts: usize,
+) -> Outcome
+    requires { ⌜ Begins planted (desk layout page collected (now cells) stack (now arena) (now ends)) [] (now row) (now firsts) (now seconds) texts × SoundPrinter printer ⌝ }
+    ensures { λ r. ⌜ Worked (λ ts s. spaces (printerOf printer) (now (argument .entry)) s) (now (firsts .entry)) (now (seconds .entry)) texts planted (desk layout page collected (now (cells .entry)) stack (now (arena .entry)) (now (ends .entry))) (r .way) (r .written) (desk (r .layout) (r .page) (r .collected) (now (cells .entry)) (r .stack) (now (arena .exit)) (now (ends .exit))) (now (row .exit)) ⌝ }
+{
+    match settings::layout::spacing(argument, printer) {
+        Down::Are(count) => super::page_rows::skip(
+            count,
+            layout,
+            page,
+            collected,
+            planted,
+            cells,
+            row,
+            stack,
+            arena,
+            ends,
+            firsts,
+            seconds,
+            texts,
+        ),
+        Down::Bad => stay(Way::Refused(6), layout, page, collected, stack),
+    }
+}
+
+// What a request does after its break, with its argument.
+fn act_on(
+    request: Breaking,
+    argument: &[u8],
+    printer: Printer,
+    layout: Layout,
+    page: Page,
+    collected: Collected,
+    planted: Planted,
+    cells: &[u8; 512],
+    row: &mut [u8; 872],
+    stack: Stack,
+    arena: &mut [u8; 8704],
+    ends: &mut [u16; 221],
+    firsts: &[u8; 64],
+    seconds: &[u8; 64],
+    texts: usize,
+) -> Outcome
+    requires { ⌜ Begins planted (desk layout page collected (now cells) stack (now arena) (now ends)) [] (now row) (now firsts) (now seconds) texts × SoundPrinter printer ⌝ }
+    ensures { λ r. ⌜ Worked (λ ts s. actBy (workOf request) (printerOf printer) request (now (argument .entry)) s) (now (firsts .entry)) (now (seconds .entry)) texts planted (desk layout page collected (now (cells .entry)) stack (now (arena .entry)) (now (ends .entry))) (r .way) (r .written) (desk (r .layout) (r .page) (r .collected) (now (cells .entry)) (r .stack) (now (arena .exit)) (now (ends .exit))) (now (row .exit)) ⌝ }
+{
+    match work_of(request) {
+        Work::Spaces => space(
+            argument,
+            printer,
+            layout,
+            page,
+            collected,
+            planted,
+            cells,
+            row,
+            stack,
+            arena,
+            ends,
+            firsts,
+            seconds,
+            texts,
+        ),
+        Work::Ejects => super::eject::eject(
+            page.number,
+            layout,
+            page,
+            collected,
+            planted,
+            cells,
+            row,
+            stack,
+            arena,
+            ends,
+            firsts,
+            seconds,
+            texts,
+        ),
+        Work::Lays => {
+            let new = settings::line_settings::act(request, layout, argument, printer);
+            settle(new, layout, page, collected, stack)
+        }
+    }
+}
+
+// What a request does after its break; the line is what follows its name.
+pub fn act(
+    request: Breaking,
+    line: &[u8],
+    parts: &mut [u8; 512],
+    printer: Printer,
+    layout: Layout,
+    page: Page,
+    collected: Collected,
+    planted: Planted,
+    cells: &[u8; 512],
+    row: &mut [u8; 872],
+    stack: Stack,
+    arena: &mut [u8; 8704],
+    ends: &mut [u16; 221],
+    firsts: &[u8; 64],
+    seconds: &[u8; 64],
+    texts: usize,
+) -> Outcome
+    requires { ⌜ Begins planted (desk layout page collected (now cells) stack (now arena) (now ends)) (now line) (now row) (now firsts) (now seconds) texts × SoundPrinter printer × (length (now parts) ≡ 512) ⌝ }
+    ensures { λ r. ⌜ Worked (λ ts s. rule.act (printerOf printer) request (now (line .entry)) s) (now (firsts .entry)) (now (seconds .entry)) texts planted (desk layout page collected (now (cells .entry)) stack (now (arena .entry)) (now (ends .entry))) (r .way) (r .written) (desk (r .layout) (r .page) (r .collected) (now (cells .entry)) (r .stack) (now (arena .exit)) (now (ends .exit))) (now (row .exit)) ⌝ }
+{
+    let mut places = [0u16; 9];
+    let count = scan::arguments::arguments(line, 0, &mut *parts, &mut places);
+    let argument = line_syntax::lines::argument(&*parts, &places, count, 0);
+    act_on(
+        request,
+        argument,
+        printer,
+        layout,
+        page,
+        collected,
+        planted,
+        cells,
+        row,
+        stack,
+        arena,
+        ends,
+        firsts,
+        seconds,
+        texts,
+    )
+}
+
+// "that line, as expanded, is dealt with after the top macro"
+fn held_line(period: bool, request: Breaking, name: Name) -> Held
+    ensures { λ r. ⌜ r ≡ heldLine period request name ⌝ }
+{
+    if line_syntax::lines::held_first(request) {
+        return Held::Item(What::Control(period, name));
+    }
+    Held::Nothing
+}
+
+// "If that break springs a trap, the request acts after its macro is read"
+fn held_request(request: Breaking) -> Held
+    ensures { λ r. ⌜ r ≡ heldRequest request ⌝ }
+{
+    if line_syntax::lines::acts_after(request) {
+        return Held::Item(What::Acts(request));
+    }
+    Held::Nothing
+}
+
+// "The first page starts at the first .. break, sp or bp"
+fn starts_first(number: u32, period: bool, request: Breaking) -> bool
+    ensures { λ r. ⌜ r ≡ startsFirst number period request ⌝ }
+{
+    if number == 0 {
+        return line_syntax::lines::starts_page(period, request);
+    }
+    false
+}
+
+// Whether there is a line to break, and a period to break it.
+fn breaks(period: bool, there: bool) -> bool
+    ensures { λ r. ⌜ r ≡ period && there ⌝ }
+{
+    if period {
+        return there;
+    }
+    false
+}
+
+// A breaking request, whose line is expanded behind its name: it starts the first page, or breaks, or acts.
+pub fn obey(
+    period: bool,
+    request: Breaking,
+    name: Name,
+    line: &[u8],
+    parts: &mut [u8; 512],
+    printer: Printer,
+    layout: Layout,
+    page: Page,
+    collected: Collected,
+    planted: Planted,
+    cells: &[u8; 512],
+    row: &mut [u8; 872],
+    stack: Stack,
+    arena: &mut [u8; 8704],
+    ends: &mut [u16; 221],
+    firsts: &[u8; 64],
+    seconds: &[u8; 64],
+    texts: usize,
+) -> Outcome
+    requires { ⌜ Begins planted (desk layout page collected (now cells) stack (now arena) (now ends)) (now line) (now row) (now firsts) (now seconds) texts × SoundPrinter printer × (length (now parts) ≡ 512) ⌝ }
+    ensures { λ r. ⌜ Worked (λ ts s. obeyed (printerOf printer) period request name (now (line .entry)) s) (now (firsts .entry)) (now (seconds .entry)) texts planted (desk layout page collected (now (cells .entry)) stack (now (arena .entry)) (now (ends .entry))) (r .way) (r .written) (desk (r .layout) (r .page) (r .collected) (now (cells .entry)) (r .stack) (now (arena .exit)) (now (ends .exit))) (now (row .exit)) ⌝ }
+{
+    if starts_first(page.number, period, request) {
+        return super::page_rows::start(
+            held_line(period, request, name),
+            line,
+            layout,
+            page,
+            collected,
+            planted,
+            cells,
+            row,
+            stack,
+            arena,
+            ends,
+            firsts,
+            seconds,
+            texts,
+        );
+    }
+    if breaks(period, collected.there) {
+        return super::page_rows::break_line(
+            held_request(request),
+            line,
+            layout,
+            page,
+            collected,
+            planted,
+            cells,
+            row,
+            stack,
+            arena,
+            ends,
+            firsts,
+            seconds,
+            texts,
+        );
+    }
+    act(
+        request,
+        line,
+        parts,
+        printer,
+        layout,
+        page,
+        collected,
+        planted,
+        cells,
+        row,
+        stack,
+        arena,
+        ends,
+        firsts,
+        seconds,
+        texts,
+    )
+}

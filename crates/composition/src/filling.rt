@@ -1,0 +1,414 @@
+// The words of a text line are placed one by one; a word that does not fit writes the line.
+use super::page_rows::Collected;
+use super::page_rows::Outcome;
+use fill::collected::Overflow;
+use fill::collected::Placed;
+use fill::words::Next;
+use fill::words::WordAt;
+use input_stack::frames::What;
+use input_stack::stack::Stack;
+use measure::Rows;
+use page::position::Page;
+use page::springs::Held;
+use page::springs::Way;
+use settings::layout::Layout;
+use traps::table::Planted;
+ghost use mathlib.Core.Path.{_≡_};
+ghost use mathlib.Core.Bool.{false};
+ghost use mathlib.Core.List.{_∷_};
+ghost use Prim.Native.Nat.{_≤_, _-_};
+ghost use lib.ListN.{length};
+ghost use Rattle.measure.specs.Counts.{acrossOf};
+ghost use Rattle.rules.specs.Filling.{words};
+ghost use Rattle.rules.specs.TextLines as rule;
+ghost use Rattle.rules.specs.TextLines.{fills};
+ghost use Rattle.fill.specs.Words.Parts.{part, Places};
+ghost use Rattle.fill.specs.Collected.Filled.{placedOf};
+ghost use Rattle.fill.specs.declared.collected.Placed.the-variants.{Full};
+ghost use Rattle.composition.specs.PageRows.Desk.{desk, Begins, Worked};
+ghost use Rattle.composition.specs.Filling.Words.{othersHeld, gapBehind, collectedTo, leadingWord, Overflows, Filled, Starts, sameOutcome, Follows};
+
+// The bytes from a place up to another.
+pub fn slice(bytes: &[u8], at: usize, to: usize) -> &[u8]
+    requires { ⌜ (at ≤ to) × (to ≤ length (now bytes)) ⌝ }
+    ensures { λ r. ⌜ now r ≡ part (now (bytes .entry)) at to ⌝ }
+{
+    &bytes[at..to]
+}
+
+// "then the other words": they are held where some are left.
+fn others_held(line: &[u8; 512], at: usize, to: usize, gap: u8) -> Held
+    requires { ⌜ Places (now line) at to ⌝ }
+    ensures { λ r. ⌜ r ≡ othersHeld (words (part (now (line .entry)) at to)) gap ⌝ }
+{
+    if fill::words::is_blank(line, at, to) {
+        return Held::Nothing;
+    }
+    Held::Item(What::Others(gap))
+}
+
+// The gap to what a trap's macro puts next: the line has ended only if no words are left.
+fn gap_behind(line: &[u8; 512], at: usize, to: usize, gap: u8) -> usize
+    requires { ⌜ Places (now line) at to ⌝ }
+    ensures { λ r. ⌜ r ≡ gapBehind (words (part (now (line .entry)) at to)) gap ⌝ }
+{
+    if fill::words::is_blank(line, at, to) {
+        return gap as usize;
+    }
+    1
+}
+
+// All words fitted: they are collected, and the line's ending asks for a gap.
+fn collect(
+    length: usize,
+    gap: u8,
+    layout: Layout,
+    page: Page,
+    collected: Collected,
+    stack: Stack,
+) -> Outcome
+    ensures { λ r. ⌜ r ≡ collectedTo length gap layout page collected stack ⌝ }
+{
+    let indent = collected.indent;
+    let room = collected.room;
+    let next = gap as usize;
+    let longer = Collected {
+        there: true,
+        indent,
+        room,
+        length,
+        next,
+    };
+    Outcome {
+        way: Way::On,
+        layout,
+        page,
+        collected: longer,
+        stack,
+        written: 0,
+    }
+}
+
+// "the line is written and the word starts the next"; the other words are held.
+fn overflow(
+    o: Overflow,
+    gap: u8,
+    line: &[u8; 512],
+    to: usize,
+    layout: Layout,
+    page: Page,
+    collected: Collected,
+    planted: Planted,
+    cells: &mut [u8; 512],
+    row: &mut [u8; 872],
+    stack: Stack,
+    arena: &mut [u8; 8704],
+    ends: &mut [u16; 221],
+    firsts: &[u8; 64],
+    seconds: &[u8; 64],
+    texts: usize,
+) -> Outcome
+    requires { ⌜ Begins planted (desk layout page collected (now cells) stack (now arena) (now ends)) (now line) (now row) (now firsts) (now seconds) texts × Overflows (now line) to (now cells) (acrossOf (collected .room)) gap o ⌝ }
+    ensures { λ r. ⌜ Worked (λ ts s. rule.filled (placedOf (acrossOf (collected .indent)) (acrossOf (collected .room)) (now (cells .entry)) (collected .next) (now (line .entry)) to (Full o)) gap s) (now (firsts .entry)) (now (seconds .entry)) texts planted (desk layout page collected (now (cells .entry)) stack (now (arena .entry)) (now (ends .entry))) (r .way) (r .written) (desk (r .layout) (r .page) (r .collected) (now (cells .exit)) (r .stack) (now (arena .exit)) (now (ends .exit))) (now (row .exit)) ⌝ }
+{
+    let margin = layout.offset;
+    let offset = margin.now;
+    let adjusting = layout.adjusting;
+    let room = collected.room;
+    let indent = collected.indent;
+    let at = o.to;
+    let written = fill::rows::full_row(
+        &*cells,
+        o.length,
+        room,
+        adjusting,
+        offset,
+        indent,
+        &mut *row,
+    );
+    let length = fill::collected::begin_line(line, 0, o.from, at, &mut *cells);
+    let fresh = Collected {
+        there: true,
+        indent: settings::layout::indent_now(layout),
+        room: settings::layout::room_now(layout),
+        length,
+        next: gap_behind(line, at, to, gap),
+    };
+    let begun = settings::layout::begun(layout);
+    let rows = begun.page;
+    let held = others_held(line, at, to, gap);
+    let rest = slice(line, at, to);
+    let landed = page::springs::down(
+        Rows(1),
+        page,
+        rows,
+        planted,
+        held,
+        rest,
+        stack,
+        arena,
+        ends,
+        firsts,
+        seconds,
+        texts,
+    );
+    super::page_rows::lead_to(begun, fresh, landed, written)
+}
+
+// The words that fitted are collected, or the row is full.
+fn fill_placed(
+    placed: Placed,
+    gap: u8,
+    line: &[u8; 512],
+    to: usize,
+    layout: Layout,
+    page: Page,
+    collected: Collected,
+    planted: Planted,
+    cells: &mut [u8; 512],
+    row: &mut [u8; 872],
+    stack: Stack,
+    arena: &mut [u8; 8704],
+    ends: &mut [u16; 221],
+    firsts: &[u8; 64],
+    seconds: &[u8; 64],
+    texts: usize,
+) -> Outcome
+    requires { ⌜ Begins planted (desk layout page collected (now cells) stack (now arena) (now ends)) (now line) (now row) (now firsts) (now seconds) texts × Filled (now line) to (now cells) (acrossOf (collected .room)) gap placed ⌝ }
+    ensures { λ r. ⌜ Worked (λ ts s. rule.filled (placedOf (acrossOf (collected .indent)) (acrossOf (collected .room)) (now (cells .entry)) (collected .next) (now (line .entry)) to placed) gap s) (now (firsts .entry)) (now (seconds .entry)) texts planted (desk layout page collected (now (cells .entry)) stack (now (arena .entry)) (now (ends .entry))) (r .way) (r .written) (desk (r .layout) (r .page) (r .collected) (now (cells .exit)) (r .stack) (now (arena .exit)) (now (ends .exit))) (now (row .exit)) ⌝ }
+{
+    match placed {
+        Placed::All(length) => collect(length, gap, layout, page, collected, stack),
+        Placed::Full(o) => overflow(
+            o,
+            gap,
+            line,
+            to,
+            layout,
+            page,
+            collected,
+            planted,
+            cells,
+            row,
+            stack,
+            arena,
+            ends,
+            firsts,
+            seconds,
+            texts,
+        ),
+    }
+}
+
+// The first word starts a line, and the others follow it.
+fn fill_new(
+    lead: usize,
+    found: WordAt,
+    gap: u8,
+    line: &[u8; 512],
+    to: usize,
+    layout: Layout,
+    page: Page,
+    collected: Collected,
+    planted: Planted,
+    cells: &mut [u8; 512],
+    row: &mut [u8; 872],
+    stack: Stack,
+    arena: &mut [u8; 8704],
+    ends: &mut [u16; 221],
+    firsts: &[u8; 64],
+    seconds: &[u8; 64],
+    texts: usize,
+) -> Outcome
+    requires { ⌜ Begins planted (desk layout page collected (now cells) stack (now arena) (now ends)) (now line) (now row) (now firsts) (now seconds) texts × Starts (now line) to lead gap found × (collected .there ≡ false) ⌝ }
+    ensures { λ r. ⌜ Worked (λ ts s. rule.fill (leadingWord lead (part (now (line .entry)) (found .from) (found .to)) ∷ words (part (now (line .entry)) (found .to) to)) gap s) (now (firsts .entry)) (now (seconds .entry)) texts planted (desk layout page collected (now (cells .entry)) stack (now (arena .entry)) (now (ends .entry))) (r .way) (r .written) (desk (r .layout) (r .page) (r .collected) (now (cells .exit)) (r .stack) (now (arena .exit)) (now (ends .exit))) (now (row .exit)) ⌝ }
+{
+    let at = found.to;
+    let indent = settings::layout::indent_now(layout);
+    let room = settings::layout::room_now(layout);
+    let begun = settings::layout::begun(layout);
+    let length = fill::collected::begin_line(line, lead, found.from, at, &mut *cells);
+    let fresh = Collected {
+        there: true,
+        indent,
+        room,
+        length,
+        next: 1,
+    };
+    let placed = fill::collected::place_others(line, at, to, &mut *cells, length, room);
+    fill_placed(
+        placed,
+        gap,
+        line,
+        to,
+        begun,
+        page,
+        fresh,
+        planted,
+        cells,
+        row,
+        stack,
+        arena,
+        ends,
+        firsts,
+        seconds,
+        texts,
+    )
+}
+
+// The words of a line go on behind what is collected, after their own gaps.
+pub fn fill_rest(
+    gap: u8,
+    line: &[u8; 512],
+    to: usize,
+    layout: Layout,
+    page: Page,
+    collected: Collected,
+    planted: Planted,
+    cells: &mut [u8; 512],
+    row: &mut [u8; 872],
+    stack: Stack,
+    arena: &mut [u8; 8704],
+    ends: &mut [u16; 221],
+    firsts: &[u8; 64],
+    seconds: &[u8; 64],
+    texts: usize,
+) -> Outcome
+    requires { ⌜ Begins planted (desk layout page collected (now cells) stack (now arena) (now ends)) (now line) (now row) (now firsts) (now seconds) texts × Places (now line) 0 to × (gap ≤ 2) ⌝ }
+    ensures { λ r. ⌜ Worked (λ ts s. rule.fill (words (part (now (line .entry)) 0 to)) gap s) (now (firsts .entry)) (now (seconds .entry)) texts planted (desk layout page collected (now (cells .entry)) stack (now (arena .entry)) (now (ends .entry))) (r .way) (r .written) (desk (r .layout) (r .page) (r .collected) (now (cells .exit)) (r .stack) (now (arena .exit)) (now (ends .exit))) (now (row .exit)) ⌝ }
+{
+    let Next::Found(found) = fill::words::next_word(line, 0, to) else {
+        return unchanged(layout, page, collected, stack);
+    };
+    if collected.there {
+        let room = collected.room;
+        let placed = fill::collected::place_others(
+            line,
+            0,
+            to,
+            &mut *cells,
+            collected.length,
+            room,
+        );
+        return fill_placed(
+            placed,
+            gap,
+            line,
+            to,
+            layout,
+            page,
+            collected,
+            planted,
+            cells,
+            row,
+            stack,
+            arena,
+            ends,
+            firsts,
+            seconds,
+            texts,
+        );
+    }
+    fill_new(
+        0,
+        found,
+        gap,
+        line,
+        to,
+        layout,
+        page,
+        collected,
+        planted,
+        cells,
+        row,
+        stack,
+        arena,
+        ends,
+        firsts,
+        seconds,
+        texts,
+    )
+}
+
+// Nothing is to be done.
+fn unchanged(layout: Layout, page: Page, collected: Collected, stack: Stack) -> Outcome
+    ensures { λ r. ⌜ r ≡ sameOutcome layout page collected stack ⌝ }
+{
+    Outcome {
+        way: Way::On,
+        layout,
+        page,
+        collected,
+        stack,
+        written: 0,
+    }
+}
+
+// The words of a text line are filled, the first after the gap to this line, or with its leading spaces as fixed blanks.
+pub fn fill_line(
+    line: &[u8; 512],
+    to: usize,
+    layout: Layout,
+    page: Page,
+    collected: Collected,
+    planted: Planted,
+    cells: &mut [u8; 512],
+    row: &mut [u8; 872],
+    stack: Stack,
+    arena: &mut [u8; 8704],
+    ends: &mut [u16; 221],
+    firsts: &[u8; 64],
+    seconds: &[u8; 64],
+    texts: usize,
+) -> Outcome
+    requires { ⌜ Begins planted (desk layout page collected (now cells) stack (now arena) (now ends)) (now line) (now row) (now firsts) (now seconds) texts × Places (now line) 0 to × Follows (collected .there) (words (part (now line) 0 to)) ⌝ }
+    ensures { λ r. ⌜ Worked (λ ts s. rule.textWay fills (words (part (now (line .entry)) 0 to)) (part (now (line .entry)) 0 to) s) (now (firsts .entry)) (now (seconds .entry)) texts planted (desk layout page collected (now (cells .entry)) stack (now (arena .entry)) (now (ends .entry))) (r .way) (r .written) (desk (r .layout) (r .page) (r .collected) (now (cells .exit)) (r .stack) (now (arena .exit)) (now (ends .exit))) (now (row .exit)) ⌝ }
+{
+    let Next::Found(found) = fill::words::next_word(line, 0, to) else {
+        return unchanged(layout, page, collected, stack);
+    };
+    let gap = fill::words::gap_after(line, 0, to) as u8;
+    if collected.there {
+        let room = collected.room;
+        let next = collected.next;
+        let placed = fill::collected::place(line, 0, to, next, &mut *cells, collected.length, room);
+        return fill_placed(
+            placed,
+            gap,
+            line,
+            to,
+            layout,
+            page,
+            collected,
+            planted,
+            cells,
+            row,
+            stack,
+            arena,
+            ends,
+            firsts,
+            seconds,
+            texts,
+        );
+    }
+    let lead = found.gap;
+    fill_new(
+        lead,
+        found,
+        gap,
+        line,
+        to,
+        layout,
+        page,
+        collected,
+        planted,
+        cells,
+        row,
+        stack,
+        arena,
+        ends,
+        firsts,
+        seconds,
+        texts,
+    )
+}

@@ -1,0 +1,243 @@
+// Requests that neither break nor change a table, and texts that are called.
+use super::page_rows::Collected;
+use super::page_rows::Outcome;
+use input_stack::frames::What;
+use input_stack::stack::Stack;
+use line_syntax::conditions::Condition;
+use line_syntax::lines::Line;
+use measure::Rows;
+use page::position::Page;
+use page::springs::Called;
+use page::springs::Held;
+use page::springs::Way;
+use rules::Name;
+use rules::Unbreaking;
+use settings::layout::Layout;
+use settings::layout::NewLayout;
+use settings::layout::Printer;
+use traps::table::Planted;
+ghost use mathlib.Core.Path.{_≡_};
+ghost use mathlib.Core.Bool.{true};
+ghost use Prim.Native.Nat.{_≤_};
+ghost use lib.ListN.{length};
+ghost use Rattle.measure.specs.Counts.{downOf};
+ghost use Rattle.rules.specs.Texts.{textOf};
+ghost use Rattle.rules.specs.Rows.{goes};
+ghost use Rattle.rules.specs.Acts.{settles, argument, perform};
+ghost use Rattle.rules.specs.declared.Unbreaking.the-variants.{If};
+ghost use Rattle.settings.specs.Layout.Layouts.{printerOf, SoundPrinter, Ready, Performed};
+ghost use Rattle.page.specs.Springs.Held as springs;
+ghost use Rattle.composition.specs.PageRows.Desk.{desk, Begins, Worked};
+ghost use Rattle.composition.specs.NoBreakRequests.Keeping.{isIf, isKept, stayed, changedTo, Followed, calledTo, calledText, Known};
+
+// Nothing is written, and the desk is as it is.
+fn stay(way: Way, layout: Layout, page: Page, collected: Collected, stack: Stack) -> Outcome
+    ensures { λ r. ⌜ r ≡ stayed way layout page collected stack ⌝ }
+{
+    Outcome {
+        way,
+        layout,
+        page,
+        collected,
+        stack,
+        written: 0,
+    }
+}
+
+// What a request makes of the layout, by its first argument.
+fn new_layout(
+    request: Unbreaking,
+    line: &[u8],
+    parts: &mut [u8; 512],
+    used: Rows,
+    layout: Layout,
+    printer: Printer,
+) -> NewLayout
+    requires { ⌜ Ready printer layout × (length (now line) ≤ 512) × (length (now parts) ≡ 512) ⌝ }
+    ensures { λ r. ⌜ Performed printer request layout (downOf used) (argument 0 (now (line .entry))) r ⌝ }
+{
+    let mut given = [0u16; 9];
+    let count = scan::arguments::arguments(line, 0, &mut *parts, &mut given);
+    let first = line_syntax::lines::argument(&*parts, &given, count, 0);
+    settings::page_settings::perform(request, layout, used, first, printer)
+}
+
+// The layout is the new one, or "6: number malformed" and "7: value out of range".
+fn change(new: NewLayout, layout: Layout, page: Page, collected: Collected, stack: Stack) -> Outcome
+    ensures { λ r. ⌜ r ≡ changedTo new layout page collected stack ⌝ }
+{
+    match new {
+        NewLayout::Is(changed) => stay(Way::On, changed, page, collected, stack),
+        NewLayout::Malformed => stay(Way::Refused(6), layout, page, collected, stack),
+        NewLayout::OutOfRange => stay(Way::Refused(7), layout, page, collected, stack),
+    }
+}
+
+// if: "What follows its spaces, if anything, is dealt with as a line without second expansion"
+fn follow(rest: &[u8], stack: Stack, arena: &mut [u8; 8704], ends: &mut [u16; 221]) -> Stack
+    requires { ⌜ springs.Ready stack (now arena) (now ends) (now rest) ⌝ }
+    ensures { λ r. ⌜ Followed (now (rest .entry)) stack (now (arena .entry)) (now (ends .entry)) r (now (arena .exit)) (now (ends .exit)) ⌝ }
+{
+    if rest.len() == 0 {
+        return stack;
+    }
+    match line_syntax::lines::line_of(rest) {
+        Line::Text => page::springs::hold(Held::Item(What::Text), rest, stack, arena, ends),
+        Line::Control(period, name, at) => page::springs::hold(
+            Held::Item(What::Control(period, name)),
+            &rest[at..],
+            stack,
+            arena,
+            ends,
+        ),
+        Line::Ignored => page::springs::hold(Held::Item(What::Ignored), rest, stack, arena, ends),
+    }
+}
+
+// if: without a condition it does nothing; "anything else earns 6".
+fn keep_if(
+    line: &[u8],
+    printer: Printer,
+    layout: Layout,
+    page: Page,
+    collected: Collected,
+    planted: Planted,
+    cells: &[u8; 512],
+    row: &[u8; 872],
+    stack: Stack,
+    arena: &mut [u8; 8704],
+    ends: &mut [u16; 221],
+    firsts: &[u8; 64],
+    seconds: &[u8; 64],
+    texts: usize,
+) -> Outcome
+    requires { ⌜ Begins planted (desk layout page collected (now cells) stack (now arena) (now ends)) (now line) (now row) (now firsts) (now seconds) texts × SoundPrinter printer ⌝ }
+    ensures { λ r. ⌜ Worked (λ ts s. settles (perform (printerOf printer) If (now (line .entry)) s) s) (now (firsts .entry)) (now (seconds .entry)) texts planted (desk layout page collected (now (cells .entry)) stack (now (arena .entry)) (now (ends .entry))) (r .way) (r .written) (desk (r .layout) (r .page) (r .collected) (now (cells .entry)) (r .stack) (now (arena .exit)) (now (ends .exit))) (now (row .entry)) ⌝ }
+{
+    let places = line_syntax::lines::condition_at(line, 0);
+    let from = places.from;
+    let to = places.to;
+    let rest = places.rest;
+    if from == to {
+        return stay(Way::On, layout, page, collected, stack);
+    }
+    match line_syntax::conditions::holds(&line[from..to], page.number, printer.pitch) {
+        Condition::Holds => {
+            let over = follow(&line[rest..], stack, arena, ends);
+            stay(Way::On, layout, page, collected, over)
+        }
+        Condition::Fails => stay(Way::On, layout, page, collected, stack),
+        Condition::Malformed => stay(Way::Refused(6), layout, page, collected, stack),
+    }
+}
+
+// Whether a request is if.
+fn is_if(request: Unbreaking) -> bool
+    ensures { λ r. ⌜ r ≡ isIf request ⌝ }
+{
+    match request {
+        Unbreaking::Pl => false,
+        Unbreaking::Po => false,
+        Unbreaking::Ll => false,
+        Unbreaking::Ad => false,
+        Unbreaking::Na => false,
+        Unbreaking::Nr => false,
+        Unbreaking::De => false,
+        Unbreaking::Rm => false,
+        Unbreaking::Wh => false,
+        Unbreaking::If => true,
+    }
+}
+
+// pl, po, ll, ad, na and if: what follows the name of an expanded control line is `line`.
+pub fn keep(
+    request: Unbreaking,
+    line: &[u8],
+    parts: &mut [u8; 512],
+    printer: Printer,
+    layout: Layout,
+    page: Page,
+    collected: Collected,
+    planted: Planted,
+    cells: &[u8; 512],
+    row: &[u8; 872],
+    stack: Stack,
+    arena: &mut [u8; 8704],
+    ends: &mut [u16; 221],
+    firsts: &[u8; 64],
+    seconds: &[u8; 64],
+    texts: usize,
+) -> Outcome
+    requires { ⌜ Begins planted (desk layout page collected (now cells) stack (now arena) (now ends)) (now line) (now row) (now firsts) (now seconds) texts × SoundPrinter printer × (length (now parts) ≡ 512) × (isKept request ≡ true) ⌝ }
+    ensures { λ r. ⌜ Worked (λ ts s. settles (perform (printerOf printer) request (now (line .entry)) s) s) (now (firsts .entry)) (now (seconds .entry)) texts planted (desk layout page collected (now (cells .entry)) stack (now (arena .entry)) (now (ends .entry))) (r .way) (r .written) (desk (r .layout) (r .page) (r .collected) (now (cells .entry)) (r .stack) (now (arena .exit)) (now (ends .exit))) (now (row .entry)) ⌝ }
+{
+    if is_if(request) {
+        return keep_if(
+            line,
+            printer,
+            layout,
+            page,
+            collected,
+            planted,
+            cells,
+            row,
+            stack,
+            arena,
+            ends,
+            firsts,
+            seconds,
+            texts,
+        );
+    }
+    let new = new_layout(request, line, parts, page.used, layout, printer);
+    change(new, layout, page, collected, stack)
+}
+
+// A text that is called, or "10: input stack past 16 items".
+fn land(called: Called, layout: Layout, page: Page, collected: Collected) -> Outcome
+    ensures { λ r. ⌜ r ≡ calledTo called layout page collected ⌝ }
+{
+    let stack = called.stack;
+    if called.full {
+        return stay(Way::Refused(10), layout, page, collected, stack);
+    }
+    stay(Way::On, layout, page, collected, stack)
+}
+
+// A text is called by its name with the arguments of a line.
+pub fn call(
+    name: Name,
+    line: &[u8],
+    parts: &mut [u8; 512],
+    layout: Layout,
+    page: Page,
+    collected: Collected,
+    planted: Planted,
+    cells: &[u8; 512],
+    row: &[u8; 872],
+    stack: Stack,
+    arena: &mut [u8; 8704],
+    ends: &mut [u16; 221],
+    firsts: &[u8; 64],
+    seconds: &[u8; 64],
+    texts: usize,
+) -> Outcome
+    requires { ⌜ Begins planted (desk layout page collected (now cells) stack (now arena) (now ends)) (now line) (now row) (now firsts) (now seconds) texts × (length (now parts) ≡ 512) × Known name (now firsts) (now seconds) texts ⌝ }
+    ensures { λ r. ⌜ Worked (λ ts s. goes (calledText (textOf name ts) (now (line .entry)) s)) (now (firsts .entry)) (now (seconds .entry)) texts planted (desk layout page collected (now (cells .entry)) stack (now (arena .entry)) (now (ends .entry))) (r .way) (r .written) (desk (r .layout) (r .page) (r .collected) (now (cells .entry)) (r .stack) (now (arena .exit)) (now (ends .exit))) (now (row .entry)) ⌝ }
+{
+    let mut given = [0u16; 9];
+    let count = scan::arguments::arguments(line, 0, &mut *parts, &mut given);
+    let called = page::springs::call(
+        name,
+        count as u8,
+        &*parts,
+        &given,
+        Held::Nothing,
+        b"",
+        page.last,
+        stack,
+        arena,
+        ends,
+    );
+    land(called, layout, page, collected)
+}

@@ -1,0 +1,353 @@
+// What a text line does: its words are filled, or it is written as it stands.
+use super::page_rows::Collected;
+use super::page_rows::Outcome;
+use input_stack::frames::What;
+use input_stack::stack::Stack;
+use measure::Rows;
+use page::position::Page;
+use page::springs::Held;
+use rules::Breaking;
+use settings::layout::Layout;
+use traps::table::Planted;
+ghost use Prim.Native.Nat.{_-_};
+ghost use lib.ListN.{length};
+ghost use Rattle.measure.specs.Counts.{acrossOf};
+ghost use Rattle.rules.specs.Filling.{words, leads};
+ghost use Rattle.rules.specs.TextLines as rule;
+ghost use Rattle.rules.specs.TextLines.{stands, breaks};
+ghost use Rattle.fill.specs.Words.Parts.{part, Places};
+ghost use Rattle.fill.specs.Collected.Filled.{lineOf};
+ghost use Rattle.settings.specs.Layout.Layouts.{layoutOf};
+ghost use Rattle.composition.specs.PageRows.Desk.{desk, Begins, Worked};
+ghost use Rattle.composition.specs.Filling.Words.{wordWay};
+
+// "With nf each line is written as it stands; ce centres".
+fn stand(
+    line: &[u8; 512],
+    to: usize,
+    layout: Layout,
+    page: Page,
+    collected: Collected,
+    planted: Planted,
+    cells: &[u8; 512],
+    row: &mut [u8; 872],
+    stack: Stack,
+    arena: &mut [u8; 8704],
+    ends: &mut [u16; 221],
+    firsts: &[u8; 64],
+    seconds: &[u8; 64],
+    texts: usize,
+) -> Outcome
+    requires { ⌜ Begins planted (desk layout page collected (now cells) stack (now arena) (now ends)) (now line) (now row) (now firsts) (now seconds) texts × Places (now line) 0 to ⌝ }
+    ensures { λ r. ⌜ Worked (λ ts s. rule.textWay stands (words (part (now (line .entry)) 0 to)) (part (now (line .entry)) 0 to) s) (now (firsts .entry)) (now (seconds .entry)) texts planted (desk layout page collected (now (cells .entry)) stack (now (arena .entry)) (now (ends .entry))) (r .way) (r .written) (desk (r .layout) (r .page) (r .collected) (now (cells .entry)) (r .stack) (now (arena .exit)) (now (ends .exit))) (now (row .exit)) ⌝ }
+{
+    let margin = layout.offset;
+    let offset = margin.now;
+    let centred = 0 < layout.centred;
+    let indent = settings::layout::indent_now(layout);
+    let room = settings::layout::room_now(layout);
+    let written = fill::unfilled::standing_row(
+        line,
+        0,
+        to,
+        centred,
+        room,
+        offset,
+        indent,
+        &mut *row,
+    );
+    let counted = settings::layout::counted(layout);
+    let rows = counted.page;
+    let none = super::filling::slice(line, 0, 0);
+    let landed = page::springs::down(
+        Rows(1),
+        page,
+        rows,
+        planted,
+        Held::Nothing,
+        none,
+        stack,
+        arena,
+        ends,
+        firsts,
+        seconds,
+        texts,
+    );
+    super::page_rows::lead_to(counted, collected, landed, written)
+}
+
+// "A line that, as expanded, has no bytes or only spaces acts as sp 1", its break too.
+fn blank_line(
+    layout: Layout,
+    page: Page,
+    collected: Collected,
+    planted: Planted,
+    cells: &[u8; 512],
+    row: &mut [u8; 872],
+    stack: Stack,
+    arena: &mut [u8; 8704],
+    ends: &mut [u16; 221],
+    firsts: &[u8; 64],
+    seconds: &[u8; 64],
+    texts: usize,
+) -> Outcome
+    requires { ⌜ Begins planted (desk layout page collected (now cells) stack (now arena) (now ends)) (now cells) (now row) (now firsts) (now seconds) texts ⌝ }
+    ensures { λ r. ⌜ Worked (λ ts s. rule.blankFrom (s .collected) s) (now (firsts .entry)) (now (seconds .entry)) texts planted (desk layout page collected (now (cells .entry)) stack (now (arena .entry)) (now (ends .entry))) (r .way) (r .written) (desk (r .layout) (r .page) (r .collected) (now (cells .entry)) (r .stack) (now (arena .exit)) (now (ends .exit))) (now (row .exit)) ⌝ }
+{
+    if collected.there {
+        let none = super::filling::slice(cells, 0, 0);
+        return super::page_rows::break_line(
+            Held::Item(What::Acts(Breaking::Sp)),
+            none,
+            layout,
+            page,
+            collected,
+            planted,
+            cells,
+            row,
+            stack,
+            arena,
+            ends,
+            firsts,
+            seconds,
+            texts,
+        );
+    }
+    super::page_rows::skip(
+        Rows(1),
+        layout,
+        page,
+        collected,
+        planted,
+        cells,
+        row,
+        stack,
+        arena,
+        ends,
+        firsts,
+        seconds,
+        texts,
+    )
+}
+
+// A text line breaks first where nf, ce or leading spaces ask for it, and is dealt with afresh.
+fn break_first(
+    line: &[u8; 512],
+    to: usize,
+    layout: Layout,
+    page: Page,
+    collected: Collected,
+    planted: Planted,
+    cells: &[u8; 512],
+    row: &mut [u8; 872],
+    stack: Stack,
+    arena: &mut [u8; 8704],
+    ends: &mut [u16; 221],
+    firsts: &[u8; 64],
+    seconds: &[u8; 64],
+    texts: usize,
+) -> Outcome
+    requires { ⌜ Begins planted (desk layout page collected (now cells) stack (now arena) (now ends)) (now line) (now row) (now firsts) (now seconds) texts × Places (now line) 0 to ⌝ }
+    ensures { λ r. ⌜ Worked (λ ts s. rule.textWay (breaks (lineOf (acrossOf (collected .indent)) (acrossOf (collected .room)) (now (cells .entry)) (collected .length) (collected .next))) (words (part (now (line .entry)) 0 to)) (part (now (line .entry)) 0 to) s) (now (firsts .entry)) (now (seconds .entry)) texts planted (desk layout page collected (now (cells .entry)) stack (now (arena .entry)) (now (ends .entry))) (r .way) (r .written) (desk (r .layout) (r .page) (r .collected) (now (cells .entry)) (r .stack) (now (arena .exit)) (now (ends .exit))) (now (row .exit)) ⌝ }
+{
+    let bytes = super::filling::slice(line, 0, to);
+    super::page_rows::break_line(
+        Held::Item(What::Text),
+        bytes,
+        layout,
+        page,
+        collected,
+        planted,
+        cells,
+        row,
+        stack,
+        arena,
+        ends,
+        firsts,
+        seconds,
+        texts,
+    )
+}
+
+// A text line with words, on a page that has started.
+fn word_line(
+    line: &[u8; 512],
+    to: usize,
+    layout: Layout,
+    page: Page,
+    collected: Collected,
+    planted: Planted,
+    cells: &mut [u8; 512],
+    row: &mut [u8; 872],
+    stack: Stack,
+    arena: &mut [u8; 8704],
+    ends: &mut [u16; 221],
+    firsts: &[u8; 64],
+    seconds: &[u8; 64],
+    texts: usize,
+) -> Outcome
+    requires { ⌜ Begins planted (desk layout page collected (now cells) stack (now arena) (now ends)) (now line) (now row) (now firsts) (now seconds) texts × Places (now line) 0 to ⌝ }
+    ensures { λ r. ⌜ Worked (λ ts s. rule.textWay (wordWay (collected .there) (rule.asItStands (layoutOf layout)) (leads (words (part (now (line .entry)) 0 to))) (lineOf (acrossOf (collected .indent)) (acrossOf (collected .room)) (now (cells .entry)) (collected .length) (collected .next))) (words (part (now (line .entry)) 0 to)) (part (now (line .entry)) 0 to) s) (now (firsts .entry)) (now (seconds .entry)) texts planted (desk layout page collected (now (cells .entry)) stack (now (arena .entry)) (now (ends .entry))) (r .way) (r .written) (desk (r .layout) (r .page) (r .collected) (now (cells .exit)) (r .stack) (now (arena .exit)) (now (ends .exit))) (now (row .exit)) ⌝ }
+{
+    if settings::layout::stands(layout) {
+        if collected.there {
+            return break_first(
+                line,
+                to,
+                layout,
+                page,
+                collected,
+                planted,
+                &*cells,
+                row,
+                stack,
+                arena,
+                ends,
+                firsts,
+                seconds,
+                texts,
+            );
+        }
+        return stand(
+            line,
+            to,
+            layout,
+            page,
+            collected,
+            planted,
+            &*cells,
+            row,
+            stack,
+            arena,
+            ends,
+            firsts,
+            seconds,
+            texts,
+        );
+    }
+    if collected.there {
+        if fill::words::leads(line, 0, to) {
+            return break_first(
+                line,
+                to,
+                layout,
+                page,
+                collected,
+                planted,
+                &*cells,
+                row,
+                stack,
+                arena,
+                ends,
+                firsts,
+                seconds,
+                texts,
+            );
+        }
+        return super::filling::fill_line(
+            line,
+            to,
+            layout,
+            page,
+            collected,
+            planted,
+            cells,
+            row,
+            stack,
+            arena,
+            ends,
+            firsts,
+            seconds,
+            texts,
+        );
+    }
+    super::filling::fill_line(
+        line,
+        to,
+        layout,
+        page,
+        collected,
+        planted,
+        cells,
+        row,
+        stack,
+        arena,
+        ends,
+        firsts,
+        seconds,
+        texts,
+    )
+}
+
+// A text line, as expanded.
+pub fn text_line(
+    line: &[u8; 512],
+    to: usize,
+    layout: Layout,
+    page: Page,
+    collected: Collected,
+    planted: Planted,
+    cells: &mut [u8; 512],
+    row: &mut [u8; 872],
+    stack: Stack,
+    arena: &mut [u8; 8704],
+    ends: &mut [u16; 221],
+    firsts: &[u8; 64],
+    seconds: &[u8; 64],
+    texts: usize,
+) -> Outcome
+    requires { ⌜ Begins planted (desk layout page collected (now cells) stack (now arena) (now ends)) (now line) (now row) (now firsts) (now seconds) texts × Places (now line) 0 to ⌝ }
+    ensures { λ r. ⌜ Worked (λ ts s. rule.textLine (part (now (line .entry)) 0 to) s) (now (firsts .entry)) (now (seconds .entry)) texts planted (desk layout page collected (now (cells .entry)) stack (now (arena .entry)) (now (ends .entry))) (r .way) (r .written) (desk (r .layout) (r .page) (r .collected) (now (cells .exit)) (r .stack) (now (arena .exit)) (now (ends .exit))) (now (row .exit)) ⌝ }
+{
+    if page.number == 0 {
+        let bytes = super::filling::slice(line, 0, to);
+        return super::page_rows::start(
+            Held::Item(What::Text),
+            bytes,
+            layout,
+            page,
+            collected,
+            planted,
+            &*cells,
+            row,
+            stack,
+            arena,
+            ends,
+            firsts,
+            seconds,
+            texts,
+        );
+    }
+    if fill::words::is_blank(line, 0, to) {
+        return blank_line(
+            layout,
+            page,
+            collected,
+            planted,
+            &*cells,
+            row,
+            stack,
+            arena,
+            ends,
+            firsts,
+            seconds,
+            texts,
+        );
+    }
+    word_line(
+        line,
+        to,
+        layout,
+        page,
+        collected,
+        planted,
+        cells,
+        row,
+        stack,
+        arena,
+        ends,
+        firsts,
+        seconds,
+        texts,
+    )
+}

@@ -1,0 +1,42 @@
+-- The collected line as its array stands for it, and what placing words in it answers. Assumes nothing.
+use mathlib.Core.Path.{_≡_}
+use mathlib.Core.List.{List}
+use Prim.Native.Nat.{ℕ, _≤_, _<_}
+use lib.ListN.{length, take, drop}
+use Rattle.rules.specs.Filling.{Collected, Word, word, words, width}
+use Rattle.rules.specs.Filling as rules
+use Rattle.fill.specs.Words.Parts.{part}
+use Rattle.fill.specs.declared.collected.Placed.{Placed}
+use Rattle.fill.specs.declared.collected.Placed.the-variants.{All, Full}
+
+-- the collected line in the first cells of the array
+abbrev pub lineOf : (indent room : ℕ) → (cells : List ℕ) → (count next : ℕ) → Collected
+lineOf i r cs n g = record { indent = i; room = r; cells = take n cs; next = g }
+
+-- a collected line stands in 512 cells, and no line is wider
+pub record Line (cells : List ℕ) (count room : ℕ) : Type 0 where
+  pub long : length cells ≡ 512
+  pub few : count ≤ 512
+  pub narrow : room ≤ 512
+
+-- how many cells are collected
+abbrev pub countOf : Placed → ℕ
+countOf (All n) = n
+countOf (Full o) = o .length
+
+-- the rules' answer: the line, and if it is full the word that did not fit and the other words
+abbrev pub placedOf : (indent room : ℕ) → (cells : List ℕ) → (next : ℕ) → (line : List ℕ) → (to : ℕ) → Placed → rules.Placed
+placedOf i r cs g line to (All n) = rules.all (lineOf i r cs n g)
+placedOf i r cs g line to (Full o) = rules.full (lineOf i r cs (o .length) g) (word (o .gap) (part line (o .from) (o .to))) (words (part line (o .to) to))
+
+-- where the word that did not fit stands, and its width
+abbrev pub GoodPlaced : (line : List ℕ) → (at to : ℕ) → Placed → Type 0
+GoodPlaced line at to (All n) = Unit {0}
+GoodPlaced line at to (Full o) = (at ≤ o .from) × (o .from < o .to) × (o .to ≤ to) × (o .width ≡ width (part line (o .from) (o .to)))
+
+-- words joined the collected line until one did not fit; the cells behind it are as before
+pub record PlacedTo (line : List ℕ) (at to : ℕ) (ws : List Word) (entry : List ℕ) (count room : ℕ) (r : Placed) (exit : List ℕ) : Type 0 where
+  pub is : (indent next : ℕ) → placedOf indent room exit next line to r ≡ rules.place (lineOf indent room entry count next) ws
+  pub rest : drop (countOf r) exit ≡ drop (countOf r) entry
+  pub cells : Line exit (countOf r) room
+  pub good : GoodPlaced line at to r

@@ -1,0 +1,136 @@
+// Lines that are printed as they stand, and blank rows.
+use measure::Cells;
+use measure::Rows;
+ghost use mathlib.Core.Path.{_≡_};
+ghost use lib.ListN.{length};
+ghost use Rattle.measure.specs.Counts.{acrossOf, downOf};
+ghost use Rattle.fill.specs.Collected.Writing.{Written};
+ghost use Prim.Native.Nat.{_+_, _-_, _≤_};
+ghost use Rattle.rules.specs.Filling.{words, width, printed, row as rowOf, left};
+ghost use Rattle.rules.specs.Traps.{blankRows};
+ghost use Rattle.fill.specs.Words.Parts.{part, Places};
+ghost use Rattle.fill.specs.Unfilled.Lines.{RowRoom, Margins, oneIf, isBlankByte, TextEnd, standingOf};
+
+// Codes that no source line holds: a mark of no width, a fixed blank, and the first cell of a gap in a collected line.
+const MARK: u8 = 2;
+
+const FIXED_BLANK: u8 = 3;
+
+// A count of rows as a plain number.
+fn count_rows(rows: Rows) -> usize
+    ensures { λ r. ⌜ r ≡ downOf rows ⌝ }
+{
+    measure::down(rows) as usize
+}
+
+// What is left of a room, none if more is taken.
+pub fn spare(room: usize, taken: usize) -> usize
+    ensures { λ r. ⌜ r ≡ room - taken ⌝ }
+{
+    if room < taken {
+        return 0;
+    }
+    room - taken
+}
+
+// The width of a part of a line.
+fn width_of(line: &[u8; 512], at: usize, to: usize) -> usize
+    requires { ⌜ Places (now line) at to ⌝ }
+    ensures { λ r. ⌜ r ≡ width (part (now (line .entry)) at to) ⌝ }
+{
+    let mut i = at;
+    let mut n = 0;
+    while i < to {
+        n += super::words::cell_of(line[i]);
+        i += 1;
+    }
+    n
+}
+
+// "left blanks half the spare room, cut down, none if the line is wider"
+fn left_blanks(line: &[u8; 512], at: usize, to: usize, centred: bool, room: usize) -> usize
+    requires { ⌜ Places (now line) at to ⌝ }
+    ensures { λ r. ⌜ r ≡ left (oneIf centred) (room - width (part (now (line .entry)) at to)) ⌝ }
+{
+    if centred {
+        return spare(room, width_of(line, at, to)) / 2;
+    }
+    0
+}
+
+// A byte of which nothing or a blank is printed.
+fn is_blank_byte(byte: u8) -> bool
+    ensures { λ r. ⌜ r ≡ isBlankByte byte ⌝ }
+{
+    if byte == b' ' {
+        return true;
+    }
+    if byte == FIXED_BLANK {
+        return true;
+    }
+    byte == MARK
+}
+
+// The place behind the last byte of which more than a blank is printed.
+fn text_end(line: &[u8; 512], at: usize, to: usize) -> usize
+    requires { ⌜ Places (now line) at to ⌝ }
+    ensures { λ r. ⌜ TextEnd (now (line .entry)) at to r ⌝ }
+{
+    let mut i = to;
+    while at < i {
+        if !is_blank_byte(line[i - 1]) {
+            return i;
+        }
+        i -= 1;
+    }
+    i
+}
+
+// Puts a part of a line as a row.
+fn put_text(line: &[u8; 512], at: usize, to: usize, blanks: usize, row: &mut [u8; 872]) -> usize
+    requires { ⌜ Places (now line) at to × RowRoom (now row) (blanks + 1) (printed (part (now line) at to)) ⌝ }
+    ensures { λ r. ⌜ Written (now (row .entry)) 0 (rowOf blanks (printed (part (now (line .entry)) at to))) (now (row .exit)) r ⌝ }
+    ensures { λ r. ⌜ r ≤ 872 ⌝ }
+{
+    let end = text_end(line, at, to);
+    if end == at {
+        row[0] = b'\n';
+        return 1;
+    }
+    super::collected::put_run(&mut *row, 0, blanks, b' ');
+    let n = super::collected::put_word(line, at, end, &mut *row, blanks);
+    row[n] = b'\n';
+    n + 1
+}
+
+// A line that is written as it stands, or centred.
+pub fn standing_row(
+    line: &[u8; 512],
+    at: usize,
+    to: usize,
+    centred: bool,
+    room: Cells,
+    offset: Cells,
+    indent: Cells,
+    row: &mut [u8; 872],
+) -> usize
+    requires { ⌜ Places (now line) at to × (acrossOf room ≤ 512) × Margins (now row) offset indent ⌝ }
+    ensures { λ r. ⌜ Written (now (row .entry)) 0 (standingOf (acrossOf offset) (acrossOf indent) (acrossOf room) centred (words (part (now (line .entry)) at to))) (now (row .exit)) r ⌝ }
+    ensures { λ r. ⌜ r ≤ 872 ⌝ }
+{
+    let end = super::words::trim_end(line, at, to);
+    let left = left_blanks(line, at, end, centred, super::words::count(room));
+    let blanks = super::words::count(offset) + super::words::count(indent) + left;
+    put_text(line, at, end, blanks, row)
+}
+
+// Blank rows.
+pub fn blank_rows(rows: Rows, row: &mut [u8; 872]) -> usize
+    requires { ⌜ (length (now row) ≡ 872) × (downOf rows ≤ 500) ⌝ }
+    ensures { λ r. ⌜ Written (now (row .entry)) 0 (blankRows (downOf rows)) (now (row .exit)) r ⌝ }
+    ensures { λ r. ⌜ r ≤ 872 ⌝ }
+{
+    let n = count_rows(rows);
+    super::collected::put_run(&mut *row, 0, n, b'\n');
+    n
+}

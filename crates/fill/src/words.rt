@@ -1,0 +1,167 @@
+// The words of an expanded line and the gaps between them.
+use measure::Cells;
+ghost use mathlib.Core.Path.{_≡_};
+ghost use Rattle.measure.specs.Counts.{acrossOf};
+ghost use Prim.Native.Nat.{_+_, _-_, _≤_};
+ghost use lib.Dec.{eqb};
+ghost use Rattle.rules.specs.Bytes.{mark};
+ghost use Rattle.rules.specs.Filling.{words, countIf, leads as leadsOf, trimmed, isStop, gapIf, gapAfter, width};
+ghost use Rattle.fill.specs.Words.Parts.{part, Places};
+ghost use Rattle.fill.specs.Words.Words.{spaces, WordEndIs, nextOf, GoodNext, isNone};
+
+// Codes that no source line holds: a mark of no width, a fixed blank, and the first cell of a gap in a collected line.
+const MARK: u8 = 2;
+
+// The place behind a word, and the word's width.
+pub struct WordEnd {
+    pub to: usize,
+    pub width: usize,
+}
+
+// A word of a line: the gap before it, where it stands, and its width.
+pub struct WordAt {
+    pub gap: usize,
+    pub from: usize,
+    pub to: usize,
+    pub width: usize,
+}
+
+// The next word, if there is one.
+pub enum Next {
+    Found(WordAt),
+    Nothing,
+}
+
+// The place behind the spaces that lead.
+pub fn skip_spaces(line: &[u8; 512], at: usize, to: usize) -> usize
+    requires { ⌜ Places (now line) at to ⌝ }
+    ensures { λ r. ⌜ r ≡ at + spaces (part (now (line .entry)) at to) ⌝ }
+    ensures { λ r. ⌜ (at ≤ r) × (r ≤ to) ⌝ }
+{
+    let mut i = at;
+    while i < to {
+        if line[i] != b' ' {
+            return i;
+        }
+        i += 1;
+    }
+    i
+}
+
+// "a mark of no width"
+pub fn cell_of(byte: u8) -> usize
+    ensures { λ r. ⌜ r ≡ countIf (eqb byte mark) 0 ⌝ }
+    ensures { λ r. ⌜ r ≤ 1 ⌝ }
+{
+    if byte == MARK { 0 } else { 1 }
+}
+
+// The end of the word that begins at a place, and its width.
+pub fn word_end(line: &[u8; 512], at: usize, to: usize) -> WordEnd
+    requires { ⌜ Places (now line) at to ⌝ }
+    ensures { λ r. ⌜ WordEndIs (now (line .entry)) at to r ⌝ }
+{
+    let mut i = at;
+    let mut width = 0;
+    while i < to {
+        let byte = line[i];
+        if byte == b' ' {
+            return WordEnd { to: i, width };
+        }
+        width += cell_of(byte);
+        i += 1;
+    }
+    WordEnd { to: i, width }
+}
+
+// The first word of a part of a line.
+pub fn next_word(line: &[u8; 512], at: usize, to: usize) -> Next
+    requires { ⌜ Places (now line) at to ⌝ }
+    ensures { λ r. ⌜ nextOf (now (line .entry)) to r ≡ words (part (now (line .entry)) at to) ⌝ }
+    ensures { λ r. ⌜ GoodNext (now (line .entry)) at to r ⌝ }
+{
+    let from = skip_spaces(line, at, to);
+    if from == to {
+        return Next::Nothing;
+    }
+    let end = word_end(line, from, to);
+    Next::Found(WordAt {
+        gap: from - at,
+        from,
+        to: end.to,
+        width: end.width,
+    })
+}
+
+// "A line that, as expanded, has no bytes or only spaces"
+pub fn is_blank(line: &[u8; 512], at: usize, to: usize) -> bool
+    requires { ⌜ Places (now line) at to ⌝ }
+    ensures { λ r. ⌜ r ≡ isNone (words (part (now (line .entry)) at to)) ⌝ }
+{
+    skip_spaces(line, at, to) == to
+}
+
+// "Leading spaces break": whether there are any before a word.
+pub fn leads(line: &[u8; 512], at: usize, to: usize) -> bool
+    requires { ⌜ Places (now line) at to ⌝ }
+    ensures { λ r. ⌜ r ≡ leadsOf (words (part (now (line .entry)) at to)) ⌝ }
+{
+    let from = skip_spaces(line, at, to);
+    if from == to {
+        return false;
+    }
+    at < from
+}
+
+// The place behind the last byte that is no space: "trailing spaces are dropped".
+pub fn trim_end(line: &[u8; 512], at: usize, to: usize) -> usize
+    requires { ⌜ Places (now line) at to ⌝ }
+    ensures { λ r. ⌜ part (now (line .entry)) at r ≡ trimmed (part (now (line .entry)) at to) ⌝ }
+    ensures { λ r. ⌜ (at ≤ r) × (r ≤ to) ⌝ }
+{
+    let mut i = to;
+    while at < i {
+        if line[i - 1] != b' ' {
+            return i;
+        }
+        i -= 1;
+    }
+    i
+}
+
+// "the gap between input lines is 1, or 2 after a line ending in . ? !"
+fn gap_behind(byte: u8) -> usize
+    ensures { λ r. ⌜ r ≡ gapIf (isStop byte) ⌝ }
+    ensures { λ r. ⌜ r ≤ 2 ⌝ }
+{
+    if byte == b'.' {
+        return 2;
+    }
+    if byte == b'?' {
+        return 2;
+    }
+    if byte == b'!' {
+        return 2;
+    }
+    1
+}
+
+// The gap that a line's ending asks for.
+pub fn gap_after(line: &[u8; 512], at: usize, to: usize) -> usize
+    requires { ⌜ Places (now line) at to ⌝ }
+    ensures { λ r. ⌜ r ≡ gapAfter (words (part (now (line .entry)) at to)) ⌝ }
+    ensures { λ r. ⌜ r ≤ 2 ⌝ }
+{
+    let end = trim_end(line, at, to);
+    if end == at {
+        return 1;
+    }
+    gap_behind(line[end - 1])
+}
+
+// A count of cells as a plain number.
+pub fn count(cells: Cells) -> usize
+    ensures { λ r. ⌜ r ≡ acrossOf cells ⌝ }
+{
+    measure::across(cells) as usize
+}

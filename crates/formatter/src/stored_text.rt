@@ -1,0 +1,167 @@
+// The line of a text that is read is dealt with.
+use super::stored_lines::Performed;
+use super::stored_lines::Unread;
+use line_execution::no_break_requests::stay;
+use page::springs::Way;
+use rules::Name;
+use settings::layout::Printer;
+use state::Status;
+use state::Step;
+use texts::lines::Top;
+ghost use mathlib.Core.List.{[]};
+ghost use Prim.Native.Nat.{_+_, _<_};
+ghost use Rattle.rules.specs.ControlLines as rules;
+ghost use Rattle.scan.specs.Arguments.Around.{argumentsOf, Arguments};
+ghost use Rattle.texts.specs.Lines.Lines.{nextLine, TopInside};
+ghost use Rattle.settings.specs.Layout.Layouts.{printerOf};
+ghost use Rattle.input_stack.specs.Stack.Frames.{topBytes, topEnds, Topped};
+ghost use Rattle.state.specs.Whole.{Did};
+ghost use Rattle.state.specs.Statuses.{wholeOf, Begins};
+ghost use Rattle.formatter.specs.StoredLines.Works.{ReadyText, WorkedTo};
+
+// A line of the text on top of the stack, with the arguments of its call.
+fn deal_stored(
+    top: Top,
+    count: u8,
+    printer: Printer,
+    status: Status,
+    cells: &mut [u8; 512],
+    row: &mut [u8; 872],
+    arena: &mut [u8; 8704],
+    ends: &mut [u16; 221],
+    store: &mut [u8],
+    text_firsts: &mut [u8; 64],
+    text_seconds: &mut [u8; 64],
+    kinds: &mut [u8; 64],
+    lengths: &mut [u16; 64],
+    firsts: &mut [u8; 64],
+    seconds: &mut [u8; 64],
+    values: &mut [i32; 64],
+    steps: &mut [i32; 64],
+) -> Step
+    requires { ⌜ Begins (wholeOf status (now cells) (now arena) (now ends) (now store) (now «text_firsts») (now «text_seconds») (now kinds) (now lengths) (now firsts) (now seconds) (now values) (now steps)) [] (now row) printer × TopInside [] (now store) top × Topped (status .stack) (now ends) × Arguments (topBytes (status .stack) (now arena) (now ends)) (topEnds (status .stack) (now ends)) count ⌝ }
+    ensures { λ r. ⌜ Did (λ s. rules.deal (printerOf printer) (argumentsOf (topBytes (status .stack) (now (arena .entry)) (now (ends .entry))) (topEnds (status .stack) (now (ends .entry))) count) (nextLine [] (now (store .entry)) top) s) (wholeOf status (now (cells .entry)) (now (arena .entry)) (now (ends .entry)) (now (store .entry)) (now («text_firsts» .entry)) (now («text_seconds» .entry)) (now (kinds .entry)) (now (lengths .entry)) (now (firsts .entry)) (now (seconds .entry)) (now (values .entry)) (now (steps .entry))) (r .way) (r .written) (wholeOf (r .status) (now (cells .exit)) (now (arena .exit)) (now (ends .exit)) (now (store .exit)) (now («text_firsts» .exit)) (now («text_seconds» .exit)) (now (kinds .exit)) (now (lengths .exit)) (now (firsts .exit)) (now (seconds .exit)) (now (values .exit)) (now (steps .exit))) (now (row .exit)) ⌝ }
+{
+    let layout = status.layout;
+    let page = status.page;
+    let opening = status.opening;
+    let stack = status.stack;
+    let mut given = [0u16; 9];
+    input_stack::stack::load_ends(stack, &*ends, &mut given);
+    let mut out = [0u8; 512];
+    let arguments = input_stack::stack::top_bytes(stack, &*arena, &*ends);
+    let dealt = line_expansion::read(
+        b"",
+        top,
+        opening.there,
+        printer,
+        layout,
+        page,
+        &*store,
+        &*text_firsts,
+        &*text_seconds,
+        &*kinds,
+        &*lengths,
+        status.texts,
+        &*firsts,
+        &*seconds,
+        &mut *values,
+        &*steps,
+        status.registers,
+        arguments,
+        &given,
+        count as usize,
+        &mut out,
+    );
+    line_execution::expanded_lines::finish(
+        dealt,
+        &out,
+        printer,
+        status,
+        cells,
+        row,
+        arena,
+        ends,
+        store,
+        text_firsts,
+        text_seconds,
+        kinds,
+        lengths,
+        firsts,
+        seconds,
+        values,
+        steps,
+    )
+}
+
+// A text on top of the stack: its next line is dealt with, or it leaves the stack.
+pub fn read_text(
+    name: Name,
+    place: u16,
+    count: u8,
+    stored: u16,
+    printer: Printer,
+    status: Status,
+    cells: &mut [u8; 512],
+    row: &mut [u8; 872],
+    arena: &mut [u8; 8704],
+    ends: &mut [u16; 221],
+    store: &mut [u8],
+    text_firsts: &mut [u8; 64],
+    text_seconds: &mut [u8; 64],
+    kinds: &mut [u8; 64],
+    lengths: &mut [u16; 64],
+    firsts: &mut [u8; 64],
+    seconds: &mut [u8; 64],
+    values: &mut [i32; 64],
+    steps: &mut [i32; 64],
+) -> Performed
+    requires { ⌜ ReadyText (wholeOf status (now cells) (now arena) (now ends) (now store) (now «text_firsts») (now «text_seconds») (now kinds) (now lengths) (now firsts) (now seconds) (now values) (now steps)) stored (now row) printer name place count ⌝ }
+    ensures { λ r. ⌜ WorkedTo (printerOf printer) (wholeOf status (now (cells .entry)) (now (arena .entry)) (now (ends .entry)) (now (store .entry)) (now («text_firsts» .entry)) (now («text_seconds» .entry)) (now (kinds .entry)) (now (lengths .entry)) (now (firsts .entry)) (now (seconds .entry)) (now (values .entry)) (now (steps .entry))) stored (r .way) (r .written) (wholeOf (r .status) (now (cells .exit)) (now (arena .exit)) (now (ends .exit)) (now (store .exit)) (now («text_firsts» .exit)) (now («text_seconds» .exit)) (now (kinds .exit)) (now (lengths .exit)) (now (firsts .exit)) (now (seconds .exit)) (now (values .exit)) (now (steps .exit))) (r .stored) (now (row .exit)) ⌝ }
+{
+    let stack = status.stack;
+    let found = texts::table::look_up(
+        &*store,
+        &*text_firsts,
+        &*text_seconds,
+        &*kinds,
+        &*lengths,
+        status.texts,
+        name,
+    );
+    match super::stored_lines::unread_line(&*store, found, place) {
+        Unread::Line(top, next) => {
+            input_stack::stack::set_place(stack, &mut *ends, next);
+            if stored < 10000 {
+                let step = deal_stored(
+                    top,
+                    count,
+                    printer,
+                    status,
+                    cells,
+                    row,
+                    arena,
+                    ends,
+                    store,
+                    text_firsts,
+                    text_seconds,
+                    kinds,
+                    lengths,
+                    firsts,
+                    seconds,
+                    values,
+                    steps,
+                );
+                return super::stored_lines::counted(step, stored + 1);
+            }
+            super::stored_lines::counted(stay(Way::Refused(10), status), stored)
+        }
+        Unread::Nothing => super::stored_lines::counted(
+            super::stored_lines::leave(super::stored_lines::with_stack(
+                status,
+                input_stack::stack::pop(stack),
+            )),
+            stored,
+        ),
+    }
+}

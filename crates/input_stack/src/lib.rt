@@ -1,0 +1,3 @@
+// The input stack: its items as numbers, and the stack of them.
+pub mod frames;
+pub mod stack;

@@ -1,0 +1,69 @@
+-- `line_execution::control_lines::request` meets its contract. Assumes nothing.
+use native.Mathlib.Omega.{arith}
+use denote.Ref.{now}
+use Rattle.rules.specs.Acts.{defines}
+use Rattle.settings.specs.Layout.Layouts.{printerOf}
+use Rattle.composition.specs.BreakRequests.Obeying.{obeyed}
+use Rattle.state.specs.WholeLaws.{desk-did}
+use Rattle.state.specs.Statuses.{wholeOf}
+use Rattle.line_execution.specs.NoBreakRequests.StepLaws.{begins-desk, changed-did}
+use borrow.Author.Needs.{needs}
+use Rattle.line_execution.proofs.control_lines.request.Statement.{statement}
+use Rattle.line_execution.proofs.control_lines.request.Tie as tie
+
+enum-known-request : tie.Need-enum-known-request
+enum-known-request c = search needs
+
+obey-requires : tie.Need-obey-requires
+obey-requires c κs = let y = (c .before .before .before .before .before .before .before .before .before .before .before .before .before .before .before .before) in let a = y .args in let b = y .pre .0 in (begins-desk (a .status) (now (a .cells)) (now (a .arena)) (now (a .ends)) (now (a .store)) (now (a .text-firsts)) (now (a .text-seconds)) (now (a .kinds)) (now (a .lengths)) (now (a .firsts)) (now (a .seconds)) (now (a .values)) (now (a .steps)) (now (a .line)) (now (a .row)) (a .printer) b, b .printer, search needs)
+
+moved-requires : tie.Need-moved-requires
+moved-requires c κs = search needs
+
+enum-known-request-2 : tie.Need-enum-known-request-2
+enum-known-request-2 c = search needs
+
+perform-requires : tie.Need-perform-requires
+perform-requires c κs = search needs
+
+enum-told : tie.Need-enum-told
+enum-told c = search needs
+
+define-requires : tie.Need-define-requires
+define-requires c κs = let y = (c .before .before .before .before .before .before .before .before .before .before .before .before .before .before .before .before) in let a = y .args in let b = y .pre .0 in (record { ready = record { lies = b .sound .lies; few = omega (arith, b .items) }; long = b .sound .store }, b .short, search needs)
+
+changed-requires : tie.Need-changed-requires
+changed-requires c κs = search needs
+
+returns : tie.Need-returns
+returns c = let y = (c .before .before .before .before .before .before .before .before .before .before .before .before .before .before .before .before .before .before) in let a = y .args in let b = y .pre .0 in rw (c .before .before .before .before .before .before .before .before .before .request .given .1, c .moved .ensures) (desk-did (λ ts s. obeyed (printerOf (a .printer)) (a .period) (c .before .before .before .before .before .before .before .before .before .request .given .0 .0) (a .name) (now (a .line)) s) (wholeOf (a .status) (now (a .cells)) (now (a .arena)) (now (a .ends)) (now (a .store)) (now (a .text-firsts)) (now (a .text-seconds)) (now (a .kinds)) (now (a .lengths)) (now (a .firsts)) (now (a .seconds)) (now (a .values)) (now (a .steps))) _ _ _ _ (b .sound) (c .before .obey .ensures))
+
+same-length : tie.Need-same-length
+same-length c = search needs
+
+returns-2 : tie.Need-returns-2
+returns-2 c = rw (c .before .before .before .before .before .before .before .before .before .before .before .before .before .before .before .before .request2 .given .1) (c .before .before .perform .ensures)
+
+same-length-2 : tie.Need-same-length-2
+same-length-2 c = search needs
+
+returns-3 : tie.Need-returns-3
+returns-3 c = let y = (c .before .before .before .before .before .before .before .before .before .before .before .before .before .before .before .before .before .before .before .before) in let a = y .args in let b = y .pre .0 in rw (c .before .before .before .before .before .before .before .before .before .before .before .enum-told .given .1, c .changed .ensures) (changed-did (a .status) (now (a .cells)) (now (a .arena)) (now (a .ends)) (now (a .store)) (now (a .text-firsts)) (now (a .text-seconds)) (now (a .kinds)) (now (a .lengths)) (now (a .firsts)) (now (a .seconds)) (now (a .values)) (now (a .steps)) (now (a .line)) (now (a .row)) (a .printer) b (y .pre .1) _ _ _ _ _ (defines (a .after-if) (now (a .line))) _ (c .before .before .before .define .ensures .changes))
+
+pub request-spec : {M : Type 1} → statement M
+request-spec =
+    tie.close
+    (tie.spec
+    enum-known-request
+    obey-requires
+    moved-requires
+    enum-known-request-2
+    perform-requires
+    enum-told
+    define-requires
+    changed-requires
+    returns
+    same-length
+    returns-2
+    same-length-2
+    returns-3)

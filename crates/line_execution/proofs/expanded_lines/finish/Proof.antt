@@ -1,0 +1,131 @@
+-- `line_execution::expanded_lines::finish` meets its contract. Assumes nothing.
+use mathlib.Core.Path.{refl, sym, ap, subst}
+use mathlib.Core.Bool.{Bool, false}
+use mathlib.Core.List.{List}
+use Prim.Native.Nat.{ℕ}
+use native.Mathlib.Omega.{arith}
+use denote.Ref.{now}
+use Rattle.rules.specs.Rows.{goes, refuses}
+use Rattle.rules.specs.TextLines.{textLine}
+use Rattle.rules.specs.ControlLines.{meaningOf, obey}
+use Rattle.settings.specs.Layout.Layouts.{printerOf}
+use Rattle.fill.specs.Words.Parts.{part}
+use Rattle.page.specs.declared.springs.Way.the-variants.{On, Refused}
+use Rattle.state.specs.Whole.{textsIn, stateIn, OpensIn}
+use Rattle.state.specs.WholeLaws.{desk-did, did-as, stay-did}
+use Rattle.line_expansion.specs.declared.Dealt.the-variants as dealt
+use Rattle.line_expansion.specs.Dealing.{keepsIn, dealtOf, SoundDealt}
+use Rattle.state.specs.Statuses.{wholeOf}
+use Rattle.line_execution.specs.NoBreakRequests.StepLaws.{front-part, front-short, closes-open, keeps-open, words-short, control-closed, begins-desk, closed-did, kept-did}
+use borrow.Author.Needs.{needs}
+use Rattle.line_execution.proofs.expanded_lines.finish.Statement.{statement}
+use Rattle.line_execution.proofs.expanded_lines.finish.Tie as tie
+
+enum-told : tie.Need-enum-told
+enum-told c = search needs
+
+close-macro-requires : tie.Need-close-macro-requires
+close-macro-requires c κs = let y = (c .before .before .before .before .before .before .before .before .before .before .before .before .before .before .before) in let a = y .args in let b = y .pre .0 in let h = closes-open (a .status .opening .there) (textsIn ((wholeOf (a .status) (now (a .cells)) (now (a .arena)) (now (a .ends)) (now (a .store)) (now (a .text-firsts)) (now (a .text-seconds)) (now (a .kinds)) (now (a .lengths)) (now (a .firsts)) (now (a .seconds)) (now (a .values)) (now (a .steps))) .texts)) (subst (SoundDealt (a .status .opening .there) (textsIn ((wholeOf (a .status) (now (a .cells)) (now (a .arena)) (now (a .ends)) (now (a .store)) (now (a .text-firsts)) (now (a .text-seconds)) (now (a .kinds)) (now (a .lengths)) (now (a .firsts)) (now (a .seconds)) (now (a .values)) (now (a .steps))) .texts))) (c .before .before .before .before .before .before .enum-told .given .1) (y .pre .2)) in (b .sound .lies, subst (λ (t : Bool). OpensIn t (a .status .opening) ((wholeOf (a .status) (now (a .cells)) (now (a .arena)) (now (a .ends)) (now (a .store)) (now (a .text-firsts)) (now (a .text-seconds)) (now (a .kinds)) (now (a .lengths)) (now (a .firsts)) (now (a .seconds)) (now (a .values)) (now (a .steps))) .texts)) h (b .sound .opens))
+
+closed-requires : tie.Need-closed-requires
+closed-requires c κs = search needs
+
+enum-known-dealt : tie.Need-enum-known-dealt
+enum-known-dealt c = search needs
+
+front-requires : tie.Need-front-requires
+front-requires c κs = let y = (c .before .before .before .before .before .before .before .before .before .before .before) in let a = y .args in let b = y .pre .0 in let h = keeps-open (a .status .opening .there) (textsIn ((wholeOf (a .status) (now (a .cells)) (now (a .arena)) (now (a .ends)) (now (a .store)) (now (a .text-firsts)) (now (a .text-seconds)) (now (a .kinds)) (now (a .lengths)) (now (a .firsts)) (now (a .seconds)) (now (a .values)) (now (a .steps))) .texts)) _ (subst (SoundDealt (a .status .opening .there) (textsIn ((wholeOf (a .status) (now (a .cells)) (now (a .arena)) (now (a .ends)) (now (a .store)) (now (a .text-firsts)) (now (a .text-seconds)) (now (a .kinds)) (now (a .lengths)) (now (a .firsts)) (now (a .seconds)) (now (a .values)) (now (a .steps))) .texts))) (c .before .before .dealt .given .1) (y .pre .2)) in omega (arith, h .1, y .pre .1)
+
+keep-line-requires : tie.Need-keep-line-requires
+keep-line-requires c κs = let y = (c .before .before .before .before .before .before .before .before .before .before .before .before .before .before) in let a = y .args in let b = y .pre .0 in let h = keeps-open (a .status .opening .there) (textsIn ((wholeOf (a .status) (now (a .cells)) (now (a .arena)) (now (a .ends)) (now (a .store)) (now (a .text-firsts)) (now (a .text-seconds)) (now (a .kinds)) (now (a .lengths)) (now (a .firsts)) (now (a .seconds)) (now (a .values)) (now (a .steps))) .texts)) _ (subst (SoundDealt (a .status .opening .there) (textsIn ((wholeOf (a .status) (now (a .cells)) (now (a .arena)) (now (a .ends)) (now (a .store)) (now (a .text-firsts)) (now (a .text-seconds)) (now (a .kinds)) (now (a .lengths)) (now (a .firsts)) (now (a .seconds)) (now (a .values)) (now (a .steps))) .texts))) (c .before .before .before .before .before .dealt .given .1) (y .pre .2)) in subst (λ (t : Bool). OpensIn t (a .status .opening) ((wholeOf (a .status) (now (a .cells)) (now (a .arena)) (now (a .ends)) (now (a .store)) (now (a .text-firsts)) (now (a .text-seconds)) (now (a .kinds)) (now (a .lengths)) (now (a .firsts)) (now (a .seconds)) (now (a .values)) (now (a .steps))) .texts)) (h .0) (b .sound .opens)
+
+kept-requires : tie.Need-kept-requires
+kept-requires c κs = search needs
+
+enum-known-dealt-2 : tie.Need-enum-known-dealt-2
+enum-known-dealt-2 c = search needs
+
+text-line-requires : tie.Need-text-line-requires
+text-line-requires c κs = let y = (c .before .before .before .before .before .before .before .before .before .before .before .before .before .before .before .before) in let a = y .args in let b = y .pre .0 in let h = words-short (a .status .opening .there) (textsIn ((wholeOf (a .status) (now (a .cells)) (now (a .arena)) (now (a .ends)) (now (a .store)) (now (a .text-firsts)) (now (a .text-seconds)) (now (a .kinds)) (now (a .lengths)) (now (a .firsts)) (now (a .seconds)) (now (a .values)) (now (a .steps))) .texts)) _ (subst (SoundDealt (a .status .opening .there) (textsIn ((wholeOf (a .status) (now (a .cells)) (now (a .arena)) (now (a .ends)) (now (a .store)) (now (a .text-firsts)) (now (a .text-seconds)) (now (a .kinds)) (now (a .lengths)) (now (a .firsts)) (now (a .seconds)) (now (a .values)) (now (a .steps))) .texts))) (c .before .before .before .before .before .before .before .dealt2 .given .1) (y .pre .2)) in (begins-desk (a .status) (now (a .cells)) (now (a .arena)) (now (a .ends)) (now (a .store)) (now (a .text-firsts)) (now (a .text-seconds)) (now (a .kinds)) (now (a .lengths)) (now (a .firsts)) (now (a .seconds)) (now (a .values)) (now (a .steps)) (now (a .out)) (now (a .row)) (a .printer) b, record { long = y .pre .1; ordered = omega arith; few = h })
+
+moved-requires : tie.Need-moved-requires
+moved-requires c κs = search needs
+
+enum-known-dealt-3 : tie.Need-enum-known-dealt-3
+enum-known-dealt-3 c = search needs
+
+front-requires-2 : tie.Need-front-requires-2
+front-requires-2 c κs = let y = (c .before .before .before .before .before .before .before .before .before .before .before) in let a = y .args in let b = y .pre .0 in let h = control-closed (a .status .opening .there) (textsIn ((wholeOf (a .status) (now (a .cells)) (now (a .arena)) (now (a .ends)) (now (a .store)) (now (a .text-firsts)) (now (a .text-seconds)) (now (a .kinds)) (now (a .lengths)) (now (a .firsts)) (now (a .seconds)) (now (a .values)) (now (a .steps))) .texts)) _ _ _ _ (subst (SoundDealt (a .status .opening .there) (textsIn ((wholeOf (a .status) (now (a .cells)) (now (a .arena)) (now (a .ends)) (now (a .store)) (now (a .text-firsts)) (now (a .text-seconds)) (now (a .kinds)) (now (a .lengths)) (now (a .firsts)) (now (a .seconds)) (now (a .values)) (now (a .steps))) .texts))) (c .before .before .dealt3 .given .1) (y .pre .2)) in omega (arith, h .1, y .pre .1)
+
+obey-requires : tie.Need-obey-requires
+obey-requires c κs = let y = (c .before .before .before .before .before .before .before .before .before .before .before .before .before .before .before .before .before .before .before .before .before .before .before .before .before) in let a = y .args in let b = y .pre .0 in let h = control-closed (a .status .opening .there) (textsIn ((wholeOf (a .status) (now (a .cells)) (now (a .arena)) (now (a .ends)) (now (a .store)) (now (a .text-firsts)) (now (a .text-seconds)) (now (a .kinds)) (now (a .lengths)) (now (a .firsts)) (now (a .seconds)) (now (a .values)) (now (a .steps))) .texts)) _ _ _ _ (subst (SoundDealt (a .status .opening .there) (textsIn ((wholeOf (a .status) (now (a .cells)) (now (a .arena)) (now (a .ends)) (now (a .store)) (now (a .text-firsts)) (now (a .text-seconds)) (now (a .kinds)) (now (a .lengths)) (now (a .firsts)) (now (a .seconds)) (now (a .values)) (now (a .steps))) .texts))) (c .before .before .before .before .before .before .before .before .before .before .before .before .before .before .before .before .dealt3 .given .1) (y .pre .2)) in (record { sound = b .sound; items = b .items; short = rw (c .before .before .before .before .before .before .before .before .before .before .before .before .before .front2 .ensures) (front-short (now (a .out)) _ (h .1)); long = b .long; printer = b .printer }, h .0, h .2)
+
+enum-told-2 : tie.Need-enum-told-2
+enum-told-2 c = search needs
+
+stay-requires : tie.Need-stay-requires
+stay-requires c κs = search needs
+
+enum-known-dealt-4 : tie.Need-enum-known-dealt-4
+enum-known-dealt-4 c = search needs
+
+stay-requires-2 : tie.Need-stay-requires-2
+stay-requires-2 c κs = search needs
+
+same-length : tie.Need-same-length
+same-length c = search needs
+
+returns : tie.Need-returns
+returns c = let y = (c .before .before .before .before .before .before .before .before .before .before .before .before .before .before .before .before .before) in let a = y .args in let b = y .pre .0 in let h = closes-open (a .status .opening .there) (textsIn ((wholeOf (a .status) (now (a .cells)) (now (a .arena)) (now (a .ends)) (now (a .store)) (now (a .text-firsts)) (now (a .text-seconds)) (now (a .kinds)) (now (a .lengths)) (now (a .firsts)) (now (a .seconds)) (now (a .values)) (now (a .steps))) .texts)) (subst (SoundDealt (a .status .opening .there) (textsIn ((wholeOf (a .status) (now (a .cells)) (now (a .arena)) (now (a .ends)) (now (a .store)) (now (a .text-firsts)) (now (a .text-seconds)) (now (a .kinds)) (now (a .lengths)) (now (a .firsts)) (now (a .seconds)) (now (a .values)) (now (a .steps))) .texts))) (c .before .before .before .before .before .before .before .before .enum-told .given .1) (y .pre .2)) in rw (c .before .before .before .before .before .before .before .before .enum-told .given .1, c .closed .ensures) (closed-did (a .status) (now (a .cells)) (now (a .arena)) (now (a .ends)) (now (a .store)) (now (a .text-firsts)) (now (a .text-seconds)) (now (a .kinds)) (now (a .lengths)) (now (a .firsts)) (now (a .seconds)) (now (a .values)) (now (a .steps)) (now (a .out)) (now (a .row)) (a .printer) b (printerOf (a .printer)) _ _ _ _ _ h (c .before .close-macro .ensures))
+
+same-length-2 : tie.Need-same-length-2
+same-length-2 c = search needs
+
+returns-2 : tie.Need-returns-2
+returns-2 c = let y = (c .before .before .before .before .before .before .before .before .before .before .before .before .before .before .before .before .before .before) in let a = y .args in let b = y .pre .0 in let h = keeps-open (a .status .opening .there) (textsIn ((wholeOf (a .status) (now (a .cells)) (now (a .arena)) (now (a .ends)) (now (a .store)) (now (a .text-firsts)) (now (a .text-seconds)) (now (a .kinds)) (now (a .lengths)) (now (a .firsts)) (now (a .seconds)) (now (a .values)) (now (a .steps))) .texts)) _ (subst (SoundDealt (a .status .opening .there) (textsIn ((wholeOf (a .status) (now (a .cells)) (now (a .arena)) (now (a .ends)) (now (a .store)) (now (a .text-firsts)) (now (a .text-seconds)) (now (a .kinds)) (now (a .lengths)) (now (a .firsts)) (now (a .seconds)) (now (a .values)) (now (a .steps))) .texts))) (c .before .before .before .before .before .before .before .before .before .dealt .given .1) (y .pre .2)) in rw (c .before .before .before .before .before .before .before .before .before .dealt .given .1, c .kept .ensures) (did-as _ (dealtOf (printerOf (a .printer)) (dealt.Keeps (c .before .before .before .before .before .before .before .before .before .dealt .given .0 .0)) (now (a .out))) (wholeOf (a .status) (now (a .cells)) (now (a .arena)) (now (a .ends)) (now (a .store)) (now (a .text-firsts)) (now (a .text-seconds)) (now (a .kinds)) (now (a .lengths)) (now (a .firsts)) (now (a .seconds)) (now (a .values)) (now (a .steps))) _ _ _ _ (λ x. ap (λ (l : List ℕ). keepsIn (printerOf (a .printer)) (stateIn (wholeOf (a .status) (now (a .cells)) (now (a .arena)) (now (a .ends)) (now (a .store)) (now (a .text-firsts)) (now (a .text-seconds)) (now (a .kinds)) (now (a .lengths)) (now (a .firsts)) (now (a .seconds)) (now (a .values)) (now (a .steps))) x .tables .opened) l (stateIn (wholeOf (a .status) (now (a .cells)) (now (a .arena)) (now (a .ends)) (now (a .store)) (now (a .text-firsts)) (now (a .text-seconds)) (now (a .kinds)) (now (a .lengths)) (now (a .firsts)) (now (a .seconds)) (now (a .values)) (now (a .steps))) x)) (c .before .before .before .before .before .before .front .ensures)) (kept-did (a .status) (now (a .cells)) (now (a .arena)) (now (a .ends)) (now (a .store)) (now (a .text-firsts)) (now (a .text-seconds)) (now (a .kinds)) (now (a .lengths)) (now (a .firsts)) (now (a .seconds)) (now (a .values)) (now (a .steps)) (now (a .out)) (now (a .row)) (a .printer) b (printerOf (a .printer)) _ _ (h .0) _ (c .before .before .before .keep-line .ensures)))
+
+returns-3 : tie.Need-returns-3
+returns-3 c = let y = (c .before .before .before .before .before .before .before .before .before .before .before .before .before .before .before .before .before .before) in let a = y .args in let b = y .pre .0 in rw (c .before .before .before .before .before .before .before .before .before .dealt2 .given .1, c .moved .ensures) (did-as _ (dealtOf (printerOf (a .printer)) (dealt.Words (c .before .before .before .before .before .before .before .before .before .dealt2 .given .0 .0)) (now (a .out))) (wholeOf (a .status) (now (a .cells)) (now (a .arena)) (now (a .ends)) (now (a .store)) (now (a .text-firsts)) (now (a .text-seconds)) (now (a .kinds)) (now (a .lengths)) (now (a .firsts)) (now (a .seconds)) (now (a .values)) (now (a .steps))) _ _ _ _ (λ x. sym (ap (λ (l : List ℕ). textLine l (stateIn (wholeOf (a .status) (now (a .cells)) (now (a .arena)) (now (a .ends)) (now (a .store)) (now (a .text-firsts)) (now (a .text-seconds)) (now (a .kinds)) (now (a .lengths)) (now (a .firsts)) (now (a .seconds)) (now (a .values)) (now (a .steps))) x)) (front-part (now (a .out)) (c .before .before .before .before .before .before .before .before .before .dealt2 .given .0 .0)))) (desk-did (λ ts s. textLine (part (now (a .out)) 0 (c .before .before .before .before .before .before .before .before .before .dealt2 .given .0 .0)) s) (wholeOf (a .status) (now (a .cells)) (now (a .arena)) (now (a .ends)) (now (a .store)) (now (a .text-firsts)) (now (a .text-seconds)) (now (a .kinds)) (now (a .lengths)) (now (a .firsts)) (now (a .seconds)) (now (a .values)) (now (a .steps))) _ _ _ _ (b .sound) (c .before .text-line .ensures)))
+
+same-length-3 : tie.Need-same-length-3
+same-length-3 c = search needs
+
+returns-4 : tie.Need-returns-4
+returns-4 c = let y = (c .before .before .before .before .before .before .before .before .before .before .before .before .before .before .before .before .before .before .before .before .before .before .before .before .before .before .before .before) in let a = y .args in let g = c .before .before .before .before .before .before .before .before .before .before .before .before .before .before .before .before .before .before .before .dealt3 .given .0 in rw (c .before .before .before .before .before .before .before .before .before .before .before .before .before .before .before .before .before .before .before .dealt3 .given .1) (did-as _ (dealtOf (printerOf (a .printer)) (dealt.Control (g .0) (g .1 .0) (g .1 .1 .0) (g .1 .1 .1 .0)) (now (a .out))) (wholeOf (a .status) (now (a .cells)) (now (a .arena)) (now (a .ends)) (now (a .store)) (now (a .text-firsts)) (now (a .text-seconds)) (now (a .kinds)) (now (a .lengths)) (now (a .firsts)) (now (a .seconds)) (now (a .values)) (now (a .steps))) _ _ _ _ (λ x. ap (λ (l : List ℕ). obey (printerOf (a .printer)) (meaningOf (g .1 .0) (stateIn (wholeOf (a .status) (now (a .cells)) (now (a .arena)) (now (a .ends)) (now (a .store)) (now (a .text-firsts)) (now (a .text-seconds)) (now (a .kinds)) (now (a .lengths)) (now (a .firsts)) (now (a .seconds)) (now (a .values)) (now (a .steps))) x)) false (g .0) (g .1 .0) l (stateIn (wholeOf (a .status) (now (a .cells)) (now (a .arena)) (now (a .ends)) (now (a .store)) (now (a .text-firsts)) (now (a .text-seconds)) (now (a .kinds)) (now (a .lengths)) (now (a .firsts)) (now (a .seconds)) (now (a .values)) (now (a .steps))) x)) (c .before .before .before .before .before .before .before .before .before .before .before .before .before .before .before .before .front2 .ensures)) (c .before .before .obey .ensures))
+
+returns-5 : tie.Need-returns-5
+returns-5 c = let y = (c .before .before .before .before .before .before .before .before .before .before) in let a = y .args in let b = y .pre .0 in rw (c .before .enum-told2 .given .1, c .stay .ensures) (stay-did (λ s. goes s) (wholeOf (a .status) (now (a .cells)) (now (a .arena)) (now (a .ends)) (now (a .store)) (now (a .text-firsts)) (now (a .text-seconds)) (now (a .kinds)) (now (a .lengths)) (now (a .firsts)) (now (a .seconds)) (now (a .values)) (now (a .steps))) On _ (b .sound) (b .items) (b .long) (λ x. refl))
+
+returns-6 : tie.Need-returns-6
+returns-6 c = let y = (c .before .before .before .before .before .before .before .before .before .before .before) in let a = y .args in let b = y .pre .0 in rw (c .before .before .dealt4 .given .1, c .stay2 .ensures) (stay-did (λ s. refuses (c .before .before .dealt4 .given .0 .0) s) (wholeOf (a .status) (now (a .cells)) (now (a .arena)) (now (a .ends)) (now (a .store)) (now (a .text-firsts)) (now (a .text-seconds)) (now (a .kinds)) (now (a .lengths)) (now (a .firsts)) (now (a .seconds)) (now (a .values)) (now (a .steps))) (Refused (c .before .before .dealt4 .given .0 .0)) _ (b .sound) (b .items) (b .long) (λ x. refl))
+
+pub finish-spec : {M : Type 1} → statement M
+finish-spec =
+    tie.close
+    (tie.spec
+    enum-told
+    close-macro-requires
+    closed-requires
+    enum-known-dealt
+    front-requires
+    keep-line-requires
+    kept-requires
+    enum-known-dealt-2
+    text-line-requires
+    moved-requires
+    enum-known-dealt-3
+    front-requires-2
+    obey-requires
+    enum-told-2
+    stay-requires
+    enum-known-dealt-4
+    stay-requires-2
+    same-length
+    returns
+    same-length-2
+    returns-2
+    returns-3
+    same-length-3
+    returns-4
+    returns-5
+    returns-6)

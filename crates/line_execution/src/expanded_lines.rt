@@ -1,0 +1,171 @@
+// What is left to do with a line, once it is expanded.
+use line_expansion::Dealt;
+use page::springs::Way;
+use rules::Name;
+use settings::layout::Printer;
+use state::Opening;
+use state::Status;
+use state::Step;
+use texts::table::Kept;
+ghost use mathlib.Core.Path.{_≡_};
+ghost use mathlib.Core.Bool.{false};
+ghost use Prim.Native.Nat.{_≤_};
+ghost use lib.ListN.{length, take};
+ghost use Rattle.settings.specs.Layout.Layouts.{printerOf};
+ghost use Rattle.state.specs.Whole.{textsIn, Did};
+ghost use Rattle.state.specs.Statuses.{wholeOf, Begins};
+ghost use Rattle.line_expansion.specs.Dealing.{dealtOf, SoundDealt};
+ghost use Rattle.line_execution.specs.NoBreakRequests.Steps.{closedTo, keptTo};
+
+// The front of a line.
+pub fn front(line: &[u8], to: usize) -> &[u8]
+    requires { ⌜ to ≤ length (now line) ⌝ }
+    ensures { λ r. ⌜ now r ≡ take to (now (line .entry)) ⌝ }
+{
+    &line[..to]
+}
+
+// A definition is closed: so many texts, and none open.
+fn closed(texts: usize, status: Status) -> Step
+    ensures { λ r. ⌜ r ≡ closedTo texts status ⌝ }
+{
+    let name = Name {
+        first: 0,
+        second: 0,
+    };
+    let opening = Opening {
+        there: false,
+        name,
+        length: 0,
+    };
+    super::no_break_requests::stay(
+        Way::On,
+        super::no_break_requests::with_texts(status, texts, opening),
+    )
+}
+
+// A body line is kept, or "11: .. live text past 8,192 bytes".
+fn kept(answer: Kept, status: Status) -> Step
+    ensures { λ r. ⌜ r ≡ keptTo answer status ⌝ }
+{
+    match answer {
+        Kept::Longer(length) => {
+            let old = status.opening;
+            let name = old.name;
+            let opening = Opening {
+                there: true,
+                name,
+                length,
+            };
+            super::no_break_requests::stay(
+                Way::On,
+                super::no_break_requests::with_texts(status, status.texts, opening),
+            )
+        }
+        Kept::Full => super::no_break_requests::stay(Way::Refused(11), status),
+    }
+}
+
+// What is left to do with a line, once it is expanded.
+pub fn finish(
+    dealt: Dealt,
+    out: &[u8; 512],
+    printer: Printer,
+    status: Status,
+    cells: &mut [u8; 512],
+    row: &mut [u8; 872],
+    arena: &mut [u8; 8704],
+    ends: &mut [u16; 221],
+    store: &mut [u8],
+    text_firsts: &mut [u8; 64],
+    text_seconds: &mut [u8; 64],
+    kinds: &mut [u8; 64],
+    lengths: &mut [u16; 64],
+    firsts: &mut [u8; 64],
+    seconds: &mut [u8; 64],
+    values: &mut [i32; 64],
+    steps: &mut [i32; 64],
+) -> Step
+    requires { ⌜ Begins (wholeOf status (now cells) (now arena) (now ends) (now store) (now «text_firsts») (now «text_seconds») (now kinds) (now lengths) (now firsts) (now seconds) (now values) (now steps)) (now out) (now row) printer × (length (now out) ≡ 512) × SoundDealt (status .opening .there) (textsIn ((wholeOf status (now cells) (now arena) (now ends) (now store) (now «text_firsts») (now «text_seconds») (now kinds) (now lengths) (now firsts) (now seconds) (now values) (now steps)) .texts)) dealt ⌝ }
+    ensures { λ r. ⌜ Did (dealtOf (printerOf printer) dealt (now (out .entry))) (wholeOf status (now (cells .entry)) (now (arena .entry)) (now (ends .entry)) (now (store .entry)) (now («text_firsts» .entry)) (now («text_seconds» .entry)) (now (kinds .entry)) (now (lengths .entry)) (now (firsts .entry)) (now (seconds .entry)) (now (values .entry)) (now (steps .entry))) (r .way) (r .written) (wholeOf (r .status) (now (cells .exit)) (now (arena .exit)) (now (ends .exit)) (now (store .exit)) (now («text_firsts» .exit)) (now («text_seconds» .exit)) (now (kinds .exit)) (now (lengths .exit)) (now (firsts .exit)) (now (seconds .exit)) (now (values .exit)) (now (steps .exit))) (now (row .exit)) ⌝ }
+{
+    let layout = status.layout;
+    let page = status.page;
+    let collected = status.collected;
+    let planted = status.planted;
+    let stack = status.stack;
+    let opening = status.opening;
+    match dealt {
+        Dealt::Closes => {
+            let name = opening.name;
+            let texts = texts::definitions::close_macro(
+                &*store,
+                text_firsts,
+                text_seconds,
+                kinds,
+                lengths,
+                status.texts,
+                opening.length,
+                name,
+            );
+            closed(texts, status)
+        }
+        Dealt::Keeps(n) => {
+            let line = front(out, n);
+            let answer = texts::definitions::keep_line(
+                store,
+                &*lengths,
+                status.texts,
+                opening.length,
+                line,
+            );
+            kept(answer, status)
+        }
+        Dealt::Words(n) => {
+            let outcome = composition::text_lines::text_line(
+                out,
+                n,
+                layout,
+                page,
+                collected,
+                planted,
+                cells,
+                row,
+                stack,
+                arena,
+                ends,
+                &*text_firsts,
+                &*text_seconds,
+                status.texts,
+            );
+            super::no_break_requests::moved(outcome, status)
+        }
+        Dealt::Control(period, name, meaning, n) => {
+            let line = front(out, n);
+            super::control_lines::obey(
+                meaning,
+                false,
+                period,
+                name,
+                line,
+                printer,
+                status,
+                &*cells,
+                row,
+                arena,
+                ends,
+                store,
+                text_firsts,
+                text_seconds,
+                kinds,
+                lengths,
+                firsts,
+                seconds,
+                values,
+                steps,
+            )
+        }
+        Dealt::Nothing => super::no_break_requests::stay(Way::On, status),
+        Dealt::Refused(k) => super::no_break_requests::stay(Way::Refused(k), status),
+    }
+}

@@ -1,0 +1,305 @@
+// Requests that do not break, on the whole state.
+use composition::page_rows::Outcome;
+use page::springs::Way;
+use requests::definitions::Changed;
+use requests::nr::Assigned;
+use requests::wh::Plants;
+use rules::Unbreaking;
+use settings::layout::Printer;
+use state::Opened;
+use state::Opening;
+use state::Status;
+use state::Step;
+use traps::table::Planted;
+ghost use mathlib.Core.Path.{_≡_};
+ghost use mathlib.Core.Bool.{false};
+ghost use Rattle.rules.specs.Acts as rule;
+ghost use Rattle.rules.specs.Acts.{settles};
+ghost use Rattle.settings.specs.Layout.Layouts.{printerOf};
+ghost use Rattle.state.specs.Whole.{Did};
+ghost use Rattle.state.specs.Statuses.{wholeOf, Begins};
+ghost use Rattle.line_execution.specs.NoBreakRequests.Steps.{groupOf, withRegisters, withPlanted, withTexts, stayed, movedTo, assignedTo, plantedTo, changedTo, openedTo};
+
+// Nothing is written, and all is as it is.
+pub fn stay(way: Way, status: Status) -> Step
+    ensures { λ r. ⌜ r ≡ stayed way status ⌝ }
+{
+    Step {
+        way,
+        written: 0,
+        status,
+    }
+}
+
+// The desk after a piece of work on it.
+pub fn moved(outcome: Outcome, status: Status) -> Step
+    ensures { λ r. ⌜ r ≡ movedTo outcome status ⌝ }
+{
+    let layout = outcome.layout;
+    let page = outcome.page;
+    let collected = outcome.collected;
+    let planted = status.planted;
+    let stack = outcome.stack;
+    let opening = status.opening;
+    let after = Status {
+        layout,
+        page,
+        collected,
+        planted,
+        stack,
+        texts: status.texts,
+        opening,
+        registers: status.registers,
+    };
+    let way = outcome.way;
+    Step {
+        way,
+        written: outcome.written,
+        status: after,
+    }
+}
+
+// So many registers.
+fn with_registers(status: Status, registers: usize) -> Status
+    ensures { λ r. ⌜ r ≡ withRegisters registers status ⌝ }
+{
+    let layout = status.layout;
+    let page = status.page;
+    let collected = status.collected;
+    let planted = status.planted;
+    let stack = status.stack;
+    let opening = status.opening;
+    Status {
+        layout,
+        page,
+        collected,
+        planted,
+        stack,
+        texts: status.texts,
+        opening,
+        registers,
+    }
+}
+
+// These traps.
+fn with_planted(status: Status, planted: Planted) -> Status
+    ensures { λ r. ⌜ r ≡ withPlanted planted status ⌝ }
+{
+    let layout = status.layout;
+    let page = status.page;
+    let collected = status.collected;
+    let stack = status.stack;
+    let opening = status.opening;
+    Status {
+        layout,
+        page,
+        collected,
+        planted,
+        stack,
+        texts: status.texts,
+        opening,
+        registers: status.registers,
+    }
+}
+
+// So many texts, and this open definition.
+pub fn with_texts(status: Status, texts: usize, opening: Opening) -> Status
+    ensures { λ r. ⌜ r ≡ withTexts texts opening status ⌝ }
+{
+    let layout = status.layout;
+    let page = status.page;
+    let collected = status.collected;
+    let planted = status.planted;
+    let stack = status.stack;
+    Status {
+        layout,
+        page,
+        collected,
+        planted,
+        stack,
+        texts,
+        opening,
+        registers: status.registers,
+    }
+}
+
+// After nr.
+fn assigned(answer: Assigned, status: Status) -> Step
+    ensures { λ r. ⌜ r ≡ assignedTo answer status ⌝ }
+{
+    match answer {
+        Assigned::Count(n) => stay(Way::On, with_registers(status, n)),
+        Assigned::Refused(k) => stay(Way::Refused(k), status),
+    }
+}
+
+// After wh.
+fn trapped(answer: Plants, status: Status) -> Step
+    ensures { λ r. ⌜ r ≡ plantedTo answer status ⌝ }
+{
+    let planted = answer.planted;
+    let after = with_planted(status, planted);
+    let refused = answer.refused;
+    if refused == 0 {
+        return stay(Way::On, after);
+    }
+    stay(Way::Refused(refused), after)
+}
+
+// After de.
+fn opened(answer: Opened, status: Status) -> Step
+    ensures { λ r. ⌜ r ≡ openedTo answer status ⌝ }
+{
+    let opening = answer.opening;
+    let changed = answer.changed;
+    match changed {
+        Changed::Count(n) => stay(Way::On, with_texts(status, n, opening)),
+        Changed::Same => stay(Way::On, with_texts(status, status.texts, opening)),
+        Changed::Refused(k) => stay(Way::Refused(k), with_texts(status, status.texts, opening)),
+    }
+}
+
+// After ds and rm.
+pub fn changed(answer: Changed, status: Status) -> Step
+    ensures { λ r. ⌜ r ≡ changedTo answer status ⌝ }
+{
+    match answer {
+        Changed::Count(n) => {
+            let opening = status.opening;
+            stay(Way::On, with_texts(status, n, opening))
+        }
+        Changed::Same => stay(Way::On, status),
+        Changed::Refused(k) => stay(Way::Refused(k), status),
+    }
+}
+
+// Which table a request that does not break changes, if it changes one.
+enum Group {
+    Lays,
+    Assigns,
+    Plants,
+    Removes,
+    Opens,
+}
+
+fn group_of(request: Unbreaking) -> Group
+    ensures { λ r. ⌜ r ≡ groupOf request ⌝ }
+{
+    match request {
+        Unbreaking::Pl => Group::Lays,
+        Unbreaking::Po => Group::Lays,
+        Unbreaking::Ll => Group::Lays,
+        Unbreaking::Ad => Group::Lays,
+        Unbreaking::Na => Group::Lays,
+        Unbreaking::Nr => Group::Assigns,
+        Unbreaking::De => Group::Opens,
+        Unbreaking::Rm => Group::Removes,
+        Unbreaking::Wh => Group::Plants,
+        Unbreaking::If => Group::Lays,
+    }
+}
+
+// A request that does not break.
+pub fn perform(
+    request: Unbreaking,
+    line: &[u8],
+    printer: Printer,
+    status: Status,
+    cells: &[u8; 512],
+    row: &[u8; 872],
+    arena: &mut [u8; 8704],
+    ends: &mut [u16; 221],
+    store: &mut [u8],
+    text_firsts: &mut [u8; 64],
+    text_seconds: &mut [u8; 64],
+    kinds: &mut [u8; 64],
+    lengths: &mut [u16; 64],
+    firsts: &mut [u8; 64],
+    seconds: &mut [u8; 64],
+    values: &mut [i32; 64],
+    steps: &mut [i32; 64],
+) -> Step
+    requires { ⌜ Begins (wholeOf status (now cells) (now arena) (now ends) (now store) (now «text_firsts») (now «text_seconds») (now kinds) (now lengths) (now firsts) (now seconds) (now values) (now steps)) (now line) (now row) printer × (status .opening .there ≡ false) ⌝ }
+    ensures { λ r. ⌜ Did (λ s. settles (rule.perform (printerOf printer) request (now (line .entry)) s) s) (wholeOf status (now (cells .entry)) (now (arena .entry)) (now (ends .entry)) (now (store .entry)) (now («text_firsts» .entry)) (now («text_seconds» .entry)) (now (kinds .entry)) (now (lengths .entry)) (now (firsts .entry)) (now (seconds .entry)) (now (values .entry)) (now (steps .entry))) (r .way) (r .written) (wholeOf (r .status) (now (cells .entry)) (now (arena .exit)) (now (ends .exit)) (now (store .exit)) (now («text_firsts» .exit)) (now («text_seconds» .exit)) (now (kinds .exit)) (now (lengths .exit)) (now (firsts .exit)) (now (seconds .exit)) (now (values .exit)) (now (steps .exit))) (now (row .entry)) ⌝ }
+{
+    let layout = status.layout;
+    let page = status.page;
+    let collected = status.collected;
+    let planted = status.planted;
+    let stack = status.stack;
+    let opening = status.opening;
+    let mut parts = [0u8; 512];
+    match group_of(request) {
+        Group::Lays => {
+            let outcome = composition::no_break_requests::keep(
+                request,
+                line,
+                &mut parts,
+                printer,
+                layout,
+                page,
+                collected,
+                planted,
+                cells,
+                row,
+                stack,
+                arena,
+                ends,
+                &*text_firsts,
+                &*text_seconds,
+                status.texts,
+            );
+            moved(outcome, status)
+        }
+        Group::Assigns => {
+            let answer = super::table_requests::assign(
+                line,
+                &mut parts,
+                printer,
+                firsts,
+                seconds,
+                values,
+                steps,
+                status.registers,
+            );
+            assigned(answer, status)
+        }
+        Group::Plants => {
+            let answer = super::table_requests::plant(line, &mut parts, printer, planted);
+            trapped(answer, status)
+        }
+        Group::Removes => {
+            let answer = super::table_requests::remove(
+                line,
+                &mut parts,
+                printer,
+                stack,
+                &*ends,
+                store,
+                text_firsts,
+                text_seconds,
+                kinds,
+                lengths,
+                status.texts,
+            );
+            changed(answer, status)
+        }
+        Group::Opens => {
+            let answer = super::table_requests::open(
+                line,
+                &mut parts,
+                printer,
+                opening,
+                stack,
+                &*ends,
+                store,
+                text_firsts,
+                text_seconds,
+                kinds,
+                lengths,
+                status.texts,
+            );
+            opened(answer, status)
+        }
+    }
+}

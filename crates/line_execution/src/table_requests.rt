@@ -1,0 +1,246 @@
+// The requests on tables, from an expanded line: nr, wh, rm and de.
+use input_stack::stack::Stack;
+use line_syntax::lines::Named;
+use requests::definitions::Changed;
+use requests::nr::Assigned;
+use requests::wh::Plants;
+use rules::Name;
+use settings::layout::Printer;
+use state::Opened;
+use state::Opening;
+use traps::table::Planted;
+ghost use Rattle.rules.specs.Acts.{argument, perform};
+ghost use Rattle.rules.specs.declared.Unbreaking.the-variants.{Nr, Wh, Rm, De};
+ghost use Rattle.requests.specs.Nr.Registers.{AssignsAs};
+ghost use Rattle.requests.specs.Nr.Registers as registers;
+ghost use Rattle.requests.specs.Wh.Traps.{PlantsAs};
+ghost use Rattle.requests.specs.Wh.Traps as traps;
+ghost use Rattle.rules.specs.Names.{nameOf};
+ghost use Rattle.requests.specs.Definitions.Texts.{ChangesAs, OpensAs, alone};
+ghost use Rattle.state.specs.WholeLaws.{OpeningIs, openedWith};
+ghost use Rattle.requests.specs.Definitions.Texts as texts;
+ghost use Rattle.settings.specs.Layout.Layouts.{printerOf};
+ghost use mathlib.Core.Bool.{true};
+ghost use mathlib.Core.Path.{_≡_};
+ghost use mathlib.Core.List.{[]};
+ghost use Prim.Native.Nat.{_*_};
+ghost use lib.ListN.{getD, length};
+ghost use Rattle.scan.specs.Arguments.Parting.{Unread};
+ghost use Rattle.scan.specs.Arguments.Around.{argumentsOf, Arguments};
+
+// nr, by its arguments.
+fn assign_parted(
+    parts: &[u8],
+    ends: &[u16; 9],
+    given: usize,
+    printer: Printer,
+    firsts: &mut [u8; 64],
+    seconds: &mut [u8; 64],
+    values: &mut [i32; 64],
+    steps: &mut [i32; 64],
+    count: usize,
+) -> Assigned
+    requires { ⌜ registers.Ready (now firsts) (now seconds) (now values) (now steps) count printer × Arguments (now parts) (now ends) given ⌝ }
+    ensures { λ r. ⌜ AssignsAs (now (firsts .entry)) (now (seconds .entry)) (now (values .entry)) (now (steps .entry)) count (registers.assigns printer (getD (argumentsOf (now (parts .entry)) (now (ends .entry)) given) 0 []) (getD (argumentsOf (now (parts .entry)) (now (ends .entry)) given) 1 []) (getD (argumentsOf (now (parts .entry)) (now (ends .entry)) given) 2 [])) r (now (firsts .exit)) (now (seconds .exit)) (now (values .exit)) (now (steps .exit)) ⌝ }
+{
+    let name = line_syntax::lines::argument(parts, ends, given, 0);
+    let value = line_syntax::lines::argument(parts, ends, given, 1);
+    let step = line_syntax::lines::argument(parts, ends, given, 2);
+    requests::nr::assign(
+        name,
+        value,
+        step,
+        printer,
+        firsts,
+        seconds,
+        values,
+        steps,
+        count,
+    )
+}
+
+// nr, by what follows its name.
+pub fn assign(
+    line: &[u8],
+    parts: &mut [u8; 512],
+    printer: Printer,
+    firsts: &mut [u8; 64],
+    seconds: &mut [u8; 64],
+    values: &mut [i32; 64],
+    steps: &mut [i32; 64],
+    count: usize,
+) -> Assigned
+    requires { ⌜ registers.Ready (now firsts) (now seconds) (now values) (now steps) count printer × Unread (now line) 0 (now parts) 0 ⌝ }
+    ensures { λ r. ⌜ AssignsAs (now (firsts .entry)) (now (seconds .entry)) (now (values .entry)) (now (steps .entry)) count (λ s. perform (printerOf printer) Nr (now (line .entry)) s) r (now (firsts .exit)) (now (seconds .exit)) (now (values .exit)) (now (steps .exit)) ⌝ }
+{
+    let mut ends = [0u16; 9];
+    let given = scan::arguments::arguments(line, 0, &mut *parts, &mut ends);
+    assign_parted(
+        &*parts,
+        &ends,
+        given,
+        printer,
+        firsts,
+        seconds,
+        values,
+        steps,
+        count,
+    )
+}
+
+// wh, by its arguments.
+fn plant_parted(
+    parts: &[u8],
+    ends: &[u16; 9],
+    given: usize,
+    printer: Printer,
+    planted: Planted,
+) -> Plants
+    requires { ⌜ traps.Ready planted printer × Arguments (now parts) (now ends) given ⌝ }
+    ensures { λ r. ⌜ traps.PlantedTo (getD (argumentsOf (now (parts .entry)) (now (ends .entry)) given) 0 []) (getD (argumentsOf (now (parts .entry)) (now (ends .entry)) given) 1 []) planted printer r ⌝ }
+{
+    let row = line_syntax::lines::argument(parts, ends, given, 0);
+    let name = line_syntax::lines::argument(parts, ends, given, 1);
+    requests::wh::plant(row, name, planted, printer)
+}
+
+// wh, by what follows its name.
+pub fn plant(line: &[u8], parts: &mut [u8; 512], printer: Printer, planted: Planted) -> Plants
+    requires { ⌜ traps.Ready planted printer × Unread (now line) 0 (now parts) 0 ⌝ }
+    ensures { λ r. ⌜ PlantsAs planted (λ s. perform (printerOf printer) Wh (now (line .entry)) s) r ⌝ }
+{
+    let mut ends = [0u16; 9];
+    let given = scan::arguments::arguments(line, 0, &mut *parts, &mut ends);
+    plant_parted(&*parts, &ends, given, printer, planted)
+}
+
+// rm, by what follows its name.
+pub fn remove(
+    line: &[u8],
+    parts: &mut [u8; 512],
+    printer: Printer,
+    stack: Stack,
+    frames: &[u16; 221],
+    store: &mut [u8],
+    firsts: &mut [u8; 64],
+    seconds: &mut [u8; 64],
+    kinds: &mut [u8; 64],
+    lengths: &mut [u16; 64],
+    count: usize,
+) -> Changed
+    requires { ⌜ texts.Ready (now store) (now firsts) (now seconds) (now kinds) (now lengths) count stack × Unread (now line) 0 (now parts) 0 ⌝ }
+    ensures { λ r. ⌜ ChangesAs (now (store .entry)) (now (firsts .entry)) (now (seconds .entry)) (now (kinds .entry)) (now (lengths .entry)) count stack (now (frames .entry)) alone (λ s. perform (printerOf printer) Rm (now (line .entry)) s) r (now (store .exit)) (now (firsts .exit)) (now (seconds .exit)) (now (kinds .exit)) (now (lengths .exit)) ⌝ }
+{
+    let mut ends = [0u16; 9];
+    let given = scan::arguments::arguments(line, 0, &mut *parts, &mut ends);
+    let name = line_syntax::lines::argument(&*parts, &ends, given, 0);
+    requests::definitions::remove(
+        name,
+        stack,
+        frames,
+        store,
+        firsts,
+        seconds,
+        kinds,
+        lengths,
+        count,
+    )
+}
+
+// The definition of a name is open, unless it was refused.
+fn opened_as(changed: Changed, name: Name, opening: Opening) -> Opened
+    ensures { λ r. ⌜ r ≡ openedWith changed name opening ⌝ }
+{
+    match changed {
+        Changed::Count(_) => {
+            let empty = Opening {
+                there: true,
+                name,
+                length: 0,
+            };
+            Opened {
+                changed,
+                opening: empty,
+            }
+        }
+        Changed::Same => Opened { changed, opening },
+        Changed::Refused(_) => Opened { changed, opening },
+    }
+}
+
+// de of what its name is.
+fn open_named(
+    name: &[u8],
+    opening: Opening,
+    stack: Stack,
+    frames: &[u16; 221],
+    store: &mut [u8],
+    firsts: &mut [u8; 64],
+    seconds: &mut [u8; 64],
+    kinds: &mut [u8; 64],
+    lengths: &mut [u16; 64],
+    count: usize,
+) -> Opened
+    requires { ⌜ texts.Ready (now store) (now firsts) (now seconds) (now kinds) (now lengths) count stack ⌝ }
+    ensures { λ r. ⌜ OpensAs (now (store .entry)) (now (firsts .entry)) (now (seconds .entry)) (now (kinds .entry)) (now (lengths .entry)) count stack (now (frames .entry)) (nameOf (now (name .entry))) (texts.opensText (now (name .entry))) (r .changed) (now (store .exit)) (now (firsts .exit)) (now (seconds .exit)) (now (kinds .exit)) (now (lengths .exit)) × OpeningIs (nameOf (now (name .entry))) (r .changed) opening (r .opening) ⌝ }
+{
+    match line_syntax::lines::name_of(name) {
+        Named::One(known) => {
+            let changed = requests::definitions::open(
+                name,
+                stack,
+                frames,
+                store,
+                firsts,
+                seconds,
+                kinds,
+                lengths,
+                count,
+            );
+            opened_as(changed, known, opening)
+        }
+        Named::Nothing => Opened {
+            changed: Changed::Same,
+            opening,
+        },
+        Named::TooLong => Opened {
+            changed: Changed::Refused(7),
+            opening,
+        },
+    }
+}
+
+// de, by what follows its name.
+pub fn open(
+    line: &[u8],
+    parts: &mut [u8; 512],
+    printer: Printer,
+    opening: Opening,
+    stack: Stack,
+    frames: &[u16; 221],
+    store: &mut [u8],
+    firsts: &mut [u8; 64],
+    seconds: &mut [u8; 64],
+    kinds: &mut [u8; 64],
+    lengths: &mut [u16; 64],
+    count: usize,
+) -> Opened
+    requires { ⌜ texts.Ready (now store) (now firsts) (now seconds) (now kinds) (now lengths) count stack × Unread (now line) 0 (now parts) 0 ⌝ }
+    ensures { λ r. ⌜ OpensAs (now (store .entry)) (now (firsts .entry)) (now (seconds .entry)) (now (kinds .entry)) (now (lengths .entry)) count stack (now (frames .entry)) (nameOf (argument 0 (now (line .entry)))) (λ s. perform (printerOf printer) De (now (line .entry)) s) (r .changed) (now (store .exit)) (now (firsts .exit)) (now (seconds .exit)) (now (kinds .exit)) (now (lengths .exit)) × OpeningIs (nameOf (argument 0 (now (line .entry)))) (r .changed) opening (r .opening) ⌝ }
+{
+    let mut ends = [0u16; 9];
+    let given = scan::arguments::arguments(line, 0, &mut *parts, &mut ends);
+    let name = line_syntax::lines::argument(&*parts, &ends, given, 0);
+    open_named(
+        name,
+        opening,
+        stack,
+        frames,
+        store,
+        firsts,
+        seconds,
+        kinds,
+        lengths,
+        count,
+    )
+}

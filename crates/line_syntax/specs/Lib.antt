@@ -1,0 +1,3 @@
+pub mod RequestNames
+pub mod Lines
+pub mod Conditions

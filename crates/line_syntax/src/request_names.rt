@@ -1,0 +1,72 @@
+// Requests by their names.
+use rules::Breaking;
+use rules::Name;
+use rules::Request;
+use rules::Unbreaking;
+ghost use mathlib.Core.Path.{_≡_};
+ghost use mathlib.Core.List.{_∷_, []};
+ghost use Prim.Native.Nat.{_-_};
+ghost use lib.ListN.{getD, take, drop};
+ghost use Rattle.rules.specs.Names.{twoBytes};
+ghost use Rattle.rules.specs.Requests.{requests, requestOf};
+ghost use Rattle.line_syntax.specs.declared.request_names.Named.the-variants.{Other};
+ghost use Rattle.line_syntax.specs.RequestNames.Requests.{requestFrom, among};
+
+// The request that a name stands for, if there is one.
+pub enum Named {
+    Is(Request),
+    Other,
+}
+
+// `request` where the name is the two bytes of `pair`, and `others` else.
+fn choose(name: Name, pair: &[u8; 2], request: Request, others: Named) -> Named
+    ensures { λ r. ⌜ requestFrom r ≡ among name ((twoBytes (getD (now (pair .entry)) 0 0) (getD (now (pair .entry)) 1 0), request) ∷ []) (requestFrom others) ⌝ }
+{
+    if name.first == pair[0] {
+        if name.second == pair[1] {
+            return Named::Is(request);
+        }
+    }
+    others
+}
+
+fn page_request(name: Name, others: Named) -> Named
+    ensures { λ r. ⌜ requestFrom r ≡ among name (take 6 requests) (requestFrom others) ⌝ }
+{
+    let r = choose(name, b"ll", Request::Keeps(Unbreaking::Ll), others);
+    let r = choose(name, b"po", Request::Keeps(Unbreaking::Po), r);
+    let r = choose(name, b"pl", Request::Keeps(Unbreaking::Pl), r);
+    let r = choose(name, b"bp", Request::Breaks(Breaking::Bp), r);
+    let r = choose(name, b"sp", Request::Breaks(Breaking::Sp), r);
+    choose(name, b"br", Request::Breaks(Breaking::Br), r)
+}
+
+fn line_request(name: Name, others: Named) -> Named
+    ensures { λ r. ⌜ requestFrom r ≡ among name (take 7 (drop 6 requests)) (requestFrom others) ⌝ }
+{
+    let r = choose(name, b"ce", Request::Breaks(Breaking::Ce), others);
+    let r = choose(name, b"na", Request::Keeps(Unbreaking::Na), r);
+    let r = choose(name, b"ad", Request::Keeps(Unbreaking::Ad), r);
+    let r = choose(name, b"nf", Request::Breaks(Breaking::Nf), r);
+    let r = choose(name, b"fi", Request::Breaks(Breaking::Fi), r);
+    let r = choose(name, b"ti", Request::Breaks(Breaking::Ti), r);
+    choose(name, b"in", Request::Breaks(Breaking::In), r)
+}
+
+fn text_request(name: Name) -> Named
+    ensures { λ r. ⌜ requestFrom r ≡ among name (drop 13 requests) (requestFrom Other) ⌝ }
+{
+    let r = choose(name, b"if", Request::Keeps(Unbreaking::If), Named::Other);
+    let r = choose(name, b"wh", Request::Keeps(Unbreaking::Wh), r);
+    let r = choose(name, b"rm", Request::Keeps(Unbreaking::Rm), r);
+    let r = choose(name, b"de", Request::Keeps(Unbreaking::De), r);
+    let r = choose(name, b"ds", Request::Ds, r);
+    choose(name, b"nr", Request::Keeps(Unbreaking::Nr), r)
+}
+
+// The request of a name.
+pub fn request_of(name: Name) -> Named
+    ensures { λ r. ⌜ requestFrom r ≡ requestOf name ⌝ }
+{
+    page_request(name, line_request(name, text_request(name)))
+}

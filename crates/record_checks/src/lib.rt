@@ -1,0 +1,3 @@
+// The checks of a record that a caller hands in.
+pub mod soundness;
+pub mod state_limits;

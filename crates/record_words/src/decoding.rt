@@ -1,0 +1,266 @@
+// The parts of a place are read from plain words.
+use composition::page_rows::Collected;
+use measure::Cells;
+use measure::Rows;
+use page::position::Page;
+use record::Closing;
+use record::Waiting;
+use rules::Name;
+use rules::Trap;
+use settings::layout::Layout;
+use settings::layout::Total;
+use settings::lengths::Setting;
+use source_line::Source;
+use state::Opening;
+use traps::table::Planted;
+ghost use mathlib.Core.Path.{_≡_};
+ghost use Prim.Native.Nat.{_+_, _<_, min};
+ghost use lib.ListN.{length};
+ghost use Rattle.record_words.specs.Decoding.Words.{Short, wordAt, countAt, isSet, cellsAt, rowsAt, settingAt, nameOf, nameAt, totalBy, layoutIn, pageIn, collectedIn, countsIn, openingIn, sourceIn, waitingIn, closingBy, closingIn, trapAt, plantedIn};
+
+// The items on the input stack, the texts and the registers that there are.
+pub struct Counts {
+    pub depth: usize,
+    pub texts: usize,
+    pub registers: usize,
+}
+
+// A count; a word below 0 is none.
+fn count_at(words: &[i32; 68], at: usize) -> u32
+    requires { ⌜ at < 68 ⌝ }
+    ensures { λ r. ⌜ (r ≡ countAt (now (words .entry)) at) × Short r ⌝ }
+{
+    let word = words[at];
+    if word < 0 {
+        return 0;
+    }
+    word as u32
+}
+
+fn size_at(words: &[i32; 68], at: usize) -> usize
+    requires { ⌜ at < 68 ⌝ }
+    ensures { λ r. ⌜ (r ≡ countAt (now (words .entry)) at) × Short r ⌝ }
+{
+    count_at(words, at) as usize
+}
+
+// A count, or the largest of its type if it is larger.
+fn short_at(words: &[i32; 68], at: usize) -> u16
+    requires { ⌜ at < 68 ⌝ }
+    ensures { λ r. ⌜ r ≡ min (countAt (now (words .entry)) at) 65535 ⌝ }
+{
+    let count = count_at(words, at);
+    if count < 65535 {
+        return count as u16;
+    }
+    65535
+}
+
+fn byte_at(words: &[i32; 68], at: usize) -> u8
+    requires { ⌜ at < 68 ⌝ }
+    ensures { λ r. ⌜ r ≡ min (countAt (now (words .entry)) at) 255 ⌝ }
+{
+    let count = count_at(words, at);
+    if count < 255 {
+        return count as u8;
+    }
+    255
+}
+
+// Any word but 0 is true.
+fn flag_at(words: &[i32; 68], at: usize) -> bool
+    requires { ⌜ at < 68 ⌝ }
+    ensures { λ r. ⌜ r ≡ isSet (wordAt (now (words .entry)) at) ⌝ }
+{
+    let word = words[at];
+    if word < 0 {
+        return true;
+    }
+    if 0 < word {
+        return true;
+    }
+    false
+}
+
+fn cells_at(words: &[i32; 68], at: usize) -> Cells
+    requires { ⌜ at < 68 ⌝ }
+    ensures { λ r. ⌜ r ≡ cellsAt (now (words .entry)) at ⌝ }
+{
+    Cells(words[at])
+}
+
+fn rows_at(words: &[i32; 68], at: usize) -> Rows
+    requires { ⌜ at < 68 ⌝ }
+    ensures { λ r. ⌜ r ≡ rowsAt (now (words .entry)) at ⌝ }
+{
+    Rows(words[at])
+}
+
+fn setting_at(words: &[i32; 68], at: usize) -> Setting
+    requires { ⌜ at < 67 ⌝ }
+    ensures { λ r. ⌜ r ≡ settingAt (now (words .entry)) at ⌝ }
+{
+    Setting {
+        now: cells_at(words, at),
+        former: cells_at(words, at + 1),
+    }
+}
+
+fn name_of(number: u16) -> Name
+    ensures { λ r. ⌜ r ≡ nameOf number ⌝ }
+{
+    Name {
+        first: (number / 256) as u8,
+        second: (number % 256) as u8,
+    }
+}
+
+fn name_at(words: &[i32; 68], at: usize) -> Name
+    requires { ⌜ at < 68 ⌝ }
+    ensures { λ r. ⌜ r ≡ nameAt (now (words .entry)) at ⌝ }
+{
+    name_of(short_at(words, at))
+}
+
+fn total_by(there: bool, count: Cells) -> Total
+    ensures { λ r. ⌜ r ≡ totalBy there count ⌝ }
+{
+    if there {
+        return Total::Is(count);
+    }
+    Total::Nothing
+}
+
+pub fn layout(words: &[i32; 68]) -> Layout
+    ensures { λ r. ⌜ r ≡ layoutIn (now (words .entry)) ⌝ }
+{
+    Layout {
+        line: setting_at(words, 0),
+        indent: setting_at(words, 2),
+        offset: setting_at(words, 4),
+        page: rows_at(words, 6),
+        total: total_by(flag_at(words, 7), cells_at(words, 8)),
+        filling: flag_at(words, 9),
+        adjusting: flag_at(words, 10),
+        centred: count_at(words, 11),
+    }
+}
+
+pub fn page(words: &[i32; 68]) -> Page
+    ensures { λ r. ⌜ r ≡ pageIn (now (words .entry)) ⌝ }
+{
+    Page {
+        number: count_at(words, 12),
+        used: rows_at(words, 13),
+        last: flag_at(words, 14),
+    }
+}
+
+pub fn collected(words: &[i32; 68]) -> Collected
+    ensures { λ r. ⌜ r ≡ collectedIn (now (words .entry)) ⌝ }
+{
+    Collected {
+        there: flag_at(words, 15),
+        indent: cells_at(words, 16),
+        room: cells_at(words, 17),
+        length: size_at(words, 18),
+        next: size_at(words, 19),
+    }
+}
+
+pub fn counts_in(words: &[i32; 68]) -> Counts
+    ensures { λ r. ⌜ r ≡ countsIn (now (words .entry)) ⌝ }
+{
+    Counts {
+        depth: size_at(words, 20),
+        texts: size_at(words, 21),
+        registers: size_at(words, 22),
+    }
+}
+
+pub fn opening(words: &[i32; 68]) -> Opening
+    ensures { λ r. ⌜ (r ≡ openingIn (now (words .entry))) × Short (r .length) ⌝ }
+{
+    Opening {
+        there: flag_at(words, 23),
+        name: name_at(words, 24),
+        length: size_at(words, 25),
+    }
+}
+
+pub fn source(words: &[i32; 68]) -> Source
+    ensures { λ r. ⌜ r ≡ sourceIn (now (words .entry)) ⌝ }
+{
+    Source {
+        line: count_at(words, 26),
+        length: size_at(words, 27),
+        ended: flag_at(words, 28),
+        stored: short_at(words, 29),
+    }
+}
+
+pub fn waiting(words: &[i32; 68]) -> Waiting
+    ensures { λ r. ⌜ r ≡ waitingIn (now (words .entry)) ⌝ }
+{
+    Waiting {
+        at: size_at(words, 30),
+        end: size_at(words, 31),
+    }
+}
+
+fn closing_by(there: bool, tag: u32, number: u8, line: u32) -> Closing
+    ensures { λ r. ⌜ r ≡ closingBy there tag number line ⌝ }
+{
+    if !there {
+        return Closing::Open;
+    }
+    if tag == 1 {
+        return Closing::Done;
+    }
+    Closing::Refused(number, line)
+}
+
+pub fn closing(words: &[i32; 68]) -> Closing
+    ensures { λ r. ⌜ r ≡ closingIn (now (words .entry)) ⌝ }
+{
+    let there = flag_at(words, 32);
+    let tag = count_at(words, 32);
+    closing_by(there, tag, byte_at(words, 33), count_at(words, 34))
+}
+
+fn trap_at(words: &[i32; 68], at: usize) -> Trap
+    requires { ⌜ at < 67 ⌝ }
+    ensures { λ r. ⌜ r ≡ trapAt (now (words .entry)) at ⌝ }
+{
+    Trap {
+        place: rows_at(words, at),
+        name: name_at(words, at + 1),
+    }
+}
+
+pub fn planted(words: &[i32; 68]) -> Planted
+    ensures { λ r. ⌜ r ≡ plantedIn (now (words .entry)) ⌝ }
+{
+    let traps = [
+        trap_at(words, 36),
+        trap_at(words, 38),
+        trap_at(words, 40),
+        trap_at(words, 42),
+        trap_at(words, 44),
+        trap_at(words, 46),
+        trap_at(words, 48),
+        trap_at(words, 50),
+        trap_at(words, 52),
+        trap_at(words, 54),
+        trap_at(words, 56),
+        trap_at(words, 58),
+        trap_at(words, 60),
+        trap_at(words, 62),
+        trap_at(words, 64),
+        trap_at(words, 66),
+    ];
+    Planted {
+        traps,
+        count: size_at(words, 35),
+    }
+}

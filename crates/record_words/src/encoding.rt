@@ -1,0 +1,290 @@
+// The parts of a record that are no arrays, read from 68 plain words and written as them. Any words are read as parts.
+use super::decoding::Counts;
+use composition::page_rows::Collected;
+use input_stack::stack::Stack;
+use measure::Cells;
+use measure::Rows;
+use page::position::Page;
+use record::Closing;
+use record::Place;
+use record::Waiting;
+use rules::Name;
+use rules::Trap;
+use settings::layout::Layout;
+use settings::layout::Total;
+use source_line::Source;
+use state::Opening;
+use state::Status;
+use traps::table::Planted;
+ghost use mathlib.Core.Path.{_≡_};
+ghost use mathlib.Core.List.{[], _∷_};
+ghost use Prim.Native.Nat.{_+_, _<_, _≤_};
+ghost use lib.ListN.{length, set};
+ghost use lib.Seq.{sets};
+ghost use Rattle.record_words.specs.Decoding.Words.{Short, wordOf, flagWord, nameWord, totalTag, totalValue, layoutWords, pageWords, collectedWords, countsWords, openingWords, sourceWords, waitingWords, closingWords, plantedWords, Named, AllNamed, numberOf, Written, placeIn, PlaceWritten};
+
+// A count as a word; the largest word if it is larger than any.
+fn word_of(count: usize) -> i32
+    ensures { λ r. ⌜ r ≡ wordOf count ⌝ }
+{
+    if count < 2147483647 {
+        return count as i32;
+    }
+    2147483647
+}
+
+fn put_count(words: &mut [i32; 68], at: usize, count: usize)
+    requires { ⌜ at < 68 ⌝ }
+    ensures { λ _. ⌜ now (words .exit) ≡ set (now (words .entry)) at (wordOf count) ⌝ }
+{
+    words[at] = word_of(count);
+}
+
+fn put_flag(words: &mut [i32; 68], at: usize, flag: bool)
+    requires { ⌜ at < 68 ⌝ }
+    ensures { λ _. ⌜ now (words .exit) ≡ set (now (words .entry)) at (flagWord flag) ⌝ }
+{
+    if flag {
+        words[at] = 1;
+        return;
+    }
+    words[at] = 0;
+}
+
+fn put_cells(words: &mut [i32; 68], at: usize, cells: Cells)
+    requires { ⌜ at < 68 ⌝ }
+    ensures { λ _. ⌜ now (words .exit) ≡ set (now (words .entry)) at (cells .0) ⌝ }
+{
+    let count = cells.0;
+    words[at] = count;
+}
+
+fn put_rows(words: &mut [i32; 68], at: usize, rows: Rows)
+    requires { ⌜ at < 68 ⌝ }
+    ensures { λ _. ⌜ now (words .exit) ≡ set (now (words .entry)) at (rows .0) ⌝ }
+{
+    let count = rows.0;
+    words[at] = count;
+}
+
+fn put_name(words: &mut [i32; 68], at: usize, name: Name)
+    requires { ⌜ at < 68 ⌝ }
+    ensures { λ _. ⌜ (now (words .exit) ≡ set (now (words .entry)) at (nameWord name)) × Named name ⌝ }
+{
+    put_count(words, at, name.first as usize * 256 + name.second as usize);
+}
+
+fn put_total(words: &mut [i32; 68], total: Total)
+    ensures { λ _. ⌜ now (words .exit) ≡ sets (now (words .entry)) 7 (totalTag total ∷ totalValue total ∷ []) ⌝ }
+{
+    match total {
+        Total::Is(count) => {
+            put_flag(words, 7, true);
+            put_cells(words, 8, count);
+        }
+        Total::Nothing => {
+            put_flag(words, 7, false);
+            put_count(words, 8, 0);
+        }
+    }
+}
+
+fn put_layout(words: &mut [i32; 68], layout: Layout)
+    ensures { λ _. ⌜ now (words .exit) ≡ sets (now (words .entry)) 0 (layoutWords layout) ⌝ }
+{
+    let line = layout.line;
+    let indent = layout.indent;
+    let offset = layout.offset;
+    let total = layout.total;
+    put_cells(words, 0, line.now);
+    put_cells(words, 1, line.former);
+    put_cells(words, 2, indent.now);
+    put_cells(words, 3, indent.former);
+    put_cells(words, 4, offset.now);
+    put_cells(words, 5, offset.former);
+    put_rows(words, 6, layout.page);
+    put_total(words, total);
+    put_flag(words, 9, layout.filling);
+    put_flag(words, 10, layout.adjusting);
+    put_count(words, 11, layout.centred as usize);
+}
+
+fn put_page(words: &mut [i32; 68], page: Page)
+    ensures { λ _. ⌜ now (words .exit) ≡ sets (now (words .entry)) 12 (pageWords page) ⌝ }
+{
+    put_count(words, 12, page.number as usize);
+    put_rows(words, 13, page.used);
+    put_flag(words, 14, page.last);
+}
+
+fn put_collected(words: &mut [i32; 68], collected: Collected)
+    ensures { λ _. ⌜ now (words .exit) ≡ sets (now (words .entry)) 15 (collectedWords collected) ⌝ }
+{
+    put_flag(words, 15, collected.there);
+    put_cells(words, 16, collected.indent);
+    put_cells(words, 17, collected.room);
+    put_count(words, 18, collected.length);
+    put_count(words, 19, collected.next);
+}
+
+fn put_counts(words: &mut [i32; 68], counts: Counts)
+    ensures { λ _. ⌜ now (words .exit) ≡ sets (now (words .entry)) 20 (countsWords counts) ⌝ }
+{
+    put_count(words, 20, counts.depth);
+    put_count(words, 21, counts.texts);
+    put_count(words, 22, counts.registers);
+}
+
+fn put_opening(words: &mut [i32; 68], opening: Opening)
+    ensures { λ _. ⌜ (now (words .exit) ≡ sets (now (words .entry)) 23 (openingWords opening)) × Named (opening .name) ⌝ }
+{
+    put_flag(words, 23, opening.there);
+    put_name(words, 24, opening.name);
+    put_count(words, 25, opening.length);
+}
+
+fn put_source(words: &mut [i32; 68], source: Source)
+    ensures { λ _. ⌜ (now (words .exit) ≡ sets (now (words .entry)) 26 (sourceWords source)) × (source .stored ≤ 65535) ⌝ }
+{
+    put_count(words, 26, source.line as usize);
+    put_count(words, 27, source.length);
+    put_flag(words, 28, source.ended);
+    put_count(words, 29, source.stored as usize);
+}
+
+fn put_waiting(words: &mut [i32; 68], waiting: Waiting)
+    ensures { λ _. ⌜ now (words .exit) ≡ sets (now (words .entry)) 30 (waitingWords waiting) ⌝ }
+{
+    put_count(words, 30, waiting.at);
+    put_count(words, 31, waiting.end);
+}
+
+// The tag, the number and the line of a closing answer.
+fn put_answer(words: &mut [i32; 68], tag: usize, number: usize, line: usize)
+    ensures { λ _. ⌜ now (words .exit) ≡ sets (now (words .entry)) 32 (wordOf tag ∷ wordOf number ∷ wordOf line ∷ []) ⌝ }
+{
+    put_count(words, 32, tag);
+    put_count(words, 33, number);
+    put_count(words, 34, line);
+}
+
+fn put_closing(words: &mut [i32; 68], closing: Closing)
+    ensures { λ _. ⌜ (now (words .exit) ≡ sets (now (words .entry)) 32 (closingWords closing)) × (numberOf closing ≤ 255) ⌝ }
+{
+    match closing {
+        Closing::Open => put_answer(words, 0, 0, 0),
+        Closing::Done => put_answer(words, 1, 0, 0),
+        Closing::Refused(number, line) => put_answer(words, 2, number as usize, line as usize),
+    }
+}
+
+fn put_trap(words: &mut [i32; 68], at: usize, trap: Trap)
+    requires { ⌜ at < 67 ⌝ }
+    ensures { λ _. ⌜ (now (words .exit) ≡ set (set (now (words .entry)) at (trap .place .0)) (at + 1) (nameWord (trap .name))) × Named (trap .name) ⌝ }
+{
+    put_rows(words, at, trap.place);
+    put_name(words, at + 1, trap.name);
+}
+
+fn put_planted(words: &mut [i32; 68], planted: Planted)
+    ensures { λ _. ⌜ (now (words .exit) ≡ sets (now (words .entry)) 35 (plantedWords planted)) × (length (planted .traps) ≡ 16) × AllNamed (planted .traps) ⌝ }
+{
+    put_count(words, 35, planted.count);
+    let mut i: usize = 0;
+    while i < 16 {
+        let trap = planted.traps[i];
+        put_trap(words, 36 + 2 * i, trap);
+        i += 1;
+    }
+}
+
+// The words of all parts.
+pub fn write(
+    words: &mut [i32; 68],
+    layout: Layout,
+    page: Page,
+    collected: Collected,
+    counts: Counts,
+    opening: Opening,
+    source: Source,
+    waiting: Waiting,
+    closing: Closing,
+    planted: Planted,
+)
+    ensures { λ _. ⌜ Written layout page collected counts opening source waiting closing planted (now (words .exit)) ⌝ }
+{
+    *words = [0i32; 68];
+    put_layout(words, layout);
+    put_page(words, page);
+    put_collected(words, collected);
+    put_counts(words, counts);
+    put_opening(words, opening);
+    put_source(words, source);
+    put_waiting(words, waiting);
+    put_closing(words, closing);
+    put_planted(words, planted);
+}
+
+// The place of words.
+pub fn place(words: &[i32; 68]) -> Place
+    ensures { λ r. ⌜ (r ≡ placeIn (now (words .entry))) × Short (r .status .opening .length) ⌝ }
+{
+    let counts = super::decoding::counts_in(words);
+    Place {
+        status: Status {
+            layout: super::decoding::layout(words),
+            page: super::decoding::page(words),
+            collected: super::decoding::collected(words),
+            planted: super::decoding::planted(words),
+            stack: Stack {
+                depth: counts.depth,
+            },
+            texts: counts.texts,
+            opening: super::decoding::opening(words),
+            registers: counts.registers,
+        },
+        source: super::decoding::source(words),
+        waiting: super::decoding::waiting(words),
+        closing: super::decoding::closing(words),
+    }
+}
+
+// A place as words.
+pub fn write_place(words: &mut [i32; 68], place: Place)
+    ensures { λ _. ⌜ PlaceWritten place (now (words .exit)) ⌝ }
+{
+    let status = place.status;
+    let stack = status.stack;
+    let counts = Counts {
+        depth: stack.depth,
+        texts: status.texts,
+        registers: status.registers,
+    };
+    let layout = status.layout;
+    let page = status.page;
+    let collected = status.collected;
+    let opening = status.opening;
+    let planted = status.planted;
+    let source = place.source;
+    let waiting = place.waiting;
+    let closing = place.closing;
+    write(
+        words,
+        layout,
+        page,
+        collected,
+        counts,
+        opening,
+        source,
+        waiting,
+        closing,
+        planted,
+    );
+}
+
+// The one word of how many bytes the source line being taken has.
+pub fn write_length(words: &mut [i32; 68], length: usize)
+    ensures { λ _. ⌜ now (words .exit) ≡ set (now (words .entry)) 27 (wordOf length) ⌝ }
+{
+    put_count(words, 27, length);
+}

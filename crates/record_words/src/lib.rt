@@ -1,0 +1,3 @@
+// A record as words for C, and back.
+pub mod decoding;
+pub mod encoding;

@@ -1,0 +1,164 @@
+// The session for C: a record is 68 words and 13 arrays of numbers, any bytes make one, and the arrays are lent where they lie.
+pub mod replies;
+
+ghost use mathlib.Core.Path.{_≡_};
+ghost use Rattle.session.specs.Limits.{Sized};
+ghost use Rattle.session.specs.Start.{startRecord};
+ghost use Rattle.source_line.specs.Gathering.{Appends};
+ghost use Rattle.record_words.specs.Encoding.Kept.{recordIn};
+ghost use Rattle.rockavine_c.specs.Calls.{BlockTaken, CalledFrom};
+
+// The version of this interface.
+#[no_mangle]
+pub extern "C" fn rockavine_version() -> u32
+    ensures { λ r. ⌜ r ≡ 1 ⌝ }
+{
+    1
+}
+
+// The starting record.
+#[no_mangle]
+pub extern "C" fn rockavine_start_parts(
+    words: &mut [i32; 68],
+    gathered: &mut [u8; 512],
+    cells: &mut [u8; 512],
+    row: &mut [u8; 872],
+    arena: &mut [u8; 8704],
+    ends: &mut [u16; 221],
+    text_firsts: &mut [u8; 64],
+    text_seconds: &mut [u8; 64],
+    kinds: &mut [u8; 64],
+    lengths: &mut [u16; 64],
+    firsts: &mut [u8; 64],
+    seconds: &mut [u8; 64],
+    values: &mut [i32; 64],
+    steps: &mut [i32; 64],
+)
+    ensures { λ _. ⌜ (recordIn (now (words .exit)) (now (gathered .exit)) (now (cells .exit)) (now (row .exit)) (now (arena .exit)) (now (ends .exit)) (now («text_firsts» .exit)) (now («text_seconds» .exit)) (now (kinds .exit)) (now (lengths .exit)) (now (firsts .exit)) (now (seconds .exit)) (now (values .exit)) (now (steps .exit))) ≡ startRecord ⌝ }
+{
+    record_words::encoding::write_place(words, session::start_place());
+    *gathered = [0u8; 512];
+    *cells = [0u8; 512];
+    *row = [0u8; 872];
+    *arena = [0u8; 8704];
+    *ends = [0u16; 221];
+    *text_firsts = [0u8; 64];
+    *text_seconds = [0u8; 64];
+    *kinds = [0u8; 64];
+    *lengths = [0u16; 64];
+    *firsts = [0u8; 64];
+    *seconds = [0u8; 64];
+    *values = [0i32; 64];
+    *steps = [0i32; 64];
+}
+
+// A block goes into the source line that is being taken: the length of the line is the one word that changes.
+fn take_block(block: &[u8], words: &mut [i32; 68], gathered: &mut [u8; 512], start: usize)
+    requires { ⌜ Appends (now block) (now gathered) start ⌝ }
+    ensures { λ _. ⌜ BlockTaken (now (block .entry)) start (now (words .entry)) (now (gathered .entry)) (now (words .exit)) (now (gathered .exit)) ⌝ }
+{
+    source_line::append(block, gathered, start);
+    record_words::encoding::write_length(words, start + block.len());
+}
+
+// One session call on a record where it lies.
+#[no_mangle]
+pub extern "C" fn rockavine_call_parts(
+    words: &mut [i32; 68],
+    gathered: &mut [u8; 512],
+    cells: &mut [u8; 512],
+    row: &mut [u8; 872],
+    arena: &mut [u8; 8704],
+    ends: &mut [u16; 221],
+    text_firsts: &mut [u8; 64],
+    text_seconds: &mut [u8; 64],
+    kinds: &mut [u8; 64],
+    lengths: &mut [u16; 64],
+    firsts: &mut [u8; 64],
+    seconds: &mut [u8; 64],
+    values: &mut [i32; 64],
+    steps: &mut [i32; 64],
+    store: &mut [u8],
+    block: &[u8],
+    last: u8,
+    out: &mut [u8],
+    taken: &mut usize,
+    written: &mut usize,
+    number: &mut u8,
+    line: &mut u32,
+) -> u32
+    requires { ⌜ Sized (recordIn (now words) (now gathered) (now cells) (now row) (now arena) (now ends) (now «text_firsts») (now «text_seconds») (now kinds) (now lengths) (now firsts) (now seconds) (now values) (now steps)) ⌝ }
+    ensures { λ r. ⌜ CalledFrom (recordIn (now (words .entry)) (now (gathered .entry)) (now (cells .entry)) (now (row .entry)) (now (arena .entry)) (now (ends .entry)) (now («text_firsts» .entry)) (now («text_seconds» .entry)) (now (kinds .entry)) (now (lengths .entry)) (now (firsts .entry)) (now (seconds .entry)) (now (values .entry)) (now (steps .entry))) (now (words .entry)) (now (store .entry)) (now (block .entry)) last (now (out .entry)) r (now (taken .exit)) (now (written .exit)) (now (number .exit)) (now (line .exit)) (recordIn (now (words .exit)) (now (gathered .exit)) (now (cells .exit)) (now (row .exit)) (now (arena .exit)) (now (ends .exit)) (now («text_firsts» .exit)) (now («text_seconds» .exit)) (now (kinds .exit)) (now (lengths .exit)) (now (firsts .exit)) (now (seconds .exit)) (now (values .exit)) (now (steps .exit))) (now (words .exit)) (now (store .exit)) (now (out .exit)) ⌝ }
+{
+    let place = record_words::encoding::place(&*words);
+    if !session::is_legal(
+        place,
+        &*gathered,
+        &*cells,
+        &*row,
+        &*arena,
+        &*ends,
+        &*store,
+        &*text_firsts,
+        &*text_seconds,
+        &*kinds,
+        &*lengths,
+        &*firsts,
+        &*seconds,
+        &*values,
+        &*steps,
+    ) {
+        *taken = 0;
+        *written = 0;
+        *number = 1;
+        *line = 0;
+        return 3;
+    }
+    let source = place.source;
+    let waiting = place.waiting;
+    let closing = place.closing;
+    // most calls with few bytes: a line is neither begun nor ended, and the record stays as it is but for that line
+    if record::is_inside(
+        block,
+        replies::is_last(last),
+        place.status.stack.depth,
+        source,
+        waiting,
+        closing,
+    ) {
+        take_block(block, words, gathered, source.length);
+        *taken = block.len();
+        *written = 0;
+        *number = 0;
+        *line = 0;
+        return 0;
+    }
+    let ran = session::serve(
+        block,
+        replies::is_last(last),
+        place,
+        out,
+        gathered,
+        cells,
+        row,
+        arena,
+        ends,
+        store,
+        text_firsts,
+        text_seconds,
+        kinds,
+        lengths,
+        firsts,
+        seconds,
+        values,
+        steps,
+    );
+    let answer = ran.answer;
+    let after = ran.place;
+    *taken = ran.taken;
+    *written = ran.written;
+    *number = replies::number_of(answer);
+    *line = replies::line_of(answer);
+    record_words::encoding::write_place(words, after);
+    replies::code_of(answer)
+}

@@ -1,0 +1,18 @@
+-- `scan::arguments::quote_at` meets its contract: behind the end stands no byte. Assumes nothing.
+use mathlib.Core.Path.{sym}
+use lib.ListN.{List·getD-eq-default}
+use borrow.Author.Needs.{needs}
+use Rattle.scan.proofs.arguments.quote_at.Statement.{statement}
+use Rattle.scan.proofs.arguments.quote_at.Tie as tie
+
+shared-slice-read-result : tie.Need-shared-slice-read-result
+shared-slice-read-result c = search needs
+
+returns : tie.Need-returns
+returns c = search needs
+
+returns-2 : tie.Need-returns-2
+returns-2 c = rw (List·getD-eq-default (c .before .args .line .now) 0 (c .if1 .left))
+
+pub quote-at-spec : {M : Type 1} → statement M
+quote-at-spec = tie.close (tie.spec shared-slice-read-result returns returns-2)

@@ -1,0 +1,142 @@
+-- The expansion of a text, turn by turn. Assumes nothing.
+use mathlib.Core.Path.{_≡_, refl, sym, ap, _∙_}
+use mathlib.Core.List.{List, [], _∷_, append-nil}
+use Prim.Native.Nat.{ℕ, zero, suc, _+_, _-_, _≤_}
+use native.Mathlib.Omega.{arith}
+use lib.ListN.{length, take, drop}
+use lib.IntN.{ℤ}
+use Rattle.rules.specs.declared.Mode.{Mode}
+use Rattle.rules.specs.declared.Name.{Name}
+use Rattle.rules.specs.Texts.{textOf}
+use Rattle.texts.specs.Table.Places.{bytesOr}
+use Rattle.rules.specs.Escapes.{Surroundings, scanned, run, scan}
+use Rattle.registers.specs.Table.Columns.{Table, tableOf}
+use Rattle.scan.specs.declared.escapes.What.{What}
+use Rattle.scan.specs.declared.expansion.Acted.the-variants as acted
+use Rattle.scan.specs.declared.expansion.Progress.{Progress}
+use Rattle.scan.specs.declared.expansion.Progress.the-variants.{Over, Ended, Refused}
+use Rattle.scan.specs.Escapes.Readings.{actionIn}
+use Rattle.scan.specs.declared.expansion.Scanned.the-variants as answer
+use Rattle.scan.specs.Output.Runs.{from, total}
+use Rattle.scan.specs.Output.Writes.{Room}
+use Rattle.scan.specs.Expansion.Acts.{behind, ActsTo}
+use Rattle.scan.specs.Expansion.Expansion.{Filled, ReadOver, ReadEscape, StopsIn, progressOf, ExpandsTo, ScannedTo}
+use Rattle.scan.proofs.output.Buffers.{later}
+use Rattle.scan.proofs.expansion.Escapes.{before-nothing}
+
+-- nothing is written yet; more is written
+pub fill-none : {out : List ℕ} {written limit : ℕ} → Room out written limit → Filled out written limit written out
+fill-none r = record { room = r; more = omega arith; kept = refl }
+
+pub fill-more : {out : List ℕ} {written limit n : ℕ} {out' : List ℕ} {k : ℕ} {out'' : List ℕ} → Filled out written limit n out' → Filled out' n limit k out'' → Filled out written limit k out''
+fill-more {out} {written} {limit} {n} {out'} {k} {out''} f g =
+    record { room = g .room; more = omega (arith, f .more, g .more); kept = g .kept ∙ later out' out n k (g .more) (f .kept) }
+
+-- what the rules make of the text is what they make of it from i on
+pub record Going (w : Surroundings) (m : Mode) (text : List ℕ) (depth left : ℕ) (out : List ℕ) (written limit : ℕ) (fs ss : List ℕ) (vs ts : List ℤ) (count : ℕ) (i l n : ℕ) (out' : List ℕ) (vs' : List ℤ) : Type 0 where
+  pub is : (u : List (List ℕ)) → length u ≡ depth
+      → total w m out written limit left (text ∷ u) (tableOf fs ss vs ts count) ≡ total w m out' n limit l (drop i text ∷ u) (tableOf fs ss vs' ts count)
+  pub high : i ≤ length text
+  pub filled : Filled out written limit n out'
+  pub table : Table fs ss vs' ts count
+
+module _ {w : Surroundings} {m : Mode} {text : List ℕ} {depth left : ℕ} {out : List ℕ} {written limit : ℕ} {fs ss : List ℕ} {vs ts : List ℤ} {count : ℕ} where
+  pub start : Room out written limit → Table fs ss vs ts count → Going w m text depth left out written limit fs ss vs ts count 0 left written out vs
+  start r t = record { is = λ u e. refl; high = omega arith; filled = fill-none r; table = t }
+
+  module _ {i l n : ℕ} {out1 : List ℕ} {vs1 : List ℤ} (g : Going w m text depth left out written limit fs ss vs ts count i l n out1 vs1) where
+    pub over : {l2 n2 : ℕ} {out2 : List ℕ} → ReadOver text i l n limit out1 l2 n2 out2 → ExpandsTo (Over l2 n2) w m text depth left out written limit fs ss vs ts count out2 vs1
+    over r = record { is = λ u e. g .is u e ∙ r .is w m u (tableOf fs ss vs1 ts count); table = g .table; sound = fill-more (g .filled) (r .filled) }
+
+    pub stopped : {k : ℕ} {out2 : List ℕ} → StopsIn m text i l n limit out1 k out2 → ExpandsTo (Refused k) w m text depth left out written limit fs ss vs ts count out2 vs1
+    stopped s = record { is = λ u e. g .is u e ∙ s .is w u (tableOf fs ss vs1 ts count); table = g .table; sound = s .long }
+
+    module _ {end l2 n2 : ℕ} {what : What} {out2 : List ℕ} (r : ReadEscape m text i l n limit out1 end l2 n2 what out2) where
+      -- the action, behind all that is written
+      here : (u : List (List ℕ)) → length u ≡ depth
+          → total w m out written limit left (text ∷ u) (tableOf fs ss vs ts count) ≡ behind w m out2 n2 limit (actionIn what) l2 (drop end text ∷ u) (tableOf fs ss vs1 ts count)
+      here u e = g .is u e ∙ r .is w u (tableOf fs ss vs1 ts count)
+
+      so-far : Filled out written limit n2 out2
+      so-far = fill-more (g .filled) (r .filled)
+
+      module _ {out3 : List ℕ} {vs3 : List ℤ} where
+        pub wrote : {n3 : ℕ} → ActsTo (acted.Wrote n3) w m out2 n2 limit depth (actionIn what) fs ss vs1 ts count out3 vs3
+            → Going w m text depth left out written limit fs ss vs ts count end l2 n3 out3 vs3
+        wrote a = record {
+          is = λ u e. here u e ∙ a .acted .is l2 (drop end text) u e;
+          high = r .high;
+          filled = let s = a .acted .sound in fill-more so-far (record { room = s .0; more = s .1; kept = s .2 });
+          table = a .table;
+        }
+
+        pub refuses : {k : ℕ} → ActsTo (acted.Refused k) w m out2 n2 limit depth (actionIn what) fs ss vs1 ts count out3 vs3
+            → ExpandsTo (Refused k) w m text depth left out written limit fs ss vs ts count out3 vs3
+        refuses a = record { is = λ u e. here u e ∙ a .acted .is l2 (drop end text) u e; table = a .table; sound = a .acted .sound }
+
+        pub ends : ActsTo acted.Ends w m out2 n2 limit depth (actionIn what) fs ss vs1 ts count out3 vs3
+            → ExpandsTo (Ended n2) w m text depth left out written limit fs ss vs ts count out3 vs3
+        ends a = record { is = λ u e. here u e ∙ a .acted .is l2 (drop end text) u e; table = a .table; sound = rw (a .acted .sound) so-far }
+
+        module _ {name : Name} (a : ActsTo (acted.Enters name) w m out2 n2 limit depth (actionIn what) fs ss vs1 ts count out3 vs3) where
+          module _ {p : Progress} {string out4 : List ℕ} {vs4 : List ℤ} (b : string ≡ bytesOr (textOf name (w .texts)))
+              (x : ExpandsTo p w m string (depth + 1) l2 out3 n2 limit fs ss vs3 ts count out4 vs4) where
+            inside : (u : List (List ℕ)) → length u ≡ depth
+                → total w m out written limit left (text ∷ u) (tableOf fs ss vs ts count) ≡ progressOf p w m out4 limit (drop end text ∷ u) (tableOf fs ss vs4 ts count)
+            inside u e =
+                here u e ∙ a .acted .is l2 (drop end text) u e ∙ ap (λ t. total w m out3 n2 limit l2 (t ∷ drop end text ∷ u) (tableOf fs ss vs3 ts count)) (sym b)
+                ∙ x .is (drop end text ∷ u) (omega arith)
+
+          before-it : Filled out written limit n2 out3
+          before-it = rw (a .acted .sound .0) so-far
+
+          module _ {string out4 : List ℕ} {vs4 : List ℤ} (b : string ≡ bytesOr (textOf name (w .texts))) where
+            pub string-over : {l3 n3 : ℕ} → ExpandsTo (Over l3 n3) w m string (depth + 1) l2 out3 n2 limit fs ss vs3 ts count out4 vs4
+                → Going w m text depth left out written limit fs ss vs ts count end l3 n3 out4 vs4
+            string-over x = record { is = λ u e. inside b x u e; high = r .high; filled = fill-more before-it (x .sound); table = x .table }
+
+            pub string-ended : {n3 : ℕ} → ExpandsTo (Ended n3) w m string (depth + 1) l2 out3 n2 limit fs ss vs3 ts count out4 vs4
+                → ExpandsTo (Ended n3) w m text depth left out written limit fs ss vs ts count out4 vs4
+            string-ended x = record { is = λ u e. inside b x u e; table = x .table; sound = fill-more before-it (x .sound) }
+
+            pub string-refused : {k : ℕ} → ExpandsTo (Refused k) w m string (depth + 1) l2 out3 n2 limit fs ss vs3 ts count out4 vs4
+                → ExpandsTo (Refused k) w m text depth left out written limit fs ss vs ts count out4 vs4
+            string-refused x = record { is = λ u e. inside b x u e; table = x .table; sound = x .sound }
+
+-- the whole line
+module _ {w : Surroundings} {m : Mode} {line : List ℕ} {left : ℕ} {out : List ℕ} {limit : ℕ} {fs ss : List ℕ} {vs ts : List ℤ} {count : ℕ} {out' : List ℕ} {vs' : List ℤ} where
+  -- what the rules make of it
+  whole : (prefix : ℕ) {p : Progress} → limit ≡ 512 - prefix → left ≡ 8192 - prefix → ExpandsTo p w m line 0 left out 0 limit fs ss vs ts count out' vs'
+      → progressOf p w m out' limit [] (tableOf fs ss vs' ts count) ≡ scan w m (tableOf fs ss vs ts count) prefix line
+  unfolding scan total
+  whole prefix f h x =
+      sym (x .is [] refl) ∙ before-nothing (from w m left (line ∷ []) (limit - 0) (tableOf fs ss vs ts count))
+      ∙ ap (λ (k : ℕ). from w m left (line ∷ []) k (tableOf fs ss vs ts count)) (let z : limit - 0 ≡ limit = omega arith in z ∙ f)
+      ∙ ap (λ (k : ℕ). from w m k (line ∷ []) (512 - prefix) (tableOf fs ss vs ts count)) h
+
+  pub line-over : (prefix : ℕ) {l n : ℕ} → limit ≡ 512 - prefix → left ≡ 8192 - prefix → ExpandsTo (Over l n) w m line 0 left out 0 limit fs ss vs ts count out' vs'
+      → ScannedTo (answer.Line n) w m prefix line fs ss vs ts count out out' vs'
+  unfolding total run
+  line-over prefix {l} {n} f h x = record {
+    is = nothing-left l n ∙ whole prefix f h x;
+    table = x .table;
+    kept = (omega (arith, x .sound .room .low, x .sound .room .high), x .sound .kept);
+    long = x .sound .room .long;
+  }
+    where
+      nothing-left : (l n : ℕ) → scanned (take n out') (tableOf fs ss vs' ts count) ≡ total w m out' n limit l [] (tableOf fs ss vs' ts count)
+      nothing-left zero n = ap (λ t. scanned t (tableOf fs ss vs' ts count)) (sym (append-nil (take n out')))
+      nothing-left (suc l) n = ap (λ t. scanned t (tableOf fs ss vs' ts count)) (sym (append-nil (take n out')))
+
+  pub line-ended : (prefix : ℕ) {n : ℕ} → limit ≡ 512 - prefix → left ≡ 8192 - prefix → ExpandsTo (Ended n) w m line 0 left out 0 limit fs ss vs ts count out' vs'
+      → ScannedTo (answer.Line n) w m prefix line fs ss vs ts count out out' vs'
+  line-ended prefix f h x = record {
+    is = whole prefix f h x;
+    table = x .table;
+    kept = (omega (arith, x .sound .room .low, x .sound .room .high), x .sound .kept);
+    long = x .sound .room .long;
+  }
+
+  pub line-refused : (prefix : ℕ) {k : ℕ} → limit ≡ 512 - prefix → left ≡ 8192 - prefix → ExpandsTo (Refused k) w m line 0 left out 0 limit fs ss vs ts count out' vs'
+      → ScannedTo (answer.Refused k) w m prefix line fs ss vs ts count out out' vs'
+  line-refused prefix f h x = record { is = whole prefix f h x; table = x .table; kept = tt; long = x .sound }

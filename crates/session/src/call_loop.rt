@@ -1,0 +1,215 @@
+// The turns of a call: what waits is written, and then a piece of work is done, bytes are taken or the end is read.
+use record::Closing;
+use record::Place;
+use record::Ran;
+use record::Stop;
+use record::Turn;
+use record::Waiting;
+use source_line::Source;
+use state::Status;
+use stream::Answer;
+ghost use Prim.Native.Nat.{_<_};
+ghost use Rattle.record.specs.View.{Legal};
+ghost use Rattle.record.specs.Turns.{recordOf, resting, placeIn, Turns, Turned, Runs, replyFrom};
+
+// One turn of a call on an open session for which nothing waits: a piece of work; else bytes of the block; else the end, if this is marked last.
+fn take_turn(
+    block: &[u8],
+    taken: usize,
+    last: bool,
+    status: Status,
+    source: Source,
+    gathered: &mut [u8; 512],
+    cells: &mut [u8; 512],
+    row: &mut [u8; 872],
+    arena: &mut [u8; 8704],
+    ends: &mut [u16; 221],
+    store: &mut [u8],
+    text_firsts: &mut [u8; 64],
+    text_seconds: &mut [u8; 64],
+    kinds: &mut [u8; 64],
+    lengths: &mut [u16; 64],
+    firsts: &mut [u8; 64],
+    seconds: &mut [u8; 64],
+    values: &mut [i32; 64],
+    steps: &mut [i32; 64],
+) -> Turn
+    requires { ⌜ Turns (now block) (recordOf (resting status source) (now gathered) (now cells) (now row) (now arena) (now ends) (now «text_firsts») (now «text_seconds») (now kinds) (now lengths) (now firsts) (now seconds) (now values) (now steps)) (now store) taken ⌝ }
+    ensures { λ r. ⌜ Turned (r .stop) (now (block .entry)) last (recordOf (resting status source) (now (gathered .entry)) (now (cells .entry)) (now (row .entry)) (now (arena .entry)) (now (ends .entry)) (now («text_firsts» .entry)) (now («text_seconds» .entry)) (now (kinds .entry)) (now (lengths .entry)) (now (firsts .entry)) (now (seconds .entry)) (now (values .entry)) (now (steps .entry))) (now (store .entry)) taken (recordOf (placeIn r) (now (gathered .exit)) (now (cells .exit)) (now (row .exit)) (now (arena .exit)) (now (ends .exit)) (now («text_firsts» .exit)) (now («text_seconds» .exit)) (now (kinds .exit)) (now (lengths .exit)) (now (firsts .exit)) (now (seconds .exit)) (now (values .exit)) (now (steps .exit))) (now (store .exit)) (r .taken) ⌝ }
+{
+    if record::has_work(status.stack.depth, source.ended) {
+        return super::item_work::work(
+            taken,
+            status,
+            source,
+            cells,
+            row,
+            arena,
+            ends,
+            store,
+            text_firsts,
+            text_seconds,
+            kinds,
+            lengths,
+            firsts,
+            seconds,
+            values,
+            steps,
+        );
+    }
+    if taken < block.len() {
+        return super::source_input::take_line(
+            block,
+            taken,
+            status,
+            source,
+            gathered,
+            cells,
+            row,
+            arena,
+            ends,
+            store,
+            text_firsts,
+            text_seconds,
+            kinds,
+            lengths,
+            firsts,
+            seconds,
+            values,
+            steps,
+        );
+    }
+    if last {
+        return super::source_input::read_end(
+            taken,
+            status,
+            source,
+            gathered,
+            cells,
+            row,
+            arena,
+            ends,
+            store,
+            text_firsts,
+            text_seconds,
+            kinds,
+            lengths,
+            firsts,
+            seconds,
+            values,
+            steps,
+        );
+    }
+    Turn {
+        stop: Stop::With(Answer::NeedsInput),
+        status,
+        source,
+        waiting: Waiting { at: 0, end: 0 },
+        closing: Closing::Open,
+        taken,
+    }
+}
+
+// The turns of a call.
+pub fn run(
+    block: &[u8],
+    last: bool,
+    start: Place,
+    out: &mut [u8],
+    gathered: &mut [u8; 512],
+    cells: &mut [u8; 512],
+    row: &mut [u8; 872],
+    arena: &mut [u8; 8704],
+    ends: &mut [u16; 221],
+    store: &mut [u8],
+    text_firsts: &mut [u8; 64],
+    text_seconds: &mut [u8; 64],
+    kinds: &mut [u8; 64],
+    lengths: &mut [u16; 64],
+    firsts: &mut [u8; 64],
+    seconds: &mut [u8; 64],
+    values: &mut [i32; 64],
+    steps: &mut [i32; 64],
+) -> Ran
+    requires { ⌜ Legal (recordOf start (now gathered) (now cells) (now row) (now arena) (now ends) (now «text_firsts») (now «text_seconds») (now kinds) (now lengths) (now firsts) (now seconds) (now values) (now steps)) (now store) ⌝ }
+    ensures { λ r. ⌜ Runs (recordOf start (now (gathered .entry)) (now (cells .entry)) (now (row .entry)) (now (arena .entry)) (now (ends .entry)) (now («text_firsts» .entry)) (now («text_seconds» .entry)) (now (kinds .entry)) (now (lengths .entry)) (now (firsts .entry)) (now (seconds .entry)) (now (values .entry)) (now (steps .entry))) (now (store .entry)) (now (block .entry)) last (now (out .entry)) (replyFrom r (recordOf (r .place) (now (gathered .exit)) (now (cells .exit)) (now (row .exit)) (now (arena .exit)) (now (ends .exit)) (now («text_firsts» .exit)) (now («text_seconds» .exit)) (now (kinds .exit)) (now (lengths .exit)) (now (firsts .exit)) (now (seconds .exit)) (now (values .exit)) (now (steps .exit)))) (now (store .exit)) (now (out .exit)) ⌝ }
+{
+    let mut status = start.status;
+    let mut source = start.source;
+    let mut waiting = start.waiting;
+    let mut closing = start.closing;
+    let mut taken: usize = 0;
+    let mut written: usize = 0;
+    loop {
+        let wrote = record::write_out(waiting, row, out, written);
+        waiting = wrote.waiting;
+        written = wrote.written;
+        if waiting.at < waiting.end {
+            return Ran {
+                answer: Answer::NeedsRoom,
+                place: Place {
+                    status,
+                    source,
+                    waiting,
+                    closing,
+                },
+                taken,
+                written,
+            };
+        }
+        let ended = record::closed(closing);
+        if let Stop::With(answer) = ended {
+            return Ran {
+                answer,
+                place: Place {
+                    status,
+                    source,
+                    waiting,
+                    closing,
+                },
+                taken,
+                written,
+            };
+        }
+        let turned = take_turn(
+            block,
+            taken,
+            last,
+            status,
+            source,
+            gathered,
+            cells,
+            row,
+            arena,
+            ends,
+            store,
+            text_firsts,
+            text_seconds,
+            kinds,
+            lengths,
+            firsts,
+            seconds,
+            values,
+            steps,
+        );
+        status = turned.status;
+        source = turned.source;
+        waiting = turned.waiting;
+        closing = turned.closing;
+        taken = turned.taken;
+        let stop = turned.stop;
+        if let Stop::With(answer) = stop {
+            return Ran {
+                answer,
+                place: Place {
+                    status,
+                    source,
+                    waiting,
+                    closing,
+                },
+                taken,
+                written,
+            };
+        }
+    }
+}

@@ -1,0 +1,13 @@
+-- `settings::layout::stands` meets its contract. Assumes nothing.
+use borrow.Author.Needs.{needs}
+use Rattle.settings.proofs.layout.stands.Statement.{statement}
+use Rattle.settings.proofs.layout.stands.Tie as tie
+
+returns : tie.Need-returns
+returns c = rw (c .before .if1 .taken)
+
+returns-2 : tie.Need-returns-2
+returns-2 c = search needs
+
+pub stands-spec : {M : Type 1} → statement M
+stands-spec = tie.close (tie.spec returns returns-2)

@@ -1,0 +1,83 @@
+-- How the checks of lent columns go on at a row. Assumes nothing.
+use mathlib.Core.Path.{_≡_, refl, sym, ap, _∙_}
+use mathlib.Core.Bool.{Bool, true, false, not, _&&_}
+use mathlib.Core.List.{List, [], _∷_}
+use Prim.Native.Nat.{ℕ, suc, _+_, _≤_, _<_}
+use native.Mathlib.Numerals.{add-one}
+use native.Mathlib.Omega.{arith}
+use lib.Dec.{leb}
+use lib.ListN.{length, take, drop, getD, drop-of-length-le}
+use lib.Seq.{drop-cons}
+use borrow.Author.Tests.{le-leb, lt-leb}
+use Rattle.rules.specs.declared.Name.{Name}
+use Rattle.rules.specs.Names.{sameName, twoBytes}
+use Rattle.rules.specs.Texts.{live}
+use Rattle.texts.specs.Table.Table.{namesOf, sum, textsOf, Names, Lies}
+use Rattle.texts.specs.Table.Changes.{roomOf}
+use Rattle.texts.specs.Table.Checks.{NameColumns, isTable, table-short, lacks, allDistinct, noNameTwice}
+use Rattle.texts.proofs.table.Lists.{sum-step, sum-mono}
+use Rattle.texts.proofs.table.ChangeLaws.{texts-live}
+
+-- "live text past 8,192 bytes": the texts of columns that pass the test have no more
+pub table-live : (st fs ss ks ls : List ℕ) (n : ℕ) → Lies st fs ss ks ls n → isTable (length st) ls n ≡ true → live (textsOf st fs ss ks ls n) ≤ 8192
+table-live st fs ss ks ls n h e = omega (arith, texts-live st fs ss ks ls n h, table-short st fs ss ks ls n e)
+
+-- the sum of lengths
+
+module _ (s : ℕ) (ls : List ℕ) (n : ℕ) where
+  pub table-many : 64 < n → isTable s ls n ≡ false
+  table-many h = rw (lt-leb n 64 h)
+
+  -- the rows before i and the one at i have more than the room already
+  pub table-over : n ≤ 64 → (i left : ℕ) → i < n → sum (take i ls) + left ≡ roomOf s → left < getD ls i 0 → isTable s ls n ≡ false
+  table-over k i left h e o =
+      let g : roomOf s < sum (take n ls) = omega (arith, sum-step ls i, sum-mono ls (i + 1) n (omega arith)) in
+      rw (le-leb n 64 k, lt-leb (sum (take n ls)) (roomOf s) g)
+
+  pub table-fits : n ≤ 64 → (i left : ℕ) → i ≡ n → sum (take i ls) + left ≡ roomOf s → isTable s ls n ≡ true
+  table-fits k i left h e =
+      let q = ap (λ (m : ℕ). sum (take m ls)) h in
+      let g : sum (take n ls) ≤ roomOf s = omega arith in
+      rw (le-leb n 64 k, le-leb (sum (take n ls)) (roomOf s) g)
+
+-- names
+
+module _ (n : Name) (l : List Name) (i : ℕ) (d : Name) (h : i < length l) where
+  pub lacks-here : sameName n (getD l i d) ≡ true → lacks n (drop i l) ≡ false
+  unfolding lacks
+  lacks-here e = ap (lacks n) (drop-cons l i d h) ∙ ap (λ b. not b && lacks n (drop (suc i) l)) e
+
+  pub lacks-on : sameName n (getD l i d) ≡ false → lacks n (drop i l) ≡ lacks n (drop (i + 1) l)
+  unfolding lacks
+  lacks-on e =
+      ap (lacks n) (drop-cons l i d h) ∙ ap (λ b. not b && lacks n (drop (suc i) l)) e ∙ ap (λ j. lacks n (drop j l)) (sym (add-one i))
+
+pub lacks-end : (n : Name) (l : List Name) (i : ℕ) → length l ≤ i → lacks n (drop i l) ≡ true
+unfolding lacks
+lacks-end n l i h = rw (drop-of-length-le l h)
+
+module _ (l : List Name) (i : ℕ) (d : Name) (h : i < length l) where
+  distinct-cons : allDistinct (drop i l) ≡ (lacks (getD l i d) (drop (i + 1) l) && allDistinct (drop (i + 1) l))
+  unfolding allDistinct
+  distinct-cons =
+      ap allDistinct (drop-cons l i d h) ∙ ap (λ j. lacks (getD l i d) (drop j l) && allDistinct (drop j l)) (sym (add-one i))
+
+  pub distinct-on : lacks (getD l i d) (drop (i + 1) l) ≡ true → allDistinct (drop i l) ≡ allDistinct (drop (i + 1) l)
+  distinct-on e = distinct-cons ∙ ap (λ b. b && allDistinct (drop (i + 1) l)) e
+
+  pub distinct-stop : lacks (getD l i d) (drop (i + 1) l) ≡ false → allDistinct (drop i l) ≡ false
+  distinct-stop e = distinct-cons ∙ ap (λ b. b && allDistinct (drop (i + 1) l)) e
+
+pub distinct-end : (l : List Name) (i : ℕ) → length l ≤ i → allDistinct (drop i l) ≡ true
+unfolding allDistinct
+distinct-end l i h = rw (drop-of-length-le l h)
+
+-- columns that hold a table of so many
+pub names-of : (fs ss : List ℕ) (n : ℕ) → NameColumns fs ss → n ≤ 64 → Names fs ss n
+names-of fs ss n h k = record { firsts-long = h .firsts-long; seconds-long = h .seconds-long; few = k }
+
+pub twice-many : (fs ss : List ℕ) (n : ℕ) → 64 < n → noNameTwice fs ss n ≡ false
+twice-many fs ss n h = rw (lt-leb n 64 h)
+
+pub twice-few : (fs ss : List ℕ) (n : ℕ) → n ≤ 64 → noNameTwice fs ss n ≡ allDistinct (namesOf fs ss n)
+twice-few fs ss n h = rw (le-leb n 64 h)

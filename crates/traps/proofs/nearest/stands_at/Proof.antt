@@ -1,0 +1,30 @@
+-- `traps::nearest::stands_at` meets its contract. Assumes nothing.
+use mathlib.Core.Path.{_≡_}
+use borrow.Author.Needs.{needs}
+use Rattle.rules.specs.Traps.{rowOf}
+use Rattle.traps.specs.declared.table.Row.{Row}
+use Rattle.traps.specs.Table.Table.{rowIs}
+use Rattle.traps.proofs.table.Places.{row-told}
+use Rattle.traps.proofs.nearest.stands_at.Statement.{statement}
+use Rattle.traps.proofs.nearest.stands_at.Tie as tie
+
+row-is : {s : Row} (c : tie.After-row-of) → c .row-of .result ≡ s → rowOf (c .before .args .page) (c .before .args .trap .place .0) ≡ rowIs s
+row-is c = row-told (c .before .args .trap .place .0) (c .before .args .page) (c .row-of .ensures)
+
+row-of-requires : tie.Need-row-of-requires
+row-of-requires c κs = search needs
+
+enum-known-n : tie.Need-enum-known-n
+enum-known-n c = search needs
+
+enum-told : tie.Need-enum-told
+enum-told c = search needs
+
+returns : tie.Need-returns
+returns c = rw (row-is (c .before .before .before) (c .before .n .given .1))
+
+returns-2 : tie.Need-returns-2
+returns-2 c = rw (row-is (c .before .before) (c .enum-told .given .1))
+
+pub stands-at-spec : {M : Type 1} → statement M
+stands-at-spec = tie.close (tie.spec row-of-requires enum-known-n enum-told returns returns-2)
