@@ -2,3 +2,4 @@ pub mod PageRows
 pub mod Filling
 pub mod BreakRequests
 pub mod NoBreakRequests
+pub mod TextCalls

@@ -1,6 +1,8 @@
 // What a breaking request does: it starts the first page, or breaks, or acts.
 use super::page_rows::Collected;
 use super::page_rows::Outcome;
+use super::page_rows::settle;
+use super::page_rows::stay;
 use input_stack::frames::What;
 use input_stack::stack::Stack;
 use number::scales::Down;
@@ -10,7 +12,6 @@ use page::springs::Way;
 use rules::Breaking;
 use rules::Name;
 use settings::layout::Layout;
-use settings::layout::NewLayout;
 use settings::layout::Printer;
 use traps::table::Planted;
 ghost use mathlib.Core.Path.{_≡_};
@@ -20,7 +21,7 @@ ghost use lib.ListN.{length};
 ghost use Rattle.rules.specs.Acts as rule;
 ghost use Rattle.settings.specs.Layout.Layouts.{printerOf, SoundPrinter};
 ghost use Rattle.composition.specs.PageRows.Desk.{desk, Begins, Worked};
-ghost use Rattle.composition.specs.BreakRequests.Acting.{stayed, settledBy, workOf, spaces, actBy};
+ghost use Rattle.composition.specs.BreakRequests.Acting.{workOf, spaces, actBy};
 ghost use Rattle.composition.specs.BreakRequests.Obeying.{heldLine, heldRequest, startsFirst, obeyed};
 
 // What a request has to do after its break.
@@ -43,31 +44,6 @@ fn work_of(request: Breaking) -> Work
         Breaking::Ce => Work::Lays,
         Breaking::In => Work::Lays,
         Breaking::Ti => Work::Lays,
-    }
-}
-
-// Nothing is written or moved.
-fn stay(way: Way, layout: Layout, page: Page, collected: Collected, stack: Stack) -> Outcome
-    ensures { λ r. ⌜ r ≡ stayed way layout page collected stack ⌝ }
-{
-    Outcome {
-        way,
-        layout,
-        page,
-        collected,
-        stack,
-        written: 0,
-    }
-}
-
-// The new layout of a request, or its refusal.
-fn settle(new: NewLayout, layout: Layout, page: Page, collected: Collected, stack: Stack) -> Outcome
-    ensures { λ r. ⌜ r ≡ settledBy new layout page collected stack ⌝ }
-{
-    match new {
-        NewLayout::Is(other) => stay(Way::On, other, page, collected, stack),
-        NewLayout::Malformed => stay(Way::Refused(6), layout, page, collected, stack),
-        NewLayout::OutOfRange => stay(Way::Refused(7), layout, page, collected, stack),
     }
 }
 

@@ -1,6 +1,7 @@
 // The words of a text line are placed one by one; a word that does not fit writes the line.
 use super::page_rows::Collected;
 use super::page_rows::Outcome;
+use super::page_rows::stay;
 use fill::collected::Overflow;
 use fill::collected::Placed;
 use fill::words::Next;
@@ -26,15 +27,7 @@ ghost use Rattle.fill.specs.Words.Parts.{part, Places};
 ghost use Rattle.fill.specs.Collected.Filled.{placedOf};
 ghost use Rattle.fill.specs.declared.collected.Placed.the-variants.{Full};
 ghost use Rattle.composition.specs.PageRows.Desk.{desk, Begins, Worked};
-ghost use Rattle.composition.specs.Filling.Words.{othersHeld, gapBehind, collectedTo, leadingWord, Overflows, Filled, Starts, sameOutcome, Follows};
-
-// The bytes from a place up to another.
-pub fn slice(bytes: &[u8], at: usize, to: usize) -> &[u8]
-    requires { ⌜ (at ≤ to) × (to ≤ length (now bytes)) ⌝ }
-    ensures { λ r. ⌜ now r ≡ part (now (bytes .entry)) at to ⌝ }
-{
-    &bytes[at..to]
-}
+ghost use Rattle.composition.specs.Filling.Words.{othersHeld, gapBehind, collectedTo, leadingWord, Overflows, Filled, Starts, Follows};
 
 // "then the other words": they are held where some are left.
 fn others_held(line: &[u8; 512], at: usize, to: usize, gap: u8) -> Held
@@ -137,7 +130,7 @@ fn overflow(
     let begun = settings::layout::begun(layout);
     let rows = begun.page;
     let held = others_held(line, at, to, gap);
-    let rest = slice(line, at, to);
+    let rest = fill::words::slice(line, at, to);
     let landed = page::springs::down(
         Rows(1),
         page,
@@ -278,7 +271,7 @@ pub fn fill_rest(
     ensures { λ r. ⌜ Worked (λ ts s. rule.fill (words (part (now (line .entry)) 0 to)) gap s) (now (firsts .entry)) (now (seconds .entry)) texts planted (desk layout page collected (now (cells .entry)) stack (now (arena .entry)) (now (ends .entry))) (r .way) (r .written) (desk (r .layout) (r .page) (r .collected) (now (cells .exit)) (r .stack) (now (arena .exit)) (now (ends .exit))) (now (row .exit)) ⌝ }
 {
     let Next::Found(found) = fill::words::next_word(line, 0, to) else {
-        return unchanged(layout, page, collected, stack);
+        return stay(Way::On, layout, page, collected, stack);
     };
     if collected.there {
         let room = collected.room;
@@ -330,20 +323,6 @@ pub fn fill_rest(
     )
 }
 
-// Nothing is to be done.
-fn unchanged(layout: Layout, page: Page, collected: Collected, stack: Stack) -> Outcome
-    ensures { λ r. ⌜ r ≡ sameOutcome layout page collected stack ⌝ }
-{
-    Outcome {
-        way: Way::On,
-        layout,
-        page,
-        collected,
-        stack,
-        written: 0,
-    }
-}
-
 // The words of a text line are filled, the first after the gap to this line, or with its leading spaces as fixed blanks.
 pub fn fill_line(
     line: &[u8; 512],
@@ -365,7 +344,7 @@ pub fn fill_line(
     ensures { λ r. ⌜ Worked (λ ts s. rule.textWay fills (words (part (now (line .entry)) 0 to)) (part (now (line .entry)) 0 to) s) (now (firsts .entry)) (now (seconds .entry)) texts planted (desk layout page collected (now (cells .entry)) stack (now (arena .entry)) (now (ends .entry))) (r .way) (r .written) (desk (r .layout) (r .page) (r .collected) (now (cells .exit)) (r .stack) (now (arena .exit)) (now (ends .exit))) (now (row .exit)) ⌝ }
 {
     let Next::Found(found) = fill::words::next_word(line, 0, to) else {
-        return unchanged(layout, page, collected, stack);
+        return stay(Way::On, layout, page, collected, stack);
     };
     let gap = fill::words::gap_after(line, 0, to) as u8;
     if collected.there {

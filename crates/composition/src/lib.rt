@@ -4,4 +4,5 @@ pub mod eject;
 pub mod filling;
 pub mod no_break_requests;
 pub mod page_rows;
+pub mod text_calls;
 pub mod text_lines;

@@ -1,16 +1,16 @@
-// Requests that neither break nor change a table, and texts that are called.
+// Requests that neither break nor change a table.
 use super::page_rows::Collected;
 use super::page_rows::Outcome;
+use super::page_rows::settle;
+use super::page_rows::stay;
 use input_stack::frames::What;
 use input_stack::stack::Stack;
 use line_syntax::conditions::Condition;
 use line_syntax::lines::Line;
 use measure::Rows;
 use page::position::Page;
-use page::springs::Called;
 use page::springs::Held;
 use page::springs::Way;
-use rules::Name;
 use rules::Unbreaking;
 use settings::layout::Layout;
 use settings::layout::NewLayout;
@@ -21,28 +21,12 @@ ghost use mathlib.Core.Bool.{true};
 ghost use Prim.Native.Nat.{_≤_};
 ghost use lib.ListN.{length};
 ghost use Rattle.measure.specs.Counts.{downOf};
-ghost use Rattle.rules.specs.Texts.{textOf};
-ghost use Rattle.rules.specs.Rows.{goes};
 ghost use Rattle.rules.specs.Acts.{settles, argument, perform};
 ghost use Rattle.rules.specs.declared.Unbreaking.the-variants.{If};
 ghost use Rattle.settings.specs.Layout.Layouts.{printerOf, SoundPrinter, Ready, Performed};
 ghost use Rattle.page.specs.Springs.Held as springs;
 ghost use Rattle.composition.specs.PageRows.Desk.{desk, Begins, Worked};
-ghost use Rattle.composition.specs.NoBreakRequests.Keeping.{isIf, isKept, stayed, changedTo, Followed, calledTo, calledText, Known};
-
-// Nothing is written, and the desk is as it is.
-fn stay(way: Way, layout: Layout, page: Page, collected: Collected, stack: Stack) -> Outcome
-    ensures { λ r. ⌜ r ≡ stayed way layout page collected stack ⌝ }
-{
-    Outcome {
-        way,
-        layout,
-        page,
-        collected,
-        stack,
-        written: 0,
-    }
-}
+ghost use Rattle.composition.specs.NoBreakRequests.Keeping.{isIf, isKept, Followed};
 
 // What a request makes of the layout, by its first argument.
 fn new_layout(
@@ -60,17 +44,6 @@ fn new_layout(
     let count = scan::arguments::arguments(line, 0, &mut *parts, &mut given);
     let first = line_syntax::lines::argument(&*parts, &given, count, 0);
     settings::page_settings::perform(request, layout, used, first, printer)
-}
-
-// The layout is the new one, or "6: number malformed" and "7: value out of range".
-fn change(new: NewLayout, layout: Layout, page: Page, collected: Collected, stack: Stack) -> Outcome
-    ensures { λ r. ⌜ r ≡ changedTo new layout page collected stack ⌝ }
-{
-    match new {
-        NewLayout::Is(changed) => stay(Way::On, changed, page, collected, stack),
-        NewLayout::Malformed => stay(Way::Refused(6), layout, page, collected, stack),
-        NewLayout::OutOfRange => stay(Way::Refused(7), layout, page, collected, stack),
-    }
 }
 
 // if: "What follows its spaces, if anything, is dealt with as a line without second expansion"
@@ -190,54 +163,5 @@ pub fn keep(
         );
     }
     let new = new_layout(request, line, parts, page.used, layout, printer);
-    change(new, layout, page, collected, stack)
-}
-
-// A text that is called, or "10: input stack past 16 items".
-fn land(called: Called, layout: Layout, page: Page, collected: Collected) -> Outcome
-    ensures { λ r. ⌜ r ≡ calledTo called layout page collected ⌝ }
-{
-    let stack = called.stack;
-    if called.full {
-        return stay(Way::Refused(10), layout, page, collected, stack);
-    }
-    stay(Way::On, layout, page, collected, stack)
-}
-
-// A text is called by its name with the arguments of a line.
-pub fn call(
-    name: Name,
-    line: &[u8],
-    parts: &mut [u8; 512],
-    layout: Layout,
-    page: Page,
-    collected: Collected,
-    planted: Planted,
-    cells: &[u8; 512],
-    row: &[u8; 872],
-    stack: Stack,
-    arena: &mut [u8; 8704],
-    ends: &mut [u16; 221],
-    firsts: &[u8; 64],
-    seconds: &[u8; 64],
-    texts: usize,
-) -> Outcome
-    requires { ⌜ Begins planted (desk layout page collected (now cells) stack (now arena) (now ends)) (now line) (now row) (now firsts) (now seconds) texts × (length (now parts) ≡ 512) × Known name (now firsts) (now seconds) texts ⌝ }
-    ensures { λ r. ⌜ Worked (λ ts s. goes (calledText (textOf name ts) (now (line .entry)) s)) (now (firsts .entry)) (now (seconds .entry)) texts planted (desk layout page collected (now (cells .entry)) stack (now (arena .entry)) (now (ends .entry))) (r .way) (r .written) (desk (r .layout) (r .page) (r .collected) (now (cells .entry)) (r .stack) (now (arena .exit)) (now (ends .exit))) (now (row .entry)) ⌝ }
-{
-    let mut given = [0u16; 9];
-    let count = scan::arguments::arguments(line, 0, &mut *parts, &mut given);
-    let called = page::springs::call(
-        name,
-        count as u8,
-        &*parts,
-        &given,
-        Held::Nothing,
-        b"",
-        page.last,
-        stack,
-        arena,
-        ends,
-    );
-    land(called, layout, page, collected)
+    settle(new, layout, page, collected, stack)
 }

@@ -7,6 +7,7 @@ use page::springs::Held;
 use page::springs::Landed;
 use page::springs::Way;
 use settings::layout::Layout;
+use settings::layout::NewLayout;
 use traps::table::Planted;
 ghost use mathlib.Core.Path.{_≡_};
 ghost use mathlib.Core.List.{[]};
@@ -15,7 +16,7 @@ ghost use Rattle.measure.specs.Counts.{acrossOf, downOf};
 ghost use Rattle.rules.specs.Rows as rule;
 ghost use Rattle.fill.specs.Collected.Filled.{lineOf};
 ghost use Rattle.page.specs.Springs.Held.{heldOf, Plain};
-ghost use Rattle.composition.specs.PageRows.Desk.{desk, noLine, outcomeOf, Begins, Worked};
+ghost use Rattle.composition.specs.PageRows.Desk.{desk, noLine, stayed, settledBy, outcomeOf, Begins, Worked};
 
 // The collected line, if there is one: its first `length` cells lie in an array of their own.
 pub struct Collected {
@@ -46,6 +47,37 @@ pub fn nothing_collected() -> Collected
         room: Cells(0),
         length: 0,
         next: 1,
+    }
+}
+
+// Nothing is written or moved.
+pub fn stay(way: Way, layout: Layout, page: Page, collected: Collected, stack: Stack) -> Outcome
+    ensures { λ r. ⌜ r ≡ stayed way layout page collected stack ⌝ }
+{
+    Outcome {
+        way,
+        layout,
+        page,
+        collected,
+        stack,
+        written: 0,
+    }
+}
+
+// The new layout of a request, or "6: number malformed" and "7: value out of range".
+pub fn settle(
+    new: NewLayout,
+    layout: Layout,
+    page: Page,
+    collected: Collected,
+    stack: Stack,
+) -> Outcome
+    ensures { λ r. ⌜ r ≡ settledBy new layout page collected stack ⌝ }
+{
+    match new {
+        NewLayout::Is(other) => stay(Way::On, other, page, collected, stack),
+        NewLayout::Malformed => stay(Way::Refused(6), layout, page, collected, stack),
+        NewLayout::OutOfRange => stay(Way::Refused(7), layout, page, collected, stack),
     }
 }
 

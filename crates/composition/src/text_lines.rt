@@ -58,7 +58,7 @@ fn stand(
     );
     let counted = settings::layout::counted(layout);
     let rows = counted.page;
-    let none = super::filling::slice(line, 0, 0);
+    let none = fill::words::slice(line, 0, 0);
     let landed = page::springs::down(
         Rows(1),
         page,
@@ -95,7 +95,7 @@ fn blank_line(
     ensures { λ r. ⌜ Worked (λ ts s. rule.blankFrom (s .collected) s) (now (firsts .entry)) (now (seconds .entry)) texts planted (desk layout page collected (now (cells .entry)) stack (now (arena .entry)) (now (ends .entry))) (r .way) (r .written) (desk (r .layout) (r .page) (r .collected) (now (cells .entry)) (r .stack) (now (arena .exit)) (now (ends .exit))) (now (row .exit)) ⌝ }
 {
     if collected.there {
-        let none = super::filling::slice(cells, 0, 0);
+        let none = fill::words::slice(cells, 0, 0);
         return super::page_rows::break_line(
             Held::Item(What::Acts(Breaking::Sp)),
             none,
@@ -150,7 +150,7 @@ fn break_first(
     requires { ⌜ Begins planted (desk layout page collected (now cells) stack (now arena) (now ends)) (now line) (now row) (now firsts) (now seconds) texts × Places (now line) 0 to ⌝ }
     ensures { λ r. ⌜ Worked (λ ts s. rule.textWay (breaks (lineOf (acrossOf (collected .indent)) (acrossOf (collected .room)) (now (cells .entry)) (collected .length) (collected .next))) (words (part (now (line .entry)) 0 to)) (part (now (line .entry)) 0 to) s) (now (firsts .entry)) (now (seconds .entry)) texts planted (desk layout page collected (now (cells .entry)) stack (now (arena .entry)) (now (ends .entry))) (r .way) (r .written) (desk (r .layout) (r .page) (r .collected) (now (cells .entry)) (r .stack) (now (arena .exit)) (now (ends .exit))) (now (row .exit)) ⌝ }
 {
-    let bytes = super::filling::slice(line, 0, to);
+    let bytes = fill::words::slice(line, 0, to);
     super::page_rows::break_line(
         Held::Item(What::Text),
         bytes,
@@ -300,7 +300,7 @@ pub fn text_line(
     ensures { λ r. ⌜ Worked (λ ts s. rule.textLine (part (now (line .entry)) 0 to) s) (now (firsts .entry)) (now (seconds .entry)) texts planted (desk layout page collected (now (cells .entry)) stack (now (arena .entry)) (now (ends .entry))) (r .way) (r .written) (desk (r .layout) (r .page) (r .collected) (now (cells .exit)) (r .stack) (now (arena .exit)) (now (ends .exit))) (now (row .exit)) ⌝ }
 {
     if page.number == 0 {
-        let bytes = super::filling::slice(line, 0, to);
+        let bytes = fill::words::slice(line, 0, to);
         return super::page_rows::start(
             Held::Item(What::Text),
             bytes,

@@ -1,5 +1,8 @@
 // Words are collected into a line.
 use measure::Cells;
+use rules::FIXED_BLANK;
+use rules::GAP_START;
+use rules::MARK;
 ghost use mathlib.Core.Path.{_≡_};
 ghost use mathlib.Core.List.{_++_};
 ghost use lib.ListN.{length, replicate};
@@ -12,13 +15,6 @@ ghost use Rattle.rules.specs.Bytes.{fixedBlank};
 ghost use Rattle.rules.specs.Filling.{words, width, printed, gapCells, after};
 ghost use Rattle.fill.specs.Words.Parts.{part, Places};
 ghost use Rattle.fill.specs.Collected.Filled.{Line, PlacedTo};
-
-// Codes that no source line holds: a mark of no width, a fixed blank, and the first cell of a gap in a collected line.
-const MARK: u8 = 2;
-
-const FIXED_BLANK: u8 = 3;
-
-const GAP_START: u8 = 4;
 
 // A collected line that is full: its cells, and the word that did not fit, with the gap that is lost.
 pub struct Overflow {

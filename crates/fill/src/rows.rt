@@ -1,5 +1,6 @@
 // Collected lines as they are printed.
 use measure::Cells;
+use rules::GAP_START;
 ghost use mathlib.Core.Path.{_≡_};
 ghost use mathlib.Core.List.{[]};
 ghost use lib.ListN.{length, take};
@@ -12,9 +13,6 @@ ghost use Rattle.rules.specs.Filling.{words, gaps, spread, adjusted, moreIf, fe
 ghost use Rattle.fill.specs.Words.Parts.{part, Places};
 ghost use Rattle.fill.specs.Collected.Filled.{lineOf, Line};
 ghost use Rattle.fill.specs.Unfilled.Lines.{isBlankCell, CellsEnd, RowRoom, Margins};
-
-// Codes that no source line holds.
-const GAP_START: u8 = 4;
 
 // The gaps of a collected line.
 fn count_gaps(cells: &[u8; 512], length: usize) -> usize

@@ -1,6 +1,8 @@
 // Lines that are printed as they stand, and blank rows.
 use measure::Cells;
 use measure::Rows;
+use rules::FIXED_BLANK;
+use rules::MARK;
 ghost use mathlib.Core.Path.{_≡_};
 ghost use lib.ListN.{length};
 ghost use Rattle.measure.specs.Counts.{acrossOf, downOf};
@@ -10,11 +12,6 @@ ghost use Rattle.rules.specs.Filling.{words, width, printed, row as rowOf, left
 ghost use Rattle.rules.specs.Traps.{blankRows};
 ghost use Rattle.fill.specs.Words.Parts.{part, Places};
 ghost use Rattle.fill.specs.Unfilled.Lines.{RowRoom, Margins, oneIf, isBlankByte, TextEnd, standingOf};
-
-// Codes that no source line holds: a mark of no width, a fixed blank, and the first cell of a gap in a collected line.
-const MARK: u8 = 2;
-
-const FIXED_BLANK: u8 = 3;
 
 // A count of rows as a plain number.
 fn count_rows(rows: Rows) -> usize

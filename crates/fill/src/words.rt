@@ -1,16 +1,15 @@
 // The words of an expanded line and the gaps between them.
 use measure::Cells;
+use rules::MARK;
 ghost use mathlib.Core.Path.{_≡_};
 ghost use Rattle.measure.specs.Counts.{acrossOf};
 ghost use Prim.Native.Nat.{_+_, _-_, _≤_};
 ghost use lib.Dec.{eqb};
+ghost use lib.ListN.{length};
 ghost use Rattle.rules.specs.Bytes.{mark};
 ghost use Rattle.rules.specs.Filling.{words, countIf, leads as leadsOf, trimmed, isStop, gapIf, gapAfter, width};
 ghost use Rattle.fill.specs.Words.Parts.{part, Places};
 ghost use Rattle.fill.specs.Words.Words.{spaces, WordEndIs, nextOf, GoodNext, isNone};
-
-// Codes that no source line holds: a mark of no width, a fixed blank, and the first cell of a gap in a collected line.
-const MARK: u8 = 2;
 
 // The place behind a word, and the word's width.
 pub struct WordEnd {
@@ -30,6 +29,14 @@ pub struct WordAt {
 pub enum Next {
     Found(WordAt),
     Nothing,
+}
+
+// The bytes of a line from a place up to another.
+pub fn slice(bytes: &[u8], at: usize, to: usize) -> &[u8]
+    requires { ⌜ (at ≤ to) × (to ≤ length (now bytes)) ⌝ }
+    ensures { λ r. ⌜ now r ≡ part (now (bytes .entry)) at to ⌝ }
+{
+    &bytes[at..to]
 }
 
 // The place behind the spaces that lead.

@@ -1,13 +1,12 @@
 // Work that waits on the stack is taken up.
 use super::stored_lines::Performed;
 use input_stack::frames::What;
-use line_execution::expanded_lines::front;
-use line_execution::no_break_requests::moved;
-use line_execution::no_break_requests::stay;
 use page::springs::Way;
 use settings::layout::Printer;
 use state::Status;
 use state::Step;
+use state::moved;
+use state::stay;
 ghost use mathlib.Core.Bool.{true};
 ghost use lib.ListN.{take};
 ghost use Rattle.settings.specs.Layout.Layouts.{printerOf};
@@ -75,7 +74,7 @@ fn resume(
                 status.texts,
                 name,
             );
-            let rest = front(line, size);
+            let rest = fill::words::slice(line, 0, size);
             line_execution::control_lines::obey(
                 meaning,
                 true,
@@ -122,7 +121,7 @@ fn resume(
         }
         What::Acts(request) => {
             let mut parts = [0u8; 512];
-            let rest = front(line, size);
+            let rest = fill::words::slice(line, 0, size);
             let outcome = composition::break_requests::act(
                 request,
                 rest,
@@ -190,7 +189,7 @@ pub fn take_item(
     let stack = status.stack;
     let mut line = [0u8; 512];
     let size = input_stack::stack::load(stack, &*arena, &*ends, &mut line);
-    let after = super::stored_lines::with_stack(status, input_stack::stack::pop(stack));
+    let after = state::with_stack(status, input_stack::stack::pop(stack));
     let step = resume(
         what,
         &line,

@@ -5,12 +5,12 @@ pub mod stored_text;
 
 use composition::page_rows::Outcome;
 use input_stack::frames::What;
-use line_execution::no_break_requests::moved;
-use line_execution::no_break_requests::stay;
 use page::springs::Way;
 use settings::layout::Printer;
 use state::Status;
 use state::Step;
+use state::moved;
+use state::stay;
 use stored_lines::Performed;
 use texts::lines::Top;
 ghost use mathlib.Core.List.{[]};

@@ -1,10 +1,9 @@
 // The next line of a text that is read, and the end of a text.
-use input_stack::stack::Stack;
-use line_execution::no_break_requests::stay;
 use page::springs::Way;
 use rules::Kind;
 use state::Status;
 use state::Step;
+use state::stay;
 use texts::lines::Part;
 use texts::lines::Top;
 use texts::table::Found;
@@ -13,7 +12,7 @@ ghost use Prim.Native.Nat.{_+_, _≤_, _<_};
 ghost use lib.ListN.{length, take, drop};
 ghost use Rattle.rules.specs.declared.Kind.the-variants.{Macro};
 ghost use Rattle.texts.specs.Table.Places.{Inside};
-ghost use Rattle.formatter.specs.StoredLines.Works.{withStack, performedOf, LineIs, StringIs, FoundIs, leaves};
+ghost use Rattle.formatter.specs.StoredLines.Works.{performedOf, LineIs, StringIs, FoundIs, leaves};
 
 // What a piece of work leads to, and how many stored lines have been read for this source line.
 pub struct Performed {
@@ -39,27 +38,6 @@ pub fn counted(step: Step, stored: u16) -> Performed
         written: step.written,
         status,
         stored,
-    }
-}
-
-// Another input stack.
-pub fn with_stack(status: Status, stack: Stack) -> Status
-    ensures { λ r. ⌜ r ≡ withStack stack status ⌝ }
-{
-    let layout = status.layout;
-    let page = status.page;
-    let collected = status.collected;
-    let planted = status.planted;
-    let opening = status.opening;
-    Status {
-        layout,
-        page,
-        collected,
-        planted,
-        stack,
-        texts: status.texts,
-        opening,
-        registers: status.registers,
     }
 }
 

@@ -1,12 +1,12 @@
 // The line of a text that is read is dealt with.
 use super::stored_lines::Performed;
 use super::stored_lines::Unread;
-use line_execution::no_break_requests::stay;
 use page::springs::Way;
 use rules::Name;
 use settings::layout::Printer;
 use state::Status;
 use state::Step;
+use state::stay;
 use texts::lines::Top;
 ghost use mathlib.Core.List.{[]};
 ghost use Prim.Native.Nat.{_+_, _<_};
@@ -157,10 +157,7 @@ pub fn read_text(
             super::stored_lines::counted(stay(Way::Refused(10), status), stored)
         }
         Unread::Nothing => super::stored_lines::counted(
-            super::stored_lines::leave(super::stored_lines::with_stack(
-                status,
-                input_stack::stack::pop(stack),
-            )),
+            super::stored_lines::leave(state::with_stack(status, input_stack::stack::pop(stack))),
             stored,
         ),
     }

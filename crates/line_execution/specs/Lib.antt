@@ -1,1 +1,2 @@
 pub mod NoBreakRequests
+pub mod ExpandedLines

@@ -69,7 +69,7 @@ fn request(
                 &*text_seconds,
                 status.texts,
             );
-            super::no_break_requests::moved(outcome, status)
+            state::moved(outcome, status)
         }
         Request::Keeps(other) => super::no_break_requests::perform(
             other,
@@ -143,7 +143,7 @@ pub fn obey(
     match meaning {
         Meaning::Calls(_) => {
             let mut parts = [0u8; 512];
-            let outcome = composition::no_break_requests::call(
+            let outcome = composition::text_calls::call(
                 name,
                 line,
                 &mut parts,
@@ -160,7 +160,7 @@ pub fn obey(
                 &*text_seconds,
                 status.texts,
             );
-            super::no_break_requests::moved(outcome, status)
+            state::moved(outcome, status)
         }
         Meaning::Requests(known) => request(
             known,
@@ -184,6 +184,6 @@ pub fn obey(
             values,
             steps,
         ),
-        Meaning::Nothing => super::no_break_requests::stay(Way::On, status),
+        Meaning::Nothing => state::stay(Way::On, status),
     }
 }

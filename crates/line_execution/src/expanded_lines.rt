@@ -9,21 +9,12 @@ use state::Step;
 use texts::table::Kept;
 ghost use mathlib.Core.Path.{_≡_};
 ghost use mathlib.Core.Bool.{false};
-ghost use Prim.Native.Nat.{_≤_};
-ghost use lib.ListN.{length, take};
+ghost use lib.ListN.{length};
 ghost use Rattle.settings.specs.Layout.Layouts.{printerOf};
 ghost use Rattle.state.specs.Whole.{textsIn, Did};
 ghost use Rattle.state.specs.Statuses.{wholeOf, Begins};
 ghost use Rattle.line_expansion.specs.Dealing.{dealtOf, SoundDealt};
-ghost use Rattle.line_execution.specs.NoBreakRequests.Steps.{closedTo, keptTo};
-
-// The front of a line.
-pub fn front(line: &[u8], to: usize) -> &[u8]
-    requires { ⌜ to ≤ length (now line) ⌝ }
-    ensures { λ r. ⌜ now r ≡ take to (now (line .entry)) ⌝ }
-{
-    &line[..to]
-}
+ghost use Rattle.line_execution.specs.ExpandedLines.Steps.{closedTo, keptTo};
 
 // A definition is closed: so many texts, and none open.
 fn closed(texts: usize, status: Status) -> Step
@@ -38,10 +29,7 @@ fn closed(texts: usize, status: Status) -> Step
         name,
         length: 0,
     };
-    super::no_break_requests::stay(
-        Way::On,
-        super::no_break_requests::with_texts(status, texts, opening),
-    )
+    state::stay(Way::On, state::with_texts(status, texts, opening))
 }
 
 // A body line is kept, or "11: .. live text past 8,192 bytes".
@@ -57,12 +45,9 @@ fn kept(answer: Kept, status: Status) -> Step
                 name,
                 length,
             };
-            super::no_break_requests::stay(
-                Way::On,
-                super::no_break_requests::with_texts(status, status.texts, opening),
-            )
+            state::stay(Way::On, state::with_texts(status, status.texts, opening))
         }
-        Kept::Full => super::no_break_requests::stay(Way::Refused(11), status),
+        Kept::Full => state::stay(Way::Refused(11), status),
     }
 }
 
@@ -111,7 +96,7 @@ pub fn finish(
             closed(texts, status)
         }
         Dealt::Keeps(n) => {
-            let line = front(out, n);
+            let line = fill::words::slice(out, 0, n);
             let answer = texts::definitions::keep_line(
                 store,
                 &*lengths,
@@ -138,10 +123,10 @@ pub fn finish(
                 &*text_seconds,
                 status.texts,
             );
-            super::no_break_requests::moved(outcome, status)
+            state::moved(outcome, status)
         }
         Dealt::Control(period, name, meaning, n) => {
-            let line = front(out, n);
+            let line = fill::words::slice(out, 0, n);
             super::control_lines::obey(
                 meaning,
                 false,
@@ -165,7 +150,7 @@ pub fn finish(
                 steps,
             )
         }
-        Dealt::Nothing => super::no_break_requests::stay(Way::On, status),
-        Dealt::Refused(k) => super::no_break_requests::stay(Way::Refused(k), status),
+        Dealt::Nothing => state::stay(Way::On, status),
+        Dealt::Refused(k) => state::stay(Way::Refused(k), status),
     }
 }

@@ -1,5 +1,4 @@
 // Requests that do not break, on the whole state.
-use composition::page_rows::Outcome;
 use page::springs::Way;
 use requests::definitions::Changed;
 use requests::nr::Assigned;
@@ -10,6 +9,11 @@ use state::Opened;
 use state::Opening;
 use state::Status;
 use state::Step;
+use state::moved;
+use state::stay;
+use state::with_planted;
+use state::with_registers;
+use state::with_texts;
 use traps::table::Planted;
 ghost use mathlib.Core.Path.{_≡_};
 ghost use mathlib.Core.Bool.{false};
@@ -18,110 +22,7 @@ ghost use Rattle.rules.specs.Acts.{settles};
 ghost use Rattle.settings.specs.Layout.Layouts.{printerOf};
 ghost use Rattle.state.specs.Whole.{Did};
 ghost use Rattle.state.specs.Statuses.{wholeOf, Begins};
-ghost use Rattle.line_execution.specs.NoBreakRequests.Steps.{groupOf, withRegisters, withPlanted, withTexts, stayed, movedTo, assignedTo, plantedTo, changedTo, openedTo};
-
-// Nothing is written, and all is as it is.
-pub fn stay(way: Way, status: Status) -> Step
-    ensures { λ r. ⌜ r ≡ stayed way status ⌝ }
-{
-    Step {
-        way,
-        written: 0,
-        status,
-    }
-}
-
-// The desk after a piece of work on it.
-pub fn moved(outcome: Outcome, status: Status) -> Step
-    ensures { λ r. ⌜ r ≡ movedTo outcome status ⌝ }
-{
-    let layout = outcome.layout;
-    let page = outcome.page;
-    let collected = outcome.collected;
-    let planted = status.planted;
-    let stack = outcome.stack;
-    let opening = status.opening;
-    let after = Status {
-        layout,
-        page,
-        collected,
-        planted,
-        stack,
-        texts: status.texts,
-        opening,
-        registers: status.registers,
-    };
-    let way = outcome.way;
-    Step {
-        way,
-        written: outcome.written,
-        status: after,
-    }
-}
-
-// So many registers.
-fn with_registers(status: Status, registers: usize) -> Status
-    ensures { λ r. ⌜ r ≡ withRegisters registers status ⌝ }
-{
-    let layout = status.layout;
-    let page = status.page;
-    let collected = status.collected;
-    let planted = status.planted;
-    let stack = status.stack;
-    let opening = status.opening;
-    Status {
-        layout,
-        page,
-        collected,
-        planted,
-        stack,
-        texts: status.texts,
-        opening,
-        registers,
-    }
-}
-
-// These traps.
-fn with_planted(status: Status, planted: Planted) -> Status
-    ensures { λ r. ⌜ r ≡ withPlanted planted status ⌝ }
-{
-    let layout = status.layout;
-    let page = status.page;
-    let collected = status.collected;
-    let stack = status.stack;
-    let opening = status.opening;
-    Status {
-        layout,
-        page,
-        collected,
-        planted,
-        stack,
-        texts: status.texts,
-        opening,
-        registers: status.registers,
-    }
-}
-
-// So many texts, and this open definition.
-pub fn with_texts(status: Status, texts: usize, opening: Opening) -> Status
-    ensures { λ r. ⌜ r ≡ withTexts texts opening status ⌝ }
-{
-    let layout = status.layout;
-    let page = status.page;
-    let collected = status.collected;
-    let planted = status.planted;
-    let stack = status.stack;
-    Status {
-        layout,
-        page,
-        collected,
-        planted,
-        stack,
-        texts,
-        opening,
-        registers: status.registers,
-    }
-}
+ghost use Rattle.line_execution.specs.NoBreakRequests.Steps.{groupOf, assignedTo, plantedTo, changedTo, openedTo};
 
 // After nr.
 fn assigned(answer: Assigned, status: Status) -> Step

@@ -1,6 +1,8 @@
 // What control lines are built from: what a line is, its name and its arguments, and what the name stands for.
 use rules::Breaking;
+use rules::FIXED_BLANK;
 use rules::Kind;
+use rules::MARK;
 use rules::Mode;
 use rules::Name;
 use rules::Request;
@@ -195,9 +197,9 @@ fn put_back(byte: u8, out: &mut [u8; 1024], at: usize) -> usize
     ensures { λ r. ⌜ Behind byte (now (out .entry)) at r (now (out .exit)) ⌝ }
 {
     match byte {
-        92 => put_pair(b'e', &mut *out, at),
-        2 => put_pair(b'&', &mut *out, at),
-        3 => put_pair(b' ', &mut *out, at),
+        b'\\' => put_pair(b'e', &mut *out, at),
+        MARK => put_pair(b'&', &mut *out, at),
+        FIXED_BLANK => put_pair(b' ', &mut *out, at),
         _ => {
             out[at] = byte;
             at + 1

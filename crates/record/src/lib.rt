@@ -4,8 +4,6 @@ use source_line::Source;
 use state::Status;
 use stream::Answer;
 ghost use mathlib.Core.Path.{_≡_};
-ghost use Prim.Native.Nat.{_≤_};
-ghost use lib.ListN.{length, take};
 ghost use Rattle.source_line.specs.Writing.{Writes};
 ghost use Rattle.record.specs.declared.Stop.the-variants.{Goes};
 ghost use Rattle.record.specs.Turns.{closingOf, turnAfter, emptied as emptiedOf, HasWork, ClosedIs, WroteTo};
@@ -128,14 +126,6 @@ pub fn has_work(depth: usize, ended: bool) -> bool
         return true;
     }
     ended
-}
-
-// The first bytes of an array.
-pub fn first(bytes: &[u8], count: usize) -> &[u8]
-    requires { ⌜ count ≤ length (now bytes) ⌝ }
-    ensures { λ r. ⌜ now r ≡ take count (now (bytes .entry)) ⌝ }
-{
-    &bytes[0..count]
 }
 
 // The source once its line is dealt with.

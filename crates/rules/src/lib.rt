@@ -1,6 +1,15 @@
 // The types that the rules of document 01 and the code share. What the rules say is in specs/, in document 01's order.
 use measure::Rows;
 
+// "\& a mark of no width", as a byte of an expanded line: a code that no source line holds.
+pub const MARK: u8 = 2;
+
+// "backslash-space a fixed blank", as a byte of an expanded line: a code that no source line holds.
+pub const FIXED_BLANK: u8 = 3;
+
+// The first cell of a gap in a collected line: a code that no source line holds.
+pub const GAP_START: u8 = 4;
+
 // A name of one or two bytes; the second byte of a one-byte name is 0.
 pub struct Name {
     pub first: u8,

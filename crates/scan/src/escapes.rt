@@ -1,4 +1,6 @@
 // An escape is read: what it leads to, and the place after it.
+use rules::FIXED_BLANK;
+use rules::MARK;
 use rules::Mode;
 use rules::Name;
 use rules::Turn;
@@ -171,11 +173,11 @@ fn plain_at(text: &[u8], at: usize) -> Reading
         },
         b'&' => Reading {
             end: next,
-            what: What::Writes(2),
+            what: What::Writes(MARK),
         },
         b' ' => Reading {
             end: next,
-            what: What::Writes(3),
+            what: What::Writes(FIXED_BLANK),
         },
         b'"' => Reading {
             end: next,

@@ -1,4 +1,6 @@
 // Bytes, decimal numbers and expanded texts are written into a buffer.
+use rules::FIXED_BLANK;
+use rules::MARK;
 ghost use mathlib.Core.Path.{_≡_};
 ghost use mathlib.Core.List.{[], _∷_};
 ghost use Prim.Native.Nat.{_-_};
@@ -67,9 +69,9 @@ fn put_escaped(byte: u8, out: &mut [u8; 512], written: usize, limit: usize) -> W
     ensures { λ r. ⌜ WroteTo r (escaped (byte ∷ [])) (now (out .entry)) written limit (now (out .exit)) ⌝ }
 {
     match byte {
-        92 => put_kept(b'e', &mut *out, written, limit),
-        2 => put_kept(b'&', &mut *out, written, limit),
-        3 => put_kept(b' ', &mut *out, written, limit),
+        b'\\' => put_kept(b'e', &mut *out, written, limit),
+        MARK => put_kept(b'&', &mut *out, written, limit),
+        FIXED_BLANK => put_kept(b' ', &mut *out, written, limit),
         _ => put_byte(byte, &mut *out, written, limit),
     }
 }

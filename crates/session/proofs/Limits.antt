@@ -20,8 +20,8 @@ use Rattle.record.specs.declared.Reply.{Reply}
 use Rattle.record.specs.declared.Waiting.{Waiting}
 use Rattle.record.specs.declared.Closing.{Closing}
 use Rattle.record.specs.declared.Closing.the-variants.{Open, Done, Refused}
-use Rattle.session.specs.declared.Stop.{Stop}
-use Rattle.session.specs.declared.Stop.the-variants.{Goes}
+use Rattle.record.specs.declared.Stop.{Stop}
+use Rattle.record.specs.declared.Stop.the-variants.{Goes}
 use Rattle.record.specs.View.{sourced, closedAs, wholeIn, Legal}
 use Rattle.record.specs.Contract.{Closes}
 use Rattle.record.specs.Turns.{Turns, Runs}

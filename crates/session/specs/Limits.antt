@@ -14,8 +14,8 @@ use Rattle.record.specs.declared.Record.{Record}
 use Rattle.record.specs.declared.Waiting.{Waiting}
 use Rattle.record.specs.declared.Closing.{Closing}
 use Rattle.record.specs.declared.Closing.the-variants.{Open, Done, Refused}
-use Rattle.session.specs.declared.Stop.{Stop}
-use Rattle.session.specs.declared.Stop.the-variants.{Goes, With}
+use Rattle.record.specs.declared.Stop.{Stop}
+use Rattle.record.specs.declared.Stop.the-variants.{Goes, With}
 use Rattle.record.specs.View.{lastLine, Legal}
 use Rattle.record.specs.Contract.{Closes}
 

@@ -11,6 +11,7 @@ use record::Place;
 use record::Ran;
 use record::Record;
 use record::Reply;
+use record::Stop;
 use record::Waiting;
 use rules::Name;
 use settings::layout::Layout;
@@ -26,12 +27,6 @@ ghost use Rattle.record.specs.Turns.{recordOf, replyFrom};
 ghost use Rattle.session.specs.Start.{firstLayout, firstStatus, startPlace, startRecord};
 ghost use Rattle.session.specs.Contract.{Called};
 ghost use Rattle.session.specs.Limits.{Sized, EndsWith, isOpen, AnsweredJudged, PlacedJudged, Judged};
-
-// Whether a call is answered at once.
-enum Stop {
-    Goes,
-    With(Answer),
-}
 
 // The settings at the start.
 fn first_layout() -> Layout

@@ -87,7 +87,7 @@ pub fn read_end(
         return record::turn_after(status, after, Way::On, 0, taken);
     }
     deal_line(
-        record::first(gathered, source.length),
+        fill::words::slice(gathered, 0, source.length),
         taken,
         status,
         after,
@@ -139,7 +139,7 @@ pub fn take_line(
         Why::More => record::turn_after(status, after, Way::On, 0, to),
         Why::Refused(n) => record::turn_after(status, after, Way::Refused(n), 0, to),
         Why::Ended => deal_line(
-            record::first(gathered, after.length),
+            fill::words::slice(gathered, 0, after.length),
             to,
             status,
             record::emptied(after, false),

@@ -1,3 +1,4 @@
 pub mod Whole
 pub mod WholeLaws
 pub mod Statuses
+pub mod Steps

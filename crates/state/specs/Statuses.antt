@@ -6,6 +6,7 @@ use lib.ListN.{length}
 use lib.IntN.{ℤ}
 use Rattle.settings.specs.declared.layout.Printer.{Printer}
 use Rattle.settings.specs.Layout.Layouts.{SoundPrinter}
+use Rattle.composition.specs.PageRows.Desk as sheet
 use Rattle.composition.specs.PageRows.Desk.{desk}
 use Rattle.state.specs.declared.Status.{Status}
 use Rattle.state.specs.Whole.{Whole, textColumns, registerColumns, whole, SoundWhole}
@@ -22,3 +23,11 @@ pub record Begins (q : Whole) (bytes row : List ℕ) (p : Printer) : Type 0 wher
   pub short : length bytes ≤ 512
   pub long : length row ≡ 872
   pub printer : SoundPrinter p
+
+-- Work on the desk may begin then, too.
+module _ (s : Status) (cs bs ps st tf ts ks ls fs ss : List ℕ) (vs us : List ℤ) (bytes row : List ℕ) (p : Printer) where
+  abbrev q : Whole
+  q = wholeOf s cs bs ps st tf ts ks ls fs ss vs us
+
+  pub begins-desk : Begins q bytes row p → sheet.Begins (s .planted) (q .desk) bytes row tf ts (s .texts)
+  begins-desk b = record { sound = b .sound .sheet; items = b .items; short = b .short; long = b .long; names = b .sound .lies .names }

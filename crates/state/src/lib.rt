@@ -1,5 +1,6 @@
 // The whole state that a line is dealt with in, but for its lent arrays.
 use composition::page_rows::Collected;
+use composition::page_rows::Outcome;
 use input_stack::stack::Stack;
 use page::position::Page;
 use page::springs::Way;
@@ -7,6 +8,8 @@ use requests::definitions::Changed;
 use rules::Name;
 use settings::layout::Layout;
 use traps::table::Planted;
+ghost use mathlib.Core.Path.{_≡_};
+ghost use Rattle.state.specs.Steps.{stayed, movedTo, withRegisters, withPlanted, withTexts, withStack};
 
 // An open definition: its name, and how many bytes of its body lie behind the texts.
 pub struct Opening {
@@ -38,4 +41,128 @@ pub struct Step {
 pub struct Opened {
     pub changed: Changed,
     pub opening: Opening,
+}
+
+// Nothing is written, and all is as it is.
+pub fn stay(way: Way, status: Status) -> Step
+    ensures { λ r. ⌜ r ≡ stayed way status ⌝ }
+{
+    Step {
+        way,
+        written: 0,
+        status,
+    }
+}
+
+// The desk after a piece of work on it.
+pub fn moved(outcome: Outcome, status: Status) -> Step
+    ensures { λ r. ⌜ r ≡ movedTo outcome status ⌝ }
+{
+    let layout = outcome.layout;
+    let page = outcome.page;
+    let collected = outcome.collected;
+    let planted = status.planted;
+    let stack = outcome.stack;
+    let opening = status.opening;
+    let after = Status {
+        layout,
+        page,
+        collected,
+        planted,
+        stack,
+        texts: status.texts,
+        opening,
+        registers: status.registers,
+    };
+    let way = outcome.way;
+    Step {
+        way,
+        written: outcome.written,
+        status: after,
+    }
+}
+
+// So many registers.
+pub fn with_registers(status: Status, registers: usize) -> Status
+    ensures { λ r. ⌜ r ≡ withRegisters registers status ⌝ }
+{
+    let layout = status.layout;
+    let page = status.page;
+    let collected = status.collected;
+    let planted = status.planted;
+    let stack = status.stack;
+    let opening = status.opening;
+    Status {
+        layout,
+        page,
+        collected,
+        planted,
+        stack,
+        texts: status.texts,
+        opening,
+        registers,
+    }
+}
+
+// These traps.
+pub fn with_planted(status: Status, planted: Planted) -> Status
+    ensures { λ r. ⌜ r ≡ withPlanted planted status ⌝ }
+{
+    let layout = status.layout;
+    let page = status.page;
+    let collected = status.collected;
+    let stack = status.stack;
+    let opening = status.opening;
+    Status {
+        layout,
+        page,
+        collected,
+        planted,
+        stack,
+        texts: status.texts,
+        opening,
+        registers: status.registers,
+    }
+}
+
+// So many texts, and this open definition.
+pub fn with_texts(status: Status, texts: usize, opening: Opening) -> Status
+    ensures { λ r. ⌜ r ≡ withTexts texts opening status ⌝ }
+{
+    let layout = status.layout;
+    let page = status.page;
+    let collected = status.collected;
+    let planted = status.planted;
+    let stack = status.stack;
+    Status {
+        layout,
+        page,
+        collected,
+        planted,
+        stack,
+        texts,
+        opening,
+        registers: status.registers,
+    }
+}
+
+// Another input stack.
+pub fn with_stack(status: Status, stack: Stack) -> Status
+    ensures { λ r. ⌜ r ≡ withStack stack status ⌝ }
+{
+    let layout = status.layout;
+    let page = status.page;
+    let collected = status.collected;
+    let planted = status.planted;
+    let opening = status.opening;
+    Status {
+        layout,
+        page,
+        collected,
+        planted,
+        stack,
+        texts: status.texts,
+        opening,
+        registers: status.registers,
+    }
 }

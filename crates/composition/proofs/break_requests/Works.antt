@@ -29,9 +29,9 @@ use Rattle.settings.specs.Layout.Layouts.{printerOf, actedOf, Acted}
 use Rattle.settings.specs.Layout.LayoutLaws.{of-new}
 use Rattle.page.specs.Springs.Held.{heldOf}
 use Rattle.page.proofs.springs.Stacks.{fits-few}
-use Rattle.composition.specs.PageRows.Desk.{Desk, desk, collectedIf, stateAt, Sound, Worked}
+use Rattle.composition.specs.PageRows.Desk.{Desk, desk, collectedIf, stateAt, Sound, Worked, settledBy}
 use Rattle.composition.specs.declared.break_requests.Work.{Work}
-use Rattle.composition.specs.BreakRequests.Acting.{settledBy, workOf, spaces, actBy}
+use Rattle.composition.specs.BreakRequests.Acting.{workOf, spaces, actBy}
 use Rattle.composition.specs.BreakRequests.Obeying.{heldLine, heldRequest, startsFirst, obeyed, line-held, request-held}
 
 module _ (fs ss : List ℕ) (n : ℕ) (planted : Planted) (d : Desk) (row : List ℕ) (s : Sound planted d) (few : d .stack .depth ≤ 16) (long : length row ≡ 872) where

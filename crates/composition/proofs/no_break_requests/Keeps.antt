@@ -1,7 +1,6 @@
--- Requests that neither break nor change a table, and texts that are called, as pieces of work. Assumes nothing.
+-- Requests that neither break nor change a table, as pieces of work. Assumes nothing.
 use mathlib.Core.Path.{_≡_, refl, sym, ap, _∙_}
 use mathlib.Core.Bool.{Bool, true, false, not, false≢true}
-use mathlib.Core.Option.{Option, some}
 use mathlib.Core.List.{List, [], _∷_}
 use Prim.Native.Nat.{ℕ, _-_, _≤_, _<_}
 use native.Mathlib.Omega.{arith}
@@ -9,25 +8,19 @@ use lib.Dec.{eqb}
 use lib.ListN.{length, take, drop, length-drop}
 use lib.Seq.{length-take-le, take-all}
 use Rattle.measure.specs.Counts.{downOf}
-use Rattle.rules.specs.declared.Name.{Name}
 use Rattle.rules.specs.declared.Unbreaking.{Unbreaking}
 use Rattle.rules.specs.declared.Unbreaking.the-variants.{Pl, Po, Ll, Ad, Na, Nr, De, Rm, Wh, If}
 use Rattle.rules.specs.Bytes.{byte}
 use Rattle.rules.specs.Printers as printers
 use Rattle.rules.specs.Refusals.{Judged, value, _>>=_}
-use Rattle.rules.specs.Texts.{Text, textOf}
-use Rattle.rules.specs.Arguments.{Part, arguments, condition}
+use Rattle.rules.specs.Texts.{Text}
+use Rattle.rules.specs.Arguments.{Part, condition}
 use Rattle.rules.specs.State.{State, Item, again, withStack, withLayout}
 use Rattle.rules.specs.Settings as rule
-use Rattle.rules.specs.Rows.{Next, goes, call}
+use Rattle.rules.specs.Rows.{Next, goes}
 use Rattle.rules.specs.Lines.{lineOf, simplyHolds, holdsIf, holds}
 use Rattle.rules.specs.Acts.{settles, argument, follows, ifLine, perform}
-use Rattle.texts.specs.declared.table.Place.{Place}
-use Rattle.texts.specs.declared.table.Place.the-variants.{At, Not}
-use Rattle.texts.specs.Table.Places.{placeOf}
-use Rattle.texts.specs.Table.Table.{namesOf, textsOf, Lies}
-use Rattle.texts.proofs.table.Laws.{found-text, not-text}
-use Rattle.scan.specs.Arguments.Around.{argumentsOf}
+use Rattle.texts.specs.Table.Table.{textsOf}
 use Rattle.line_syntax.specs.declared.lines.Condition.{Condition}
 use Rattle.line_syntax.specs.Lines.Places.{ConditionAt}
 use Rattle.traps.specs.declared.table.Planted.{Planted}
@@ -46,15 +39,13 @@ use Rattle.input_stack.specs.declared.stack.Stack.{Stack}
 use Rattle.input_stack.specs.Stack.Frames.{Columns}
 use Rattle.input_stack.specs.Stack.Items.{itemBy, stackOf}
 use Rattle.page.specs.declared.position.Page.{Page}
-use Rattle.page.specs.declared.springs.Called.{Called}
 use Rattle.page.specs.declared.springs.Held.the-variants as held
 use Rattle.page.specs.declared.springs.Way.the-variants.{On}
 use Rattle.page.specs.Springs.Held.{noEnds, PlainItem, HeldTo}
-use Rattle.page.specs.Springs.Calls.{wayIf, CalledTo}
 use Rattle.page.proofs.springs.Stacks.{fits-few, over-items, over-good, over-fits}
 use Rattle.composition.specs.declared.page_rows.Collected.{Collected}
-use Rattle.composition.specs.PageRows.Desk.{desk, stateAt, Sound, Worked}
-use Rattle.composition.specs.NoBreakRequests.Keeping.{isIf, isKept, changedTo, followed, Followed, calledText, Known}
+use Rattle.composition.specs.PageRows.Desk.{desk, settledBy, stateAt, Sound, Worked}
+use Rattle.composition.specs.NoBreakRequests.Keeping.{isIf, isKept, followed, Followed}
 
 -- all bytes from a place on
 pub all-from : (l : List ℕ) (at : ℕ) → take (length l - at) (drop at l) ≡ drop at l
@@ -157,18 +148,6 @@ follows-is : (rest : List ℕ) (s : State) → goes (withStack (followed rest (s
 follows-is [] s = refl
 follows-is (b ∷ l) s = refl
 
--- a name that a text has is known
-pub known : (m : Name) (st fs ss ks ls : List ℕ) (n : ℕ) (t : Text) → Lies st fs ss ks ls n → textOf m (textsOf st fs ss ks ls n) ≡ some t → Known m fs ss n
-known m st fs ss ks ls n t i h = go (placeOf m (namesOf fs ss n)) refl
-  where
-    go : (p : Place) → placeOf m (namesOf fs ss n) ≡ p → Known m fs ss n
-    go (At k) e = (k, e)
-    go Not e = let z : _≡_ {A = ℕ} 0 1 = cc (not-text st fs ss ks ls n i m e) in absurd (omega arith)
-
--- a known name has a text in every store
-pub known-text : (m : Name) (st fs ss ks ls : List ℕ) (n : ℕ) → Known m fs ss n → Lies st fs ss ks ls n → (t : Text) × (textOf m (textsOf st fs ss ks ls n) ≡ some t)
-known-text m st fs ss ks ls n k i = (_, found-text st fs ss ks ls n i m (k .0) (k .1))
-
 module _ (fs ss : List ℕ) (n : ℕ) (planted : Planted) (y : Layout) (g : Page) (c : Collected) (cells : List ℕ) (k : Stack) (arena ends row : List ℕ) (s : Sound planted (desk y g c cells k arena ends)) (few : k .depth ≤ 16) (long : length row ≡ 872) where
   -- a request that sets the layout, or is refused
   set-law : (p : Printer) (q : Unbreaking) (line : List ℕ) (r : NewLayout) → Performed p q y (downOf (g .used)) (argument 0 line) r → layoutKeeps q ≡ true → (ts : List Text) (x : State)
@@ -179,7 +158,7 @@ module _ (fs ss : List ℕ) (n : ℕ) (planted : Planted) (y : Layout) (g : Page
       ∙ ap (λ (j : Judged State). settles j v) (performed-is (printerOf p) q line v e)
 
   pub sets : (p : Printer) (q : Unbreaking) (line : List ℕ) (r : NewLayout) → Performed p q y (downOf (g .used)) (argument 0 line) r → layoutKeeps q ≡ true
-      → let o = changedTo r y g c k in Worked (λ ts v. settles (perform (printerOf p) q line v) v) fs ss n planted (desk y g c cells k arena ends) (o .way) (o .written) (desk (o .layout) (o .page) (o .collected) cells (o .stack) arena ends) row
+      → let o = settledBy r y g c k in Worked (λ ts v. settles (perform (printerOf p) q line v) v) fs ss n planted (desk y g c cells k arena ends) (o .way) (o .written) (desk (o .layout) (o .page) (o .collected) cells (o .stack) arena ends) row
   sets p q line (Is z) t e = record {
     is = λ st ks ls i x. set-law p q line (Is z) t e (textsOf st fs ss ks ls n) x;
     good = λ st ks ls i h. h;
@@ -216,23 +195,6 @@ module _ (fs ss : List ℕ) (n : ℕ) (planted : Planted) (y : Layout) (g : Page
     good = λ st ks ls i h. f .good (textsOf st fs ss ks ls n) h;
     sound = record { limits = s .limits; above = s .above; numbered = s .numbered; few = s .few; line = s .line; indent = s .indent; next = s .next; columns = f .columns };
     fits = f .fits;
-    few = omega arith;
-    long = long;
-  }
-
-  -- a text was called
-  pub calls-text : (m : Name) (line args given bytes : List ℕ) (count : ℕ) (r : Called) (arena' ends' : List ℕ) → CalledTo m count args given held.Nothing bytes (g .last) k arena ends r arena' ends'
-      → argumentsOf args given count ≡ arguments line → Known m fs ss n
-      → Worked (λ ts v. goes (calledText (textOf m ts) line v)) fs ss n planted (desk y g c cells k arena ends) (wayIf (r .full)) 0 (desk y g c cells (r .stack) arena' ends') row
-  calls-text m line args given bytes count r arena' ends' t e h = record {
-    is = λ st ks ls i x.
-        let ts = textsOf st fs ss ks ls n in let v = stateAt ts (plantedOf planted) (desk y g c cells k arena ends) x in let u = known-text m st fs ss ks ls n h i in
-        ap goes (t .is ts (u .0) (u .1) v refl)
-        ∙ ap (λ (l : List (List ℕ)). goes (call (u .0) l [] v)) e
-        ∙ sym (ap (λ (o : Option Text). goes (calledText o line v)) (u .1));
-    good = λ st ks ls i q. let u = known-text m st fs ss ks ls n h i in t .good (textsOf st fs ss ks ls n) (u .0) (u .1) q;
-    sound = record { limits = s .limits; above = s .above; numbered = s .numbered; few = s .few; line = s .line; indent = s .indent; next = s .next; columns = t .columns };
-    fits = fits-few (r .stack) ends' (t .few);
     few = omega arith;
     long = long;
   }

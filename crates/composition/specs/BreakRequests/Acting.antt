@@ -8,28 +8,9 @@ use Rattle.rules.specs.Rows.{Next, skip, eject}
 use Rattle.rules.specs.Acts.{argument, given, laidOut, spacing, act}
 use Rattle.rules.specs.declared.Breaking.{Breaking}
 use Rattle.rules.specs.declared.Breaking.the-variants.{Br, Sp, Bp, Fi, Nf, Ce, In, Ti}
-use Rattle.settings.specs.declared.layout.Layout.{Layout}
-use Rattle.settings.specs.declared.layout.NewLayout.{NewLayout}
-use Rattle.settings.specs.declared.layout.NewLayout.the-variants as new-layout
 use Rattle.settings.specs.Layout.Layouts.{actedOf}
-use Rattle.input_stack.specs.declared.stack.Stack.{Stack}
-use Rattle.page.specs.declared.position.Page.{Page}
-use Rattle.page.specs.declared.springs.Way.{Way}
-use Rattle.page.specs.declared.springs.Way.the-variants.{On, Refused}
-use Rattle.composition.specs.declared.page_rows.Collected.{Collected}
-use Rattle.composition.specs.declared.page_rows.Outcome.{Outcome}
 use Rattle.composition.specs.declared.break_requests.Work.{Work}
 use Rattle.composition.specs.declared.break_requests.Work.the-variants.{Spaces, Ejects, Lays}
-
--- nothing is written or moved
-abbrev pub stayed : Way → Layout → Page → Collected → Stack → Outcome
-stayed w y g c s = record { way = w; layout = y; page = g; collected = c; stack = s; written = 0 }
-
--- a new layout, or "6: malformed number" and "7: value out of range"
-abbrev pub settledBy : NewLayout → Layout → Page → Collected → Stack → Outcome
-settledBy (new-layout.Is z) y g c s = stayed On z g c s
-settledBy new-layout.Malformed y g c s = stayed (Refused 6) y g c s
-settledBy new-layout.OutOfRange y g c s = stayed (Refused 7) y g c s
 
 -- sp and bp move down the page; the others change the layout at most
 abbrev pub workOf : Breaking → Work

@@ -65,10 +65,6 @@ pub record Starts (line : List ℕ) (to lead gap : ℕ) (w : WordAt) : Type 0 wh
   pub leads : lead ≤ w .from
   pub small : gap ≤ 2
 
--- nothing is done
-abbrev pub sameOutcome : Layout → Page → Collected → Stack → Outcome
-sameOutcome y p c s = record { way = On; layout = y; page = p; collected = c; stack = s; written = 0 }
-
 -- a line that goes on behind a collected one has no leading spaces
 abbrev pub Follows : (there : Bool) → List Word → Type 0
 Follows true ws = leads ws ≡ false

@@ -18,6 +18,8 @@ use Rattle.traps.specs.Table.Table.{plantedOf}
 use Rattle.traps.specs.Table.Table as traps
 use Rattle.fill.specs.Collected.Filled.{lineOf, Line}
 use Rattle.settings.specs.declared.layout.Layout.{Layout}
+use Rattle.settings.specs.declared.layout.NewLayout.{NewLayout}
+use Rattle.settings.specs.declared.layout.NewLayout.the-variants as new-layout
 use Rattle.settings.specs.Layout.Layouts.{layoutOf, Limits}
 use Rattle.input_stack.specs.declared.frames.What.the-variants as what
 use Rattle.input_stack.specs.declared.stack.Stack.{Stack}
@@ -26,6 +28,7 @@ use Rattle.input_stack.specs.Stack.Items.{stackOf}
 use Rattle.page.specs.declared.position.Page.{Page}
 use Rattle.page.specs.Position.Landing.{pageOf}
 use Rattle.page.specs.declared.springs.Way.{Way}
+use Rattle.page.specs.declared.springs.Way.the-variants.{On, Refused}
 use Rattle.page.specs.declared.springs.Landed.{Landed}
 use Rattle.page.specs.declared.springs.Held.{Held}
 use Rattle.page.specs.declared.springs.Held.the-variants as held
@@ -37,6 +40,16 @@ use Rattle.composition.specs.declared.page_rows.Outcome.{Outcome}
 -- no line is collected
 abbrev pub noLine : Collected
 noLine = record { there = false; indent = cellsAcross 0; room = cellsAcross 0; length = 0; next = 1 }
+
+-- nothing is written or moved
+abbrev pub stayed : Way → Layout → Page → Collected → Stack → Outcome
+stayed w y g c s = record { way = w; layout = y; page = g; collected = c; stack = s; written = 0 }
+
+-- a new layout, or "6: number malformed" and "7: value out of range"
+abbrev pub settledBy : NewLayout → Layout → Page → Collected → Stack → Outcome
+settledBy (new-layout.Is z) y g c s = stayed On z g c s
+settledBy new-layout.Malformed y g c s = stayed (Refused 6) y g c s
+settledBy new-layout.OutOfRange y g c s = stayed (Refused 7) y g c s
 
 -- what is written, and where the move down after it leads
 abbrev pub outcomeOf : Layout → Collected → Landed → (written : ℕ) → Outcome

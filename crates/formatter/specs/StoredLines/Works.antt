@@ -25,7 +25,6 @@ use Rattle.settings.specs.declared.layout.Printer.{Printer}
 use Rattle.settings.specs.Layout.Layouts.{SoundPrinter}
 use Rattle.input_stack.specs.declared.frames.What.{What}
 use Rattle.input_stack.specs.declared.frames.What.the-variants as what
-use Rattle.input_stack.specs.declared.stack.Stack.{Stack}
 use Rattle.input_stack.specs.Stack.Frames.{topEntry}
 use Rattle.input_stack.specs.Stack.Items.{unreadBy, unread}
 use Rattle.page.specs.declared.springs.Way.{Way}
@@ -35,15 +34,10 @@ use Rattle.page.specs.Springs.Calls.{closeBy}
 use Rattle.state.specs.declared.Status.{Status}
 use Rattle.state.specs.declared.Step.{Step}
 use Rattle.state.specs.Whole.{Whole, stateIn, SoundWhole, KeptStore}
-use Rattle.line_execution.specs.NoBreakRequests.Steps.{stayed}
+use Rattle.state.specs.Steps.{stayed}
 use Rattle.formatter.specs.declared.stored_lines.Performed.{Performed}
 use Rattle.formatter.specs.declared.stored_lines.Unread.{Unread}
 use Rattle.formatter.specs.declared.stored_lines.Unread.the-variants.{Line, Nothing}
-
--- another input stack
-abbrev pub withStack : Stack → Status → Status
-withStack k s =
-    record { layout = s .layout; page = s .page; collected = s .collected; planted = s .planted; stack = k; texts = s .texts; opening = s .opening; registers = s .registers }
 
 abbrev pub performedOf : Step → (stored : ℕ) → Performed
 performedOf p n = record { way = p .way; written = p .written; status = p .status; stored = n }

@@ -1,27 +1,20 @@
 -- Laws of the answers and of what they make of the whole state. Assumes nothing.
-use mathlib.Core.Path.{_≡_, refl, sym, ap, subst}
-use mathlib.Core.Bool.{Bool, true, false}
+use mathlib.Core.Path.{_≡_, refl, sym, subst}
+use mathlib.Core.Bool.{true, false}
 use mathlib.Core.List.{List}
-use Prim.Native.Nat.{ℕ, zero, suc, _-_, _≤_}
-use lib.ListN.{length, take, length-take}
+use Prim.Native.Nat.{ℕ, zero, suc}
 use native.Mathlib.Omega.{arith}
 use lib.IntN.{ℤ}
 use Rattle.rules.specs.Printers as printers
 use Rattle.rules.specs.Refusals.{Judged}
-use Rattle.rules.specs.declared.Name.{Name}
 use Rattle.rules.specs.Names.{Named}
-use Rattle.rules.specs.Texts.{Text}
 use Rattle.rules.specs.State.{State}
 use Rattle.rules.specs.Acts.{settles, perform}
 use Rattle.rules.specs.declared.Unbreaking.{Unbreaking}
 use Rattle.rules.specs.declared.Unbreaking.the-variants.{Pl, Po, Ll, Ad, Na, Nr, De, Rm, Wh, If}
 use Rattle.settings.specs.declared.layout.Printer.{Printer}
-use Rattle.texts.specs.declared.table.Kept.{Kept}
-use Rattle.texts.specs.declared.table.Kept.the-variants as kept
-use Rattle.texts.specs.Table.Changes.{KeptTo, ClosedTo}
 use Rattle.page.specs.declared.springs.Way.{Way}
 use Rattle.page.specs.declared.springs.Way.the-variants.{Refused}
-use Rattle.composition.specs.PageRows.Desk as sheet
 use Rattle.requests.specs.declared.nr.Assigned.{Assigned}
 use Rattle.requests.specs.declared.nr.Assigned.the-variants as assigned
 use Rattle.requests.specs.declared.wh.Plants.{Plants}
@@ -30,20 +23,14 @@ use Rattle.requests.specs.declared.definitions.Changed.the-variants as changed
 use Rattle.requests.specs.Nr.Registers.{AssignsAs}
 use Rattle.requests.specs.Wh.Traps.{PlantsAs}
 use Rattle.requests.specs.Definitions.Texts.{ChangesAs, OpensAs, alone}
-use Rattle.fill.specs.Words.Parts.{part}
-use Rattle.line_syntax.specs.declared.lines.Meaning.{Meaning}
-use Rattle.line_syntax.specs.Lines.Meanings.{MeaningIs}
 use Rattle.composition.specs.NoBreakRequests.Keeping.{isKept}
 use Rattle.state.specs.declared.Opening.{Opening}
 use Rattle.state.specs.declared.Status.{Status}
 use Rattle.state.specs.Whole.{Whole, Did}
 use Rattle.state.specs.WholeLaws.{wayOf, assign-did, plant-did, change-did, open-did, OpeningIs}
-use Rattle.line_expansion.specs.declared.Dealt.the-variants as dealt
-use Rattle.line_expansion.specs.Dealing.{keepsIn, closesIn, SoundDealt}
-use Rattle.line_expansion.specs.BodyLaws.{keep-did, close-did}
 use Rattle.state.specs.Statuses.{wholeOf, Begins}
 use Rattle.line_execution.specs.declared.no_break_requests.Group.the-variants as group
-use Rattle.line_execution.specs.NoBreakRequests.Steps.{groupOf, assignedTo, plantedTo, changedTo, openedBy, closedTo, keptTo}
+use Rattle.line_execution.specs.NoBreakRequests.Steps.{groupOf, assignedTo, plantedTo, changedTo, openedBy}
 
 -- a refusal by its number
 pub way-refused : (k : ℕ) → (k ≡ 0 → ⊥) → Refused k ≡ wayOf k
@@ -111,31 +98,6 @@ opens-one Rm e = let z : _≡_ {A = ℕ} 0 1 = cc in absurd (omega arith)
 opens-one Wh e = let z : _≡_ {A = ℕ} 0 1 = cc in absurd (omega arith)
 opens-one If e = let z : _≡_ {A = ℕ} 0 1 = cc in absurd (omega arith)
 
--- the front of a line is a part of it
-pub front-part : (l : List ℕ) (n : ℕ) → take n l ≡ part l 0 n
-unfolding part
-front-part l n = let e : n ≡ n - 0 = omega arith in ap (λ (k : ℕ). take k l) e
-
-pub front-short : (l : List ℕ) (n : ℕ) → n ≤ 512 → length (take n l) ≤ 512
-front-short l n h = simp length-take (omega arith)
-
--- a body line is kept, or closes, where a definition is open; other lines are dealt with where none is
-pub closes-open : (b : Bool) (ts : List Text) → SoundDealt b ts dealt.Closes → b ≡ true
-closes-open true ts h = refl
-closes-open false ts h = absurd h
-
-pub keeps-open : (b : Bool) (ts : List Text) (n : ℕ) → SoundDealt b ts (dealt.Keeps n) → (b ≡ true) × (n ≤ 512)
-keeps-open true ts n h = (refl, h)
-keeps-open false ts n h = absurd h
-
-pub words-short : (b : Bool) (ts : List Text) (n : ℕ) → SoundDealt b ts (dealt.Words n) → n ≤ 512
-words-short true ts n h = absurd h
-words-short false ts n h = h
-
-pub control-closed : (b : Bool) (ts : List Text) (q : Bool) (k : Name) (m : Meaning) (n : ℕ) → SoundDealt b ts (dealt.Control q k m n) → (b ≡ false) × (n ≤ 512) × MeaningIs ts k m
-control-closed true ts q k m n h = absurd h
-control-closed false ts q k m n h = (refl, h .0, h .1)
-
 -- a request that is known
 pub performed : {q q' : Whole} {w : Way} {n : ℕ} {row : List ℕ} (p : printers.Printer) (line : List ℕ) (u k : Unbreaking) → u ≡ k
     → Did (λ v. settles (perform p k line v) v) q w n q' row → Did (λ v. settles (perform p u line v) v) q w n q' row
@@ -146,10 +108,6 @@ module _ (s : Status) (cs bs ps st tf ts ks ls fs ss : List ℕ) (vs us : List �
   q = wholeOf s cs bs ps st tf ts ks ls fs ss vs us
 
   module _ (b : Begins q bytes row p) where
-    -- the desk is sound
-    pub begins-desk : sheet.Begins (s .planted) (q .desk) bytes row tf ts (s .texts)
-    begins-desk = record { sound = b .sound .sheet; items = b .items; short = b .short; long = b .long; names = b .sound .lies .names }
-
     pub assigned-did : (act : State → Judged State) (r : Assigned) (fs' ss' : List ℕ) (vs' us' : List ℤ) → AssignsAs fs ss vs us (s .registers) act r fs' ss' vs' us'
         → Did (λ v. settles (act v) v) q (assignedTo r s .way) (assignedTo r s .written) (wholeOf (assignedTo r s .status) cs bs ps st tf ts ks ls fs' ss' vs' us') row
     assigned-did act (assigned.Count n) fs' ss' vs' us' a = assign-did act q (assigned.Count n) fs' ss' vs' us' row (b .sound) (b .items) (b .long) a
@@ -158,16 +116,6 @@ module _ (s : Status) (cs bs ps st tf ts ks ls fs ss : List ℕ) (vs us : List �
     pub planted-did : (act : State → Judged State) (r : Plants) → PlantsAs (s .planted) act r
         → Did (λ v. settles (act v) v) q (plantedTo r s .way) (plantedTo r s .written) (wholeOf (plantedTo r s .status) cs bs ps st tf ts ks ls fs ss vs us) row
     planted-did act r a = plant-did act q r row (b .sound) (b .items) (b .long) a
-
-    pub kept-did : (m : printers.Printer) (line st' : List ℕ) → s .opening .there ≡ true → (r : Kept) → KeptTo st ls (s .texts) (s .opening .length) line r st'
-        → Did (λ v. keepsIn m (v .tables .opened) line v) q (keptTo r s .way) (keptTo r s .written) (wholeOf (keptTo r s .status) cs bs ps st' tf ts ks ls fs ss vs us) row
-    kept-did m line st' o (kept.Longer n) a = keep-did m q line st' row (b .sound) (b .items) (b .long) o (kept.Longer n) a
-    kept-did m line st' o kept.Full a = keep-did m q line st' row (b .sound) (b .items) (b .long) o kept.Full a
-
-    pub closed-did : (m : printers.Printer) (n : ℕ) (tf' ts' ks' ls' : List ℕ) → s .opening .there ≡ true
-        → ClosedTo st tf ts ks ls (s .texts) (s .opening .length) (s .opening .name) n tf' ts' ks' ls'
-        → Did (λ v. closesIn m (v .tables .opened) v) q (closedTo n s .way) (closedTo n s .written) (wholeOf (closedTo n s .status) cs bs ps st tf' ts' ks' ls' fs ss vs us) row
-    closed-did m n tf' ts' ks' ls' o c = close-did m q tf' ts' ks' ls' row n (b .sound) (b .items) (b .long) o c
 
     module _ (c : s .opening .there ≡ false) (st' tf' ts' ks' ls' : List ℕ) where
       pub changed-did : (act : State → Judged State) (r : Changed) → ChangesAs st tf ts ks ls (s .texts) (s .stack) ps alone act r st' tf' ts' ks' ls'

@@ -29,8 +29,8 @@ enum-known-found c = search needs
 enum-told : tie.Need-enum-told
 enum-told c = search needs
 
-unchanged-requires : tie.Need-unchanged-requires
-unchanged-requires c κs = search needs
+stay-requires : tie.Need-stay-requires
+stay-requires c κs = search needs
 
 returns : tie.Need-returns
 returns c =
@@ -38,7 +38,7 @@ returns c =
     let d = desk (a .layout) (a .page) (a .collected) (now (a .cells)) (a .stack) (now (a .arena)) (now (a .ends)) in
     let l = part (now (a .line)) 0 (a .to) in
     let e : words l ≡ [] = sym (c .before .before .before .next-word .ensures .0) ∙ ap (nextOf (now (a .line)) (a .to)) (c .before .enum-told .given .1) in
-    rw (c .unchanged .ensures) (record {
+    rw (c .stay .ensures) (record {
       is = λ st ks ls i x.
           let ts = textsOf st (now (a .firsts)) (now (a .seconds)) ks ls (a .texts) in
           sym (ap (λ (v : List Word). textWay fills v l (stateAt ts (plantedOf (a .planted)) d x)) e ∙ line-none ts (plantedOf (a .planted)) (a .layout) (a .page) (a .collected) (now (a .cells)) (a .stack) (now (a .arena)) (now (a .ends)) 0 x l);
@@ -107,7 +107,7 @@ fill-line-spec =
     next-word-requires
     enum-known-found
     enum-told
-    unchanged-requires
+    stay-requires
     returns
     gap-after-requires
     cast-gap

@@ -28,15 +28,15 @@ enum-known-found c = search needs
 enum-told : tie.Need-enum-told
 enum-told c = search needs
 
-unchanged-requires : tie.Need-unchanged-requires
-unchanged-requires c κs = search needs
+stay-requires : tie.Need-stay-requires
+stay-requires c κs = search needs
 
 returns : tie.Need-returns
 unfolding fill
 returns c =
     let y = c .before .before .before .before in let a = y .args in let b = y .pre .0 in
     let e : words (part (now (a .line)) 0 (a .to)) ≡ [] = sym (c .before .before .before .next-word .ensures .0) ∙ ap (nextOf (now (a .line)) (a .to)) (c .before .enum-told .given .1) in
-    rw (c .unchanged .ensures) (record {
+    rw (c .stay .ensures) (record {
       is = λ st ks ls i x. sym (ap (λ (v : List Word). fill v (a .gap) (stateAt (textsOf st (now (a .firsts)) (now (a .seconds)) ks ls (a .texts)) (plantedOf (a .planted)) (desk (a .layout) (a .page) (a .collected) (now (a .cells)) (a .stack) (now (a .arena)) (now (a .ends))) x)) e);
       good = λ st ks ls i g. g;
       sound = b .sound;
@@ -94,7 +94,7 @@ fill-rest-spec =
     next-word-requires
     enum-known-found
     enum-told
-    unchanged-requires
+    stay-requires
     returns
     place-others-requires
     fill-placed-requires

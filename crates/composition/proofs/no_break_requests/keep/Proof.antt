@@ -18,13 +18,13 @@ returns c = rw (if-only (c .before .before .before .before .before .before .args
 new-layout-requires : tie.Need-new-layout-requires
 new-layout-requires c κs = search needs
 
-change-requires : tie.Need-change-requires
-change-requires c κs = search needs
+settle-requires : tie.Need-settle-requires
+settle-requires c κs = search needs
 
 returns-2 : tie.Need-returns-2
 returns-2 c =
     let y = c .before .before .before .before .before .before in let a = y .args in let b = y .pre .0 in
-    rw (c .change .ensures)
+    rw (c .settle .ensures)
     (sets (now (a .firsts)) (now (a .seconds)) (a .texts) (a .planted) (a .layout) (a .page) (a .collected) (now (a .cells)) (a .stack) (now (a .arena)) (now (a .ends)) (now (a .row)) (b .sound) (b .items) (b .long)
     (a .printer) (a .request) (now (a .line)) _ (c .before .new-layout .ensures) (layout-only (a .request) (y .pre .3) (sym (c .before .before .before .before .is-if .ensures) ∙ c .before .before .before .if1 .left)))
 
@@ -36,5 +36,5 @@ keep-spec =
     keep-if-requires
     returns
     new-layout-requires
-    change-requires
+    settle-requires
     returns-2)

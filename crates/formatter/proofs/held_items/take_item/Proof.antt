@@ -9,7 +9,7 @@ use Rattle.page.specs.Springs.Held.{isText}
 use Rattle.state.specs.declared.Status.{Status}
 use Rattle.state.specs.Whole.{textsIn}
 use Rattle.state.specs.Statuses.{wholeOf}
-use Rattle.formatter.specs.StoredLines.Works.{withStack}
+use Rattle.state.specs.Steps.{withStack}
 use Rattle.formatter.specs.StoredLines.WorkLaws.{sound-below, worked-item, good-plain, quiet-closed}
 use borrow.Author.Needs.{needs}
 use Rattle.formatter.proofs.held_items.take_item.Statement.{statement}

@@ -21,7 +21,8 @@ use Rattle.state.specs.Whole.{textsIn}
 use Rattle.state.specs.WholeLaws.{stay-did}
 use Rattle.state.specs.Statuses.{wholeOf}
 use Rattle.formatter.specs.declared.stored_lines.Unread.{Unread}
-use Rattle.formatter.specs.StoredLines.Works.{withStack, FoundIs}
+use Rattle.state.specs.Steps.{withStack}
+use Rattle.formatter.specs.StoredLines.Works.{FoundIs}
 use Rattle.formatter.specs.StoredLines.WorkLaws.{sound-below, sound-placed, topped-placed, given-placed, worked-leave, worked-line, worked-past, leave-did, text-few}
 use borrow.Author.Needs.{needs}
 use Rattle.formatter.proofs.stored_text.read_text.Statement.{statement}

@@ -7,13 +7,12 @@ use Rattle.rules.specs.ControlLines.{Meaning, meaningOf, obey}
 use Rattle.settings.specs.Layout.Layouts.{printerOf}
 use Rattle.page.specs.declared.springs.Way.the-variants.{On}
 use Rattle.line_syntax.specs.Lines.Meanings.{MeaningIs}
-use Rattle.composition.specs.NoBreakRequests.Keeping.{calledText}
-use Rattle.composition.specs.NoBreakRequests.KeepingLaws.{text-obeyed}
-use Rattle.composition.proofs.no_break_requests.Keeps.{known}
+use Rattle.composition.specs.TextCalls.Calls.{calledText}
+use Rattle.composition.specs.TextCalls.CallLaws.{text-obeyed}
+use Rattle.composition.proofs.text_calls.Calls.{known}
 use Rattle.state.specs.Whole.{textsIn, stateIn}
 use Rattle.state.specs.WholeLaws.{desk-did, did-as, stay-did}
-use Rattle.state.specs.Statuses.{wholeOf}
-use Rattle.line_execution.specs.NoBreakRequests.StepLaws.{begins-desk}
+use Rattle.state.specs.Statuses.{wholeOf, begins-desk}
 use borrow.Author.Needs.{needs}
 use Rattle.line_execution.proofs.control_lines.obey.Statement.{statement}
 use Rattle.line_execution.proofs.control_lines.obey.Tie as tie

@@ -5,8 +5,8 @@ use Rattle.rules.specs.Acts.{defines}
 use Rattle.settings.specs.Layout.Layouts.{printerOf}
 use Rattle.composition.specs.BreakRequests.Obeying.{obeyed}
 use Rattle.state.specs.WholeLaws.{desk-did}
-use Rattle.state.specs.Statuses.{wholeOf}
-use Rattle.line_execution.specs.NoBreakRequests.StepLaws.{begins-desk, changed-did}
+use Rattle.state.specs.Statuses.{wholeOf, begins-desk}
+use Rattle.line_execution.specs.NoBreakRequests.StepLaws.{changed-did}
 use borrow.Author.Needs.{needs}
 use Rattle.line_execution.proofs.control_lines.request.Statement.{statement}
 use Rattle.line_execution.proofs.control_lines.request.Tie as tie

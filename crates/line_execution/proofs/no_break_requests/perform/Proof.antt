@@ -1,6 +1,6 @@
 -- `line_execution::no_break_requests::perform` meets its contract. Assumes nothing.
-use Rattle.line_execution.specs.NoBreakRequests.StepLaws.{lays-kept, assigns-one, plants-one, removes-one, opens-one, performed, begins-desk, assigned-did, planted-did, changed-did, opened-did}
-use Rattle.state.specs.Statuses.{wholeOf}
+use Rattle.line_execution.specs.NoBreakRequests.StepLaws.{lays-kept, assigns-one, plants-one, removes-one, opens-one, performed, assigned-did, planted-did, changed-did, opened-did}
+use Rattle.state.specs.Statuses.{wholeOf, begins-desk}
 use Rattle.state.specs.WholeLaws.{desk-did}
 use Rattle.settings.specs.Layout.Layouts.{printerOf}
 use Rattle.rules.specs.declared.Unbreaking.the-variants.{Nr, De, Rm, Wh}

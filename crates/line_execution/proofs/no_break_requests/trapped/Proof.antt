@@ -1,7 +1,7 @@
 -- `line_execution::no_break_requests::trapped` meets its contract. Assumes nothing.
 use mathlib.Core.Path.{ap}
 use Rattle.page.specs.declared.springs.Way.{Way}
-use Rattle.line_execution.specs.NoBreakRequests.Steps.{stayed, withPlanted}
+use Rattle.state.specs.Steps.{stayed, withPlanted}
 use Rattle.line_execution.specs.NoBreakRequests.StepLaws.{way-refused}
 use borrow.Author.Needs.{needs}
 use Rattle.line_execution.proofs.no_break_requests.trapped.Statement.{statement}

@@ -5,6 +5,7 @@ use mathlib.Core.Bool.{true}
 use lib.ListN.{length, take}
 use lib.Seq.{length-take-le}
 use denote.Ref.{now}
+use Rattle.fill.specs.Words.Parts.{part-front}
 use Rattle.page.specs.declared.springs.Way.the-variants as way
 use Rattle.record.specs.Turns.{resting, placeIn, placeAfter}
 use Rattle.record.proofs.Taking.{may-deal, end-stands, end-dealt}
@@ -28,16 +29,16 @@ returns c =
       ap (λ t. t .taken) e,
     )
 
-first-requires : tie.Need-first-requires
-first-requires c κs =
-    let l = c .before .before .before .before .before .pre .formed in omega (arith, l .short, l .gathered-long)
+slice-requires : tie.Need-slice-requires
+slice-requires c κs =
+    let l = c .before .before .before .before .before .pre .formed in (omega arith, omega (arith, l .short, l .gathered-long))
 
 deal-line-requires : tie.Need-deal-line-requires
 deal-line-requires c κs =
     let a = c .before .before .before .before .before .before .before .before .before .before .before .before .before .before .before .before .before .before .before .args in
     let h = c .before .before .before .before .before .before .before .before .before .before .before .before .before .before .before .before .before .before .before .pre in
     let l = h .formed in
-    rw (c .before .before .before .before .before .before .before .before .before .before .before .before .before .before .before .before .before .emptied .ensures, c .before .before .before .before .before .before .before .before .before .before .before .before .before .first .ensures)
+    rw (c .before .before .before .before .before .before .before .before .before .before .before .before .before .before .before .before .before .emptied .ensures, c .before .before .before .before .before .before .before .before .before .before .before .before .before .slice .ensures ∙ part-front _ _)
     (may-deal (resting (a .status) (a .source)) (now (a .gathered)) (now (a .cells)) (now (a .row)) (now (a .arena)) (now (a .ends)) (now (a .text-firsts)) (now (a .text-seconds)) (now (a .kinds)) (now (a .lengths)) (now (a .firsts)) (now (a .seconds)) (now (a .values)) (now (a .steps)) (now (a .store)) h (a .source) true (take (a .source .length) (now (a .gathered))) (l .numbered) (l .counted)
     (rw (length-take-le (a .source .length) (now (a .gathered)) (omega (arith, l .short, l .gathered-long))) (l .short)))
 
@@ -50,7 +51,7 @@ returns-2 c =
     let h = c .before .before .before .before .before .before .before .before .before .before .before .before .before .before .before .before .before .before .before .before .before .before .pre in
     let d = c .before .before .deal-line .ensures in
     let w = d .0 (now (a .gathered)) (h .formed .gathered-long) in
-    (end-dealt (resting (a .status) (a .source)) (now (a .gathered)) (now (a .cells)) (now (a .row)) (now (a .arena)) (now (a .ends)) (now (a .text-firsts)) (now (a .text-seconds)) (now (a .kinds)) (now (a .lengths)) (now (a .firsts)) (now (a .seconds)) (now (a .values)) (now (a .steps)) (now (a .store)) h (omega (arith, c .before .before .before .before .before .before .before .before .before .before .before .before .before .before .before .before .before .before .if1 .left)) _ _ (rw (c .before .before .before .before .before .before .before .before .before .before .before .before .before .before .before .before .before .before .before .before .emptied .ensures, c .before .before .before .before .before .before .before .before .before .before .before .before .before .before .before .before .first .ensures) at w), d .1, d .2)
+    (end-dealt (resting (a .status) (a .source)) (now (a .gathered)) (now (a .cells)) (now (a .row)) (now (a .arena)) (now (a .ends)) (now (a .text-firsts)) (now (a .text-seconds)) (now (a .kinds)) (now (a .lengths)) (now (a .firsts)) (now (a .seconds)) (now (a .values)) (now (a .steps)) (now (a .store)) h (omega (arith, c .before .before .before .before .before .before .before .before .before .before .before .before .before .before .before .before .before .before .if1 .left)) _ _ (rw (c .before .before .before .before .before .before .before .before .before .before .before .before .before .before .before .before .before .before .before .before .emptied .ensures, c .before .before .before .before .before .before .before .before .before .before .before .before .before .before .before .before .slice .ensures ∙ part-front _ _) at w), d .1, d .2)
 
 pub read-end-spec : {M : Type 1} → statement M
 read-end-spec =
@@ -59,7 +60,7 @@ read-end-spec =
     emptied-requires
     turn-after-requires
     returns
-    first-requires
+    slice-requires
     deal-line-requires
     same-length
     returns-2)

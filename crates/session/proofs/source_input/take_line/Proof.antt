@@ -1,6 +1,7 @@
 use native.Mathlib.Omega.{arith}
-use mathlib.Core.Path.{ap}
+use mathlib.Core.Path.{ap, _∙_}
 use denote.Ref.{now}
+use Rattle.fill.specs.Words.Parts.{part-front}
 use Rattle.record.specs.Turns.{recordOf, resting, placeIn}
 use Rattle.record.proofs.Taking.{may-deal-ended, more-taken, refused-taken, ended-taken}
 use borrow.Author.Needs.{needs}
@@ -31,9 +32,9 @@ turn-after-requires-2 c κs = search needs
 enum-told-2 : tie.Need-enum-told-2
 enum-told-2 c = search needs
 
-first-requires : tie.Need-first-requires
-first-requires c κs =
-    let d = c .before .before .before .before .before .before .gather .ensures in omega (arith, d .short, d .long)
+slice-requires : tie.Need-slice-requires
+slice-requires c κs =
+    let d = c .before .before .before .before .before .before .gather .ensures in (omega arith, omega (arith, d .short, d .long))
 
 emptied-requires : tie.Need-emptied-requires
 emptied-requires c κs = search needs
@@ -42,7 +43,7 @@ deal-line-requires : tie.Need-deal-line-requires
 deal-line-requires c κs =
     let a = c .before .before .before .before .before .before .before .before .before .before .before .before .before .before .before .before .before .before .before .before .before .before .before .before .before .args in
     let d = c .before .before .before .before .before .before .before .before .before .before .before .before .before .before .before .before .before .before .before .before .before .gather in
-    may-deal-ended (resting (a .status) (a .source)) (now (a .gathered)) (now (a .cells)) (now (a .row)) (now (a .arena)) (now (a .ends)) (now (a .text-firsts)) (now (a .text-seconds)) (now (a .kinds)) (now (a .lengths)) (now (a .firsts)) (now (a .seconds)) (now (a .values)) (now (a .steps)) (now (a .store)) (c .before .before .before .before .before .before .before .before .before .before .before .before .before .before .before .before .before .before .before .before .before .before .before .before .before .pre .0) (now (a .block)) (a .taken) (d .result) _ (d .ensures) (c .before .before .before .before .before .before .before .before .before .before .before .before .before .before .before .before .before .enum-told2 .given .1) _ (c .before .before .before .before .before .before .before .before .before .before .before .before .before .before .first .ensures) (c .before .before .before .before .before .before .before .before .before .before .before .before .before .emptied .result) (c .before .before .before .before .before .before .before .before .before .before .before .before .before .emptied .ensures)
+    may-deal-ended (resting (a .status) (a .source)) (now (a .gathered)) (now (a .cells)) (now (a .row)) (now (a .arena)) (now (a .ends)) (now (a .text-firsts)) (now (a .text-seconds)) (now (a .kinds)) (now (a .lengths)) (now (a .firsts)) (now (a .seconds)) (now (a .values)) (now (a .steps)) (now (a .store)) (c .before .before .before .before .before .before .before .before .before .before .before .before .before .before .before .before .before .before .before .before .before .before .before .before .before .pre .0) (now (a .block)) (a .taken) (d .result) _ (d .ensures) (c .before .before .before .before .before .before .before .before .before .before .before .before .before .before .before .before .before .enum-told2 .given .1) _ (c .before .before .before .before .before .before .before .before .before .before .before .before .before .before .slice .ensures ∙ part-front _ _) (c .before .before .before .before .before .before .before .before .before .before .before .before .before .emptied .result) (c .before .before .before .before .before .before .before .before .before .before .before .before .before .emptied .ensures)
 
 returns : tie.Need-returns
 returns c =
@@ -72,7 +73,7 @@ returns-3 c =
     let a = c .before .before .before .before .before .before .before .before .before .before .before .before .before .before .before .before .before .before .before .before .before .before .before .before .before .before .before .before .args in
     let d = c .before .before .before .before .before .before .before .before .before .before .before .before .before .before .before .before .before .before .before .before .before .before .before .before .gather in
     let y = c .before .before .deal-line in (
-      ended-taken (resting (a .status) (a .source)) (now (a .gathered)) (now (a .cells)) (now (a .row)) (now (a .arena)) (now (a .ends)) (now (a .text-firsts)) (now (a .text-seconds)) (now (a .kinds)) (now (a .lengths)) (now (a .firsts)) (now (a .seconds)) (now (a .values)) (now (a .steps)) (now (a .store)) (c .before .before .before .before .before .before .before .before .before .before .before .before .before .before .before .before .before .before .before .before .before .before .before .before .before .before .before .before .pre .0) (now (a .block)) (a .taken) (d .result) _ (d .ensures) (c .before .before .before .before .before .before .before .before .before .before .before .before .before .before .before .before .before .before .before .before .enum-told2 .given .1) _ (c .before .before .before .before .before .before .before .before .before .before .before .before .before .before .before .before .before .first .ensures) (c .before .before .before .before .before .before .before .before .before .before .before .before .before .before .before .before .emptied .result) (c .before .before .before .before .before .before .before .before .before .before .before .before .before .before .before .before .emptied .ensures)
+      ended-taken (resting (a .status) (a .source)) (now (a .gathered)) (now (a .cells)) (now (a .row)) (now (a .arena)) (now (a .ends)) (now (a .text-firsts)) (now (a .text-seconds)) (now (a .kinds)) (now (a .lengths)) (now (a .firsts)) (now (a .seconds)) (now (a .values)) (now (a .steps)) (now (a .store)) (c .before .before .before .before .before .before .before .before .before .before .before .before .before .before .before .before .before .before .before .before .before .before .before .before .before .before .before .before .pre .0) (now (a .block)) (a .taken) (d .result) _ (d .ensures) (c .before .before .before .before .before .before .before .before .before .before .before .before .before .before .before .before .before .before .before .before .enum-told2 .given .1) _ (c .before .before .before .before .before .before .before .before .before .before .before .before .before .before .before .before .before .slice .ensures ∙ part-front _ _) (c .before .before .before .before .before .before .before .before .before .before .before .before .before .before .before .before .emptied .result) (c .before .before .before .before .before .before .before .before .before .before .before .before .before .before .before .before .emptied .ensures)
           (λ k. recordOf (placeIn (y .result)) k _ _ _ _ _ _ _ _ _ _ _ _) _ (y .ensures .0) _ (y .ensures .2),
       y .ensures .1,
     )
@@ -88,7 +89,7 @@ take-line-spec =
     enum-known-why
     turn-after-requires-2
     enum-told-2
-    first-requires
+    slice-requires
     emptied-requires
     deal-line-requires
     returns

@@ -1,7 +1,7 @@
--- `composition::no_break_requests::land` meets its contract. Assumes nothing.
+-- `composition::text_calls::land` meets its contract. Assumes nothing.
 use borrow.Author.Needs.{needs}
-use Rattle.composition.proofs.no_break_requests.land.Statement.{statement}
-use Rattle.composition.proofs.no_break_requests.land.Tie as tie
+use Rattle.composition.proofs.text_calls.land.Statement.{statement}
+use Rattle.composition.proofs.text_calls.land.Tie as tie
 
 stay-requires : tie.Need-stay-requires
 stay-requires c κs = search needs

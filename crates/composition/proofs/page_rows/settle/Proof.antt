@@ -1,7 +1,7 @@
--- `composition::break_requests::settle` meets its contract. Assumes nothing.
+-- `composition::page_rows::settle` meets its contract. Assumes nothing.
 use borrow.Author.Needs.{needs}
-use Rattle.composition.proofs.break_requests.settle.Statement.{statement}
-use Rattle.composition.proofs.break_requests.settle.Tie as tie
+use Rattle.composition.proofs.page_rows.settle.Statement.{statement}
+use Rattle.composition.proofs.page_rows.settle.Tie as tie
 
 enum-known-new : tie.Need-enum-known-new
 enum-known-new c = search needs

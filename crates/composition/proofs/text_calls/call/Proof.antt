@@ -1,9 +1,9 @@
--- `composition::no_break_requests::call` meets its contract. Assumes nothing.
+-- `composition::text_calls::call` meets its contract. Assumes nothing.
 use denote.Ref.{now}
 use borrow.Author.Needs.{needs}
-use Rattle.composition.proofs.no_break_requests.Keeps.{calls-text}
-use Rattle.composition.proofs.no_break_requests.call.Statement.{statement}
-use Rattle.composition.proofs.no_break_requests.call.Tie as tie
+use Rattle.composition.proofs.text_calls.Calls.{calls-text}
+use Rattle.composition.proofs.text_calls.call.Statement.{statement}
+use Rattle.composition.proofs.text_calls.call.Tie as tie
 
 arguments-requires : tie.Need-arguments-requires
 arguments-requires c κs = search needs

@@ -1,9 +1,9 @@
--- `composition::filling::slice` meets its contract. Assumes nothing.
+-- `fill::words::slice` meets its contract. Assumes nothing.
 use mathlib.Core.Path.{refl}
 use borrow.Author.Needs.{needs}
 use Rattle.fill.specs.Words.Parts.{part}
-use Rattle.composition.proofs.filling.slice.Statement.{statement}
-use Rattle.composition.proofs.filling.slice.Tie as tie
+use Rattle.fill.proofs.words.slice.Statement.{statement}
+use Rattle.fill.proofs.words.slice.Tie as tie
 
 sub-result : tie.Need-sub-result
 sub-result c = search needs

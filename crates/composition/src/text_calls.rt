@@ -1,0 +1,67 @@
+// A text is called by its name.
+use super::page_rows::Collected;
+use super::page_rows::Outcome;
+use super::page_rows::stay;
+use input_stack::stack::Stack;
+use page::position::Page;
+use page::springs::Called;
+use page::springs::Held;
+use page::springs::Way;
+use rules::Name;
+use settings::layout::Layout;
+use traps::table::Planted;
+ghost use mathlib.Core.Path.{_≡_};
+ghost use lib.ListN.{length};
+ghost use Rattle.rules.specs.Texts.{textOf};
+ghost use Rattle.rules.specs.Rows.{goes};
+ghost use Rattle.composition.specs.PageRows.Desk.{desk, Begins, Worked};
+ghost use Rattle.composition.specs.TextCalls.Calls.{calledTo, calledText, Known};
+
+// A text that is called, or "10: input stack past 16 items".
+fn land(called: Called, layout: Layout, page: Page, collected: Collected) -> Outcome
+    ensures { λ r. ⌜ r ≡ calledTo called layout page collected ⌝ }
+{
+    let stack = called.stack;
+    if called.full {
+        return stay(Way::Refused(10), layout, page, collected, stack);
+    }
+    stay(Way::On, layout, page, collected, stack)
+}
+
+// A text is called by its name with the arguments of a line.
+pub fn call(
+    name: Name,
+    line: &[u8],
+    parts: &mut [u8; 512],
+    layout: Layout,
+    page: Page,
+    collected: Collected,
+    planted: Planted,
+    cells: &[u8; 512],
+    row: &[u8; 872],
+    stack: Stack,
+    arena: &mut [u8; 8704],
+    ends: &mut [u16; 221],
+    firsts: &[u8; 64],
+    seconds: &[u8; 64],
+    texts: usize,
+) -> Outcome
+    requires { ⌜ Begins planted (desk layout page collected (now cells) stack (now arena) (now ends)) (now line) (now row) (now firsts) (now seconds) texts × (length (now parts) ≡ 512) × Known name (now firsts) (now seconds) texts ⌝ }
+    ensures { λ r. ⌜ Worked (λ ts s. goes (calledText (textOf name ts) (now (line .entry)) s)) (now (firsts .entry)) (now (seconds .entry)) texts planted (desk layout page collected (now (cells .entry)) stack (now (arena .entry)) (now (ends .entry))) (r .way) (r .written) (desk (r .layout) (r .page) (r .collected) (now (cells .entry)) (r .stack) (now (arena .exit)) (now (ends .exit))) (now (row .entry)) ⌝ }
+{
+    let mut given = [0u16; 9];
+    let count = scan::arguments::arguments(line, 0, &mut *parts, &mut given);
+    let called = page::springs::call(
+        name,
+        count as u8,
+        &*parts,
+        &given,
+        Held::Nothing,
+        b"",
+        page.last,
+        stack,
+        arena,
+        ends,
+    );
+    land(called, layout, page, collected)
+}

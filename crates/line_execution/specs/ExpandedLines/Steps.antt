@@ -1,0 +1,19 @@
+-- What a line of an open definition makes of a status. Assumes nothing.
+use mathlib.Core.Bool.{true}
+use Prim.Native.Nat.{ℕ}
+use Rattle.texts.specs.declared.table.Kept.{Kept}
+use Rattle.texts.specs.declared.table.Kept.the-variants as kept
+use Rattle.page.specs.declared.springs.Way.the-variants.{On, Refused}
+use Rattle.state.specs.declared.Status.{Status}
+use Rattle.state.specs.declared.Step.{Step}
+use Rattle.state.specs.Steps.{stayed, withTexts}
+use Rattle.line_expansion.specs.BodyLaws.{noOpening}
+
+-- a definition is closed
+abbrev pub closedTo : (texts : ℕ) → Status → Step
+closedTo n s = stayed On (withTexts n noOpening s)
+
+-- a body line is kept
+abbrev pub keptTo : Kept → Status → Step
+keptTo (kept.Longer n) s = stayed On (withTexts (s .texts) (record { there = true; name = s .opening .name; length = n }) s)
+keptTo kept.Full s = stayed (Refused 11) s
