@@ -16,15 +16,15 @@ use Rattle.rules.specs.declared.Turn.{Turn}
 use Rattle.rules.specs.declared.Turn.the-variants.{Still, Up, Down}
 use Rattle.rules.specs.Bytes.{backslash}
 use Rattle.rules.specs.Refusals.{value, bad}
-use Rattle.rules.specs.RefusalLaws.{Every, here, refused as bare, every-of}
-use Rattle.rules.specs.TableLaws.{OfSome}
+use Rattle.rules.specs.Laws.Refusals.{Every, here, refused as bare, every-of}
+use Rattle.rules.specs.Laws.Tables.{OfSome}
 use Rattle.rules.specs.Numbers.{within}
-use Rattle.rules.specs.NumberLaws.{within-bounded}
+use Rattle.rules.specs.Laws.Numbers.{within-bounded}
 use Rattle.rules.specs.Registers.{Seen, Reference, register, lookup, shown, stepTo, referBy, stepRegister, decimal}
-use Rattle.rules.specs.RegisterLaws.{BoundedRegister, BoundedTable, put-bounded, lookup-bounded}
+use Rattle.rules.specs.Laws.Registers.{BoundedRegister, BoundedTable, put-bounded, lookup-bounded}
 use Rattle.rules.specs.Texts.{Text, text, textOf}
 use Rattle.rules.specs.Escapes.{Surroundings, Scanned, scanned, refused, Wanted, number, aString, Escape, outside, Action, writes, begins, holds, wants, gives, ends, unlisted, actionOf, Scan, withRegisters, Effect, goes, stops, writeBy, atEnd, holdBy, beginBy, enterBy, enter, showIt, want, given, effectOf, Next, reads, over, next, before, follow, run, scan}
-use Rattle.rules.specs.EscapeLaws.{registersAfter, scan-keeps}
+use Rattle.rules.specs.Laws.Escapes.{registersAfter, scan-keeps}
 use Rattle.limits.specs.Within.{Refusal}
 use Rattle.limits.specs.Parts.{is-3, is-4, is-5, is-7, is-9}
 use Rattle.limits.specs.Numbered.{Numbered, within-numbered, after-numbered}

@@ -5,9 +5,10 @@ use Prim.Native.Nat.{ℕ}
 use Rattle.rules.specs.declared.Name.{Name}
 use Rattle.rules.specs.Names.{Named, one, tooLong}
 use Rattle.rules.specs.Refusals.{Judged, value, bad, judge, _>>=_}
-use Rattle.rules.specs.RefusalLaws.{Every, here, refused}
+use Rattle.rules.specs.Laws.Refusals.{Every, here, refused}
 use Rattle.rules.specs.Settings.{Layout}
-use Rattle.rules.specs.State.{State, withLayout}
+use Rattle.rules.specs.State.{State}
+use Rattle.rules.specs.StateSetters.{withLayout}
 use Rattle.rules.specs.Rows.{Next}
 use Rattle.rules.specs.Acts.{given, settles, laidOut, onName}
 use Rattle.limits.specs.Within.{Refusal, Within, Keeps}

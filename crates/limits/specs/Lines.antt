@@ -12,16 +12,17 @@ use Rattle.rules.specs.declared.Register.{Register}
 use Rattle.rules.specs.declared.Breaking.{Breaking}
 use Rattle.rules.specs.declared.Request.the-variants.{Breaks, Keeps as Unbroken, Ds}
 use Rattle.rules.specs.Printers.{Printer}
-use Rattle.rules.specs.RegisterLaws.{BoundedTable}
+use Rattle.rules.specs.Laws.Registers.{BoundedTable}
 use Rattle.rules.specs.Texts.{Text, keepLineIn, keepLine, closeMacro}
-use Rattle.rules.specs.TextLaws.{distinct-close}
+use Rattle.rules.specs.Laws.Texts.{distinct-close}
 use Rattle.rules.specs.Escapes.{Surroundings, Scanned, scanned, refused}
-use Rattle.rules.specs.EscapeLaws.{registersAfter}
+use Rattle.rules.specs.Laws.Escapes.{registersAfter}
 use Rattle.rules.specs.Arguments.{arguments}
 use Rattle.rules.specs.Filling.{Collected}
 use Rattle.rules.specs.Requests.{traits, startsPage, modeOf}
 use Rattle.rules.specs.Lines.{lineOf, isClosing}
-use Rattle.rules.specs.State.{State, Line, text, control, ignored, again, acts, Definition, seen, withRegisters, withOpened}
+use Rattle.rules.specs.State.{State, Line, text, control, ignored, again, acts, Definition, seen}
+use Rattle.rules.specs.StateSetters.{withRegisters, withOpened}
 use Rattle.rules.specs.Rows.{Next, goes}
 use Rattle.rules.specs.TextLines.{textLine}
 use Rattle.rules.specs.ControlLines.{Meaning, calls, requests, nothing, meaningOf, heldAfter, heldFirst, prefixOf, onScan, breakOrAct, startOrBreak, obey, dealAgain, expand, controlLine, freshLine, keepBody, bodyLine, dealFrom, deal}

@@ -8,14 +8,16 @@ use native.Mathlib.Omega.{arith}
 use Rattle.stream.specs.Answers.{Closing, done}
 use Rattle.rules.specs.declared.Register.{Register}
 use Rattle.rules.specs.declared.Trap.{Trap}
-use Rattle.rules.specs.TableLaws.{Each}
-use Rattle.rules.specs.RegisterLaws.{BoundedTable}
-use Rattle.rules.specs.TrapLaws.{Single}
+use Rattle.rules.specs.Laws.Tables.{Each}
+use Rattle.rules.specs.Laws.Registers.{BoundedTable}
+use Rattle.rules.specs.Laws.Traps.{Single}
 use Rattle.rules.specs.Texts.{Text}
-use Rattle.rules.specs.TextLaws.{Distinct}
-use Rattle.rules.specs.Settings.{Setting, withLine, withCentred}
+use Rattle.rules.specs.Laws.Texts.{Distinct}
+use Rattle.rules.specs.Settings.{Setting}
+use Rattle.rules.specs.LayoutSetters.{withLine, withCentred}
 use Rattle.rules.specs.Filling.{Collected}
-use Rattle.rules.specs.State.{Item, reading, fresh, again, others, acts, ejects, Definition, State, refuse, close, withStack, withLayout, withCollected, withRegisters, withTexts, withOpened, withTraps}
+use Rattle.rules.specs.State.{Item, reading, fresh, again, others, acts, ejects, Definition, State, refuse, close}
+use Rattle.rules.specs.StateSetters.{withStack, withLayout, withCollected, withRegisters, withTexts, withOpened, withTraps}
 use Rattle.limits.specs.Within.{Ranged, Gone, BoundedTrap, OverText, Layer, Layered, limitOf, Deep, NextLine, OpenOver, Refusal, Within}
 
 -- the numbers of refusals

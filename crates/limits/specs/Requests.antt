@@ -18,18 +18,19 @@ use Rattle.rules.specs.declared.Unbreaking.the-variants.{Pl, Po, Ll, Ad, Na, Nr
 use Rattle.rules.specs.Printers.{Printer}
 use Rattle.rules.specs.Bytes.{byte, isThere}
 use Rattle.rules.specs.Names.{Named, one, tooLong, nameOf}
-use Rattle.rules.specs.TableLaws.{Each, OfSome, entry-each}
+use Rattle.rules.specs.Laws.Tables.{Each, OfSome, entry-each}
 use Rattle.rules.specs.Numbers.{equalZ, units, signed}
-use Rattle.rules.specs.NumberLaws.{Bounded, within-bounded, rows-bounded, units-bounded}
+use Rattle.rules.specs.Laws.Numbers.{Bounded, within-bounded, rows-bounded, units-bounded}
 use Rattle.rules.specs.Registers.{lookup, setValue, predefined, valueOr0, stepOr0}
-use Rattle.rules.specs.RegisterLaws.{BoundedRegister, lookup-bounded, set-bounded}
+use Rattle.rules.specs.Laws.Registers.{BoundedRegister, lookup-bounded, set-bounded}
 use Rattle.rules.specs.Texts.{textOf}
 use Rattle.rules.specs.Traps.{plant, removeTrap}
-use Rattle.rules.specs.TrapLaws.{plant-here, plant-on, remove-here, remove-on, single-plant, single-remove}
-use Rattle.rules.specs.Settings.{withIndent, withOffset, withPageLength}
+use Rattle.rules.specs.Laws.Traps.{plant-here, plant-on, remove-here, remove-on, single-plant, single-remove}
+use Rattle.rules.specs.LayoutSetters.{withIndent, withOffset, withPageLength}
 use Rattle.rules.specs.Arguments.{condition}
 use Rattle.rules.specs.Lines.{lineOf, expression, letters, simplyHolds, holdsIf, holds}
-use Rattle.rules.specs.State.{State, again, withLayout, withTraps}
+use Rattle.rules.specs.State.{State, again}
+use Rattle.rules.specs.StateSetters.{withLayout, withTraps}
 use Rattle.rules.specs.Rows.{skip}
 use Rattle.rules.specs.Acts.{argument, openText, removeText, plantAt, follows, newValue, act, newStep, writeIf, writeRegister, plantTrap, ifLine, perform}
 use Rattle.limits.specs.Within.{BoundedTrap, Within, Keeps}

@@ -13,7 +13,8 @@ use Rattle.rules.specs.Texts.{Text}
 use Rattle.rules.specs.Settings.{Down}
 use Rattle.rules.specs.Filling.{Collected}
 use Rattle.rules.specs.Traps.{seenAt}
-use Rattle.rules.specs.State.{State, Item, reading, ejects, withStack, withPage, withCollected}
+use Rattle.rules.specs.State.{State, Item, reading, ejects}
+use Rattle.rules.specs.StateSetters.{withStack, withPage, withCollected}
 use Rattle.rules.specs.Rows.{linesOf, theEnd, pushIf, heldIf, call, userText, springText, spring, startIf, startPage, endPage, withUsed, reach, down, break, rowsBelow, fewer, skip, ejectIf, eject, lastPage, ejectLast, endFrom, beginEnd}
 use Rattle.limits.specs.Within.{OverText, Deep, Within, Keeps}
 use Rattle.limits.specs.Parts.{is-10, is-12, next-over, none-over, over-layer, Held, held-deep, stack-kept, collected-kept, done-kept, refuse-kept}

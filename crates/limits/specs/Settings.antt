@@ -7,11 +7,13 @@ use lib.Dec.{leb}
 use lib.IntN.{ℤ, pos, negsuc}
 use borrow.Author.Tests.{leb-true}
 use Rattle.rules.specs.Printers.{Printer}
-use Rattle.rules.specs.RefusalLaws.{both}
+use Rattle.rules.specs.Laws.Refusals.{both}
 use Rattle.rules.specs.Numbers.{cells, rows, signed}
-use Rattle.rules.specs.NumberLaws.{Bounded, units-bounded}
-use Rattle.rules.specs.Settings.{Setting, changed, inRange, lineRange, withTotal}
-use Rattle.rules.specs.State.{State, withLayout}
+use Rattle.rules.specs.Laws.Numbers.{Bounded, units-bounded}
+use Rattle.rules.specs.Settings.{Setting, changed, inRange, lineRange}
+use Rattle.rules.specs.LayoutSetters.{withTotal}
+use Rattle.rules.specs.State.{State}
+use Rattle.rules.specs.StateSetters.{withLayout}
 use Rattle.rules.specs.Acts.{countOf, setting, pageLength, indentTotal, spacing, centring}
 use Rattle.limits.specs.Within.{Ranged, Within}
 use Rattle.limits.specs.Parts.{is-7}

@@ -12,9 +12,10 @@ use Rattle.stream.specs.Answers.{Closing}
 use Rattle.stream.specs.Machine.{works, asks}
 use Rattle.rules.specs.Printers.{Printer}
 use Rattle.rules.specs.Bytes.{newline}
-use Rattle.rules.specs.RefusalLaws.{both}
-use Rattle.rules.specs.TableLaws.{Each}
-use Rattle.rules.specs.State.{State, Item, reading, fresh, again, others, acts, ejects, Definition, withInput, withStack, withStored}
+use Rattle.rules.specs.Laws.Refusals.{both}
+use Rattle.rules.specs.Laws.Tables.{Each}
+use Rattle.rules.specs.State.{State, Item, reading, fresh, again, others, acts, ejects, Definition}
+use Rattle.rules.specs.StateSetters.{withInput, withStack, withStored}
 use Rattle.rules.specs.Session.{leave, begunBy, withBegun, gather, takeBy, takeByte, lastLine, readEnd, workEnd, readLine, work, idle, stepFrom, step}
 use Rattle.limits.specs.Within.{SourceByte, OverText, Layer, Layered, Deep, NextLine, OpenOver, Answered, Within, Keeps}
 use Rattle.limits.specs.Parts.{is-2, is-3, is-8, is-10, is-12, next-over, none-over, over-next, popped-deep, stack-kept, refuse-popped, refuse-kept}

@@ -6,7 +6,8 @@ use native.Mathlib.Omega.{arith}
 use lib.IntN.{pos}
 use Rattle.rules.specs.declared.Breaking.the-variants.{Sp}
 use Rattle.rules.specs.Filling.{Word, words, standing, after, gapAfter, Collected, withNext, begin, begun, Placed, all, full, place}
-use Rattle.rules.specs.State.{State, again, others, acts, text, withLayout, withCollected}
+use Rattle.rules.specs.State.{State, again, others, acts, text}
+use Rattle.rules.specs.StateSetters.{withLayout, withCollected}
 use Rattle.rules.specs.TextLines.{Way, starts, blank, stands, fills, breaks, wayOf, asItStands, counted, othersOf, nextGap, filled, fillFrom, fill, blankFrom, gapHere, textWay, textLine}
 use Rattle.limits.specs.Within.{Within, Keeps}
 use Rattle.limits.specs.Parts.{centred-kept, collected-kept}

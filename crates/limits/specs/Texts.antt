@@ -7,7 +7,7 @@ use Prim.Native.Nat.{ℕ}
 use Rattle.rules.specs.declared.Name.{Name}
 use Rattle.rules.specs.Names.{nameOf}
 use Rattle.rules.specs.Texts.{Text, textOf, remove, defineStringIn, openMacro}
-use Rattle.rules.specs.TextLaws.{Distinct, distinct-remove, distinct-define, distinct-open, gone-open}
+use Rattle.rules.specs.Laws.Texts.{Distinct, distinct-remove, distinct-define, distinct-open, gone-open}
 use Rattle.rules.specs.Arguments.{Part, first, stringText}
 use Rattle.rules.specs.State.{State, onStack}
 use Rattle.rules.specs.Acts.{free, writtenBack, defineText, defineFrom, defines, openText, removeIf}

@@ -10,12 +10,12 @@ use Rattle.stream.specs.Answers.{Closing, done, refused}
 use Rattle.stream.specs.Machine.{Step, works, asks, closed}
 use Rattle.rules.specs.declared.Trap.{Trap}
 use Rattle.rules.specs.Printers.{Printer, tenToTheInch}
-use Rattle.rules.specs.TableLaws.{Each}
-use Rattle.rules.specs.NumberLaws.{Bounded}
-use Rattle.rules.specs.RegisterLaws.{BoundedTable}
-use Rattle.rules.specs.TrapLaws.{Single}
+use Rattle.rules.specs.Laws.Tables.{Each}
+use Rattle.rules.specs.Laws.Numbers.{Bounded}
+use Rattle.rules.specs.Laws.Registers.{BoundedTable}
+use Rattle.rules.specs.Laws.Traps.{Single}
 use Rattle.rules.specs.Texts.{Text, textOf}
-use Rattle.rules.specs.TextLaws.{Distinct}
+use Rattle.rules.specs.Laws.Texts.{Distinct}
 use Rattle.rules.specs.Settings.{Setting}
 use Rattle.rules.specs.State.{Item, reading, fresh, again, others, acts, ejects, Definition, Tables, State, start}
 use Rattle.rules.specs.Rows.{theEnd}

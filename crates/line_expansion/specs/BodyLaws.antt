@@ -11,7 +11,8 @@ use Rattle.rules.specs.Refusals.{Judged}
 use Rattle.rules.specs.Printers.{Printer}
 use Rattle.rules.specs.declared.Kind.the-variants.{Macro}
 use Rattle.rules.specs.Texts.{Text, text, keepLineIn, closeMacro}
-use Rattle.rules.specs.State.{State, Item, Definition, input, tables, withOpened}
+use Rattle.rules.specs.State.{State, Item, Definition}
+use Rattle.rules.specs.StateSetters.{input, tables, withOpened}
 use Rattle.rules.specs.Rows.{Next, goes}
 use Rattle.rules.specs.Acts.{given}
 use Rattle.rules.specs.ControlLines.{keepBody}

@@ -13,7 +13,8 @@ use Rattle.rules.specs.Printers.{Printer}
 use Rattle.rules.specs.Settings.{Layout}
 use Rattle.rules.specs.Traps.{Page}
 use Rattle.rules.specs.Texts.{Text}
-use Rattle.rules.specs.State.{State, Definition, tables}
+use Rattle.rules.specs.State.{State, Definition}
+use Rattle.rules.specs.StateSetters.{tables}
 use Rattle.rules.specs.Rows.{Next, goes, refuses}
 use Rattle.rules.specs.TextLines.{textLine}
 use Rattle.rules.specs.ControlLines.{meaningOf, obey, keepBody, bodyLine, deal}

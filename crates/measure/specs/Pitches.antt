@@ -16,6 +16,7 @@ pub record Whole (p : Pitch) : Type 0 where
   pub cells : Divides (p .cell)
   pub rows : Divides (p .row)
 
+-- Sanity.
 pub ten-whole : Whole tenPitch
 ten-whole = record { cells = refl; rows = refl }
 

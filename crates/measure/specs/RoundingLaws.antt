@@ -105,6 +105,7 @@ module _ (size : ℕ) (h : 0 < size) where
     away = λ e. rw (neg-mul k size, abs-neg z, abs-neg (k *ℤ pos size)) (f .away (rw (mirror z k) at e));
   }
 
+  -- Sanity.
   pub is-nearest : (z : ℤ) → Nearest size z (nearestOf size z)
   is-nearest (pos n) = above n
   is-nearest (negsuc n) = below (pos (suc n)) (nearestOf size (pos (suc n))) (above (suc n))
@@ -116,16 +117,18 @@ inch-of (suc s) d =
     ap (λ (n : ℕ). nearestOf (suc s) (pos n) *ℤ pos (suc s)) (sym e) ∙ rw (whole (suc s) (240 / suc s) (omega arith)) (ap pos e)
 
 module _ (p : Pitch) where
-  -- cells and rows come back from their units
+  -- Sanity: cells and rows come back from their units
   pub cells-back : 0 < p .cell → (c : Cells) → cellsOf p (unitsOfCells p c) ≡ c
   cells-back h c = rw (exact (p .cell) h (c .0))
 
+  -- Sanity.
   pub rows-back : 0 < p .row → (r : Rows) → rowsOf p (unitsOfRows p r) ≡ r
   rows-back h r = rw (exact (p .row) h (r .0))
 
-  -- an inch is whole cells and whole rows
+  -- Sanity: an inch is whole cells and whole rows
   pub inch-across : Whole p → unitsOfCells p (cellsOf p (pos 240)) ≡ pos 240
   inch-across w = inch-of (p .cell) (w .cells)
 
+  -- Sanity.
   pub inch-down : Whole p → unitsOfRows p (rowsOf p (pos 240)) ≡ pos 240
   inch-down w = inch-of (p .row) (w .rows)

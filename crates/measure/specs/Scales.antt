@@ -9,7 +9,7 @@ use Rattle.measure.specs.declared.Scale.the-variants.{Inch, Centimetre, 
 use Rattle.measure.specs.declared.MaybeScale.{MaybeScale}
 use Rattle.measure.specs.declared.MaybeScale.the-variants.{Some, None}
 
--- "with scale i, c, P, m, n, p, u, v", by their bytes
+-- "Literals are whole digits with scale i .., c .., P .., m and n .., p .., u .., v ..": the scale of a letter, by its byte
 unfoldable pub scaleOf : ℕ → MaybeScale
 scaleOf b =
     cond (eqb b 105) (Some Inch)

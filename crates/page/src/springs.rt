@@ -16,9 +16,8 @@ ghost use Rattle.measure.specs.Counts.{downOf};
 ghost use Rattle.rules.specs.Rows as rule;
 ghost use Rattle.scan.specs.Arguments.Around.{Arguments};
 ghost use Rattle.texts.specs.Table.Table.{Names};
-ghost use Rattle.traps.specs.Table.Table.{foundIs, plantedOf};
+ghost use Rattle.traps.specs.Table.Table.{foundIs};
 ghost use Rattle.page.specs.Position.Landing.{Sound, landingIs};
-ghost use Rattle.page.specs.Position.LandingLaws.{landed};
 ghost use Rattle.page.specs.Springs.Held.{heldCount, lastCount, Plain, Ready, HeldTo};
 ghost use Rattle.page.specs.Springs.Calls.{CalledTo, SprungTo, LandedTo, landedFrom, MovedTo};
 

@@ -10,7 +10,7 @@ use lib.Seq.{length-take-le, take-nil, take-take, take-add, drop-drop, length-pa
 use Rattle.stream.specs.declared.Answer.{Answer}
 use Rattle.stream.specs.declared.Answer.the-variants as answer
 use Rattle.stream.specs.Answers.{needs-room, replyOf}
-use Rattle.stream.specs.Machine.{Outcome, stop, callFrom}
+use Rattle.stream.specs.Machine.{stop, callFrom}
 use Rattle.rules.specs.Printers.{tenToTheInch}
 use Rattle.rules.specs.State.{State}
 use Rattle.rules.specs.Load.{formatter}

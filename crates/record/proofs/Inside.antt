@@ -8,11 +8,12 @@ use native.Mathlib.Omega.{arith}
 use lib.ListN.{length, take, drop}
 use lib.Seq.{length-take-le, take-length, paste, take-paste, length-paste}
 use Rattle.stream.specs.declared.Answer.the-variants as answer
-use Rattle.rules.specs.State.{State, input, withInput}
+use Rattle.rules.specs.State.{State}
+use Rattle.rules.specs.StateSetters.{input, withInput}
 use Rattle.source_line.specs.declared.Source.{Source}
 use Rattle.source_line.specs.Gathering.{sourceIn, Takes}
 use Rattle.source_line.specs.GatheringLaws.{Inside, inside-is, inside-takes}
-use Rattle.state.specs.Whole.{Whole, stateIn}
+use Rattle.state.specs.Whole.{stateIn}
 use Rattle.record.specs.declared.Record.{Record}
 use Rattle.record.specs.declared.Waiting.{Waiting}
 use Rattle.record.specs.declared.Closing.{Closing}

@@ -16,9 +16,9 @@ use Rattle.stream.specs.Laws.{call-works, call-ends, call-waits, call-closed}
 use Rattle.rules.specs.Printers.{tenToTheInch}
 use Rattle.rules.specs.State.{State, close}
 use Rattle.rules.specs.Session.{step, takeByte, readEnd}
-use Rattle.rules.specs.SessionLaws.{step-close}
+use Rattle.rules.specs.Laws.Session.{step-close}
 use Rattle.rules.specs.Load.{Good, load, formatter}
-use Rattle.rules.specs.Falls.{falls}
+use Rattle.rules.specs.Laws.Falls.{falls}
 use Rattle.limits.specs.Within.{Within}
 use Rattle.limits.specs.Steps.{works-within, byte-within, end-within}
 use Rattle.source_line.specs.declared.Source.{Source}
@@ -32,7 +32,7 @@ use Rattle.record.specs.declared.Stop.{Stop}
 use Rattle.record.specs.declared.Stop.the-variants.{Goes}
 use Rattle.record.specs.declared.Closing.{Closing as Closed}
 use Rattle.record.specs.declared.Closing.the-variants.{Open, Done, Refused}
-use Rattle.record.specs.View.{sourced, closedAs, wholeIn, stateOf, waitingOf, lastLine, Formed, formed-good}
+use Rattle.record.specs.View.{sourced, closedAs, wholeIn, stateOf, waitingOf, Formed, formed-good}
 use Rattle.record.specs.Contract.{Closes, EndedBy}
 use Rattle.record.specs.Turns.{recordOf, resting, KeptBy, Works, Busy, Asking, Arrives, stands, after-work, TakenTo, Turns, Leads, Stops, Turned, HasWork}
 use Rattle.record.proofs.Taking.{stack-none}

@@ -9,7 +9,8 @@ use lib.Seq.{length-take-le}
 use lib.IntN.{ℤ}
 use Rattle.stream.specs.Answers.{refused}
 use Rattle.rules.specs.Printers.{tenToTheInch}
-use Rattle.rules.specs.State.{State, fresh, input, withInput, close}
+use Rattle.rules.specs.State.{State, fresh, close}
+use Rattle.rules.specs.StateSetters.{input, withInput}
 use Rattle.rules.specs.ControlLines.{deal}
 use Rattle.rules.specs.Session.{step, readEnd, lastLine as lastItem}
 use Rattle.source_line.specs.declared.Source.{Source}

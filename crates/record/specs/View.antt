@@ -5,7 +5,8 @@ use Prim.Native.Nat.{ℕ, _-_, _≤_}
 use lib.ListN.{length, take, drop}
 use Rattle.stream.specs.Answers.{done, refused}
 use Rattle.rules.specs.Printers.{tenToTheInch}
-use Rattle.rules.specs.State.{State, start, close, input, withInput}
+use Rattle.rules.specs.State.{State, start, close}
+use Rattle.rules.specs.StateSetters.{input, withInput}
 use Rattle.rules.specs.Load.{Good}
 use Rattle.limits.specs.Within.{Within}
 use Rattle.source_line.specs.declared.Source.{Source}

@@ -17,12 +17,12 @@ use Rattle.record.specs.declared.Place.{Place}
 use Rattle.record.specs.declared.Closing.{Closing}
 use Rattle.record.specs.declared.Closing.the-variants.{Open, Done, Refused}
 use Rattle.record.specs.View.{closedAs, Legal}
-use Rattle.record.specs.Contract.{Closes, Ended, EndedBy, Does}
+use Rattle.record.specs.Contract.{Closes, Ended, EndedBy}
 use Rattle.record.specs.declared.Ran.{Ran}
 use Rattle.record.specs.Turns.{recordOf, replyFrom, stays}
 use Rattle.session.specs.Contract.{Nothing, Called, served, turned}
 use Rattle.record_words.specs.Decoding.Words.{Short, placeIn, PlaceWritten}
-use Rattle.record_words.specs.Encoding.Kept.{recordIn, wordsIn, again, Typed, Kept, kept, kept-same}
+use Rattle.record_words.specs.Encoding.Kept.{recordIn, again, Typed, Kept, kept, kept-same}
 use Rattle.rockavine_c.specs.Replies.Replies.{codeOf, numberOf, lineOf, isLast}
 use Rattle.rockavine_c.specs.Calls.{isTurned, CalledFrom}
 

@@ -16,13 +16,15 @@ use Rattle.rules.specs.Texts.{textOf, remove, defineString, openMacro}
 use Rattle.rules.specs.Escapes.{escaped}
 use Rattle.rules.specs.Names.{Named, one, tooLong, nameOf}
 use Rattle.rules.specs.Arguments.{Part, first, arguments, stringText, condition}
-use Rattle.rules.specs.Settings.{Layout, Setting, set, goBack, changed, lineRange, indentRange, offsetRange, pageRange, withLine, withIndent, withOffset, withPageLength, withTotal, withFilling, withAdjusting, withCentred}
+use Rattle.rules.specs.Settings.{Layout, Setting, set, goBack, changed, lineRange, indentRange, offsetRange, pageRange}
+use Rattle.rules.specs.LayoutSetters.{withLine, withIndent, withOffset, withPageLength, withTotal, withFilling, withAdjusting, withCentred}
 use Rattle.rules.specs.Traps.{plant, removeTrap}
 use Rattle.rules.specs.declared.Breaking.{Breaking}
 use Rattle.rules.specs.declared.Breaking.the-variants.{Br, Sp, Bp, Fi, Nf, Ce, In, Ti}
 use Rattle.rules.specs.declared.Unbreaking.{Unbreaking}
 use Rattle.rules.specs.declared.Unbreaking.the-variants.{Pl, Po, Ll, Ad, Na, Nr, De, Rm, Wh, If}
-use Rattle.rules.specs.State.{State, again, onStack, withStack, withLayout, withRegisters, withTexts, withOpened, withTraps}
+use Rattle.rules.specs.State.{State, again, onStack}
+use Rattle.rules.specs.StateSetters.{withStack, withLayout, withRegisters, withTexts, withOpened, withTraps}
 use Rattle.rules.specs.Rows.{Next, goes, refuses, skip, eject}
 use Rattle.rules.specs.Lines.{lineOf, holds}
 
@@ -136,7 +138,7 @@ module _ (p : Printer) where
     n ← indentRange (changed (signed (b ∷ l)) (y .indent .now) v)
     value (withTotal (some n) y)
 
-  -- sp and ce; missing, 1
+  -- sp: "sp 1" where missing
   abbrev pub spacing : List ℕ → Judged ℤ
   spacing [] = value (pos 1)
   spacing (b ∷ l) = rows (p .pitch) (b ∷ l)

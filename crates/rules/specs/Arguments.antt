@@ -4,9 +4,7 @@ use mathlib.Core.List.{List, [], _∷_}
 use mathlib.Core.Option.{Option, some}
 use Prim.Native.Nat.{ℕ, zero, suc}
 use lib.Dec.{eqb}
-use Rattle.rules.specs.Bytes.{byte, bytes, space, firstWhere, entry}
-use Rattle.rules.specs.declared.Name.{Name}
-use Rattle.rules.specs.Names.{oneByte, twoBytes}
+use Rattle.rules.specs.Bytes.{byte, space, firstWhere, entry}
 
 -- A part of a line, and what follows it.
 pub record Part : Type 0 where

@@ -16,7 +16,8 @@ use Rattle.rules.specs.declared.Breaking.{Breaking}
 use Rattle.rules.specs.declared.Request.{Request}
 use Rattle.rules.specs.Requests.{requestOf, traits, startsPage, modeOf}
 use Rattle.rules.specs.declared.Request.the-variants.{Breaks, Keeps, Ds}
-use Rattle.rules.specs.State.{State, Line, text, control, ignored, Item, again, acts, Definition, seen, withRegisters, withTexts, withOpened}
+use Rattle.rules.specs.State.{State, Line, text, control, ignored, Item, again, acts, Definition, seen}
+use Rattle.rules.specs.StateSetters.{withRegisters, withTexts, withOpened}
 use Rattle.rules.specs.Rows.{Next, goes, refuses, call, break, startPage, heldIf}
 use Rattle.rules.specs.TextLines.{textLine}
 use Rattle.rules.specs.Lines.{lineOf, isClosing}
@@ -65,7 +66,7 @@ onScan (scanned l rs) s k = k l (withRegisters rs s)
 onScan (refused n rs) s k = refuses n (withRegisters rs s)
 
 module _ (p : Printer) where
-  -- A breaking request starts the first page; or breaks, and acts after that; or acts.
+  -- Where a period calls it and a line is collected, a breaking request breaks, and what it does after that is held; else it acts at once.
   abbrev pub breakOrAct : (period : Bool) → Option Collected → Breaking → List ℕ → State → Next
   breakOrAct true (some c) r l s = break c (heldAfter r l) s
   breakOrAct true none r l s = act p r l s
@@ -106,11 +107,11 @@ module _ (p : Printer) where
   freshLine (text l) args s = onScan (expand args Plain 0 l s) s textLine
   freshLine (control q n l) args s = controlLine (meaningOf n s) args q n l s
 
-  -- "Body lines of de .. are in copy mode"; "A macro exists once closed"
+  -- a body line, as expanded, goes behind those before it, or "11: .. live text past 8,192 bytes"
   abbrev pub keepBody : Definition → List ℕ → State → Next
   keepBody d l s = given (keepLine (s .tables .texts) (d .body) l) s (λ body. goes (withOpened (some (record { name = d .name; body = body })) s))
 
-  -- "A definition closes at a line that is exactly two periods"; any other line is kept
+  -- "A definition closes at a line that is exactly two periods"; any other line is kept: "Body lines of de .. are in copy mode"
   abbrev pub bodyLine : (closing : Bool) → Definition → (args : List (List ℕ)) → List ℕ → State → Next
   bodyLine true d args l s = goes (withOpened none (withTexts (closeMacro (d .name) (d .body) (s .tables .texts)) s))
   bodyLine false d args l s = onScan (expand args Copy 0 l s) s (keepBody d)

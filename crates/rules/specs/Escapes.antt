@@ -8,12 +8,11 @@ use lib.ListN.{length, getD}
 use Rattle.rules.specs.Bytes.{byte, bytes, space, backslash, mark, fixedBlank, firstWhere, entry}
 use Rattle.rules.specs.declared.Name.{Name}
 use Rattle.rules.specs.Names.{oneByte, twoBytes}
-use Rattle.rules.specs.Refusals.{Judged, value, bad}
+use Rattle.rules.specs.Refusals.{value, bad}
 use Rattle.rules.specs.Registers.{Seen, Reference, stepRegister, decimal}
 use Rattle.rules.specs.declared.Register.{Register}
 use Rattle.rules.specs.declared.Turn.{Turn}
 use Rattle.rules.specs.declared.Turn.the-variants.{Still, Up, Down}
-use Rattle.rules.specs.declared.Kind.{Kind}
 use Rattle.rules.specs.declared.Kind.the-variants.{Macro, String}
 use Rattle.rules.specs.declared.Mode.{Mode}
 use Rattle.rules.specs.declared.Mode.the-variants.{Plain, Copy}
@@ -37,10 +36,19 @@ pub data Wanted : Type 0 where
 
 -- What has been read of an escape.
 pub data Escape : Type 0 where
-  -- nothing; \; \n; \n+ \n- or \*; these or \n and (; the same and one byte; \$
-  outside slash numbering : Escape
-  naming long : Wanted → Escape
+  -- nothing: the next byte stands outside escapes
+  outside : Escape
+  -- a backslash
+  slash : Escape
+  -- \n
+  numbering : Escape
+  -- \n+, \n- or \*: a name follows
+  naming : Wanted → Escape
+  -- \n, \n+, \n- or \*, and (: a name of two bytes follows
+  long : Wanted → Escape
+  -- the same and the first byte of the name
   longer : Wanted → ℕ → Escape
+  -- \$
   argument : Escape
 
 -- What the next byte does.
@@ -137,7 +145,7 @@ writeBy false l s = refuse 3 s
 abbrev pub write : List ℕ → Scan → Effect
 write l s = writeBy (leb (length l) (s .room)) l s
 
--- "5: an escape .. cut short in its line or string"; in copy mode "a lone backslash at the end too, stays"
+-- whether the text that is being read, the line or the innermost string, has no byte left
 abbrev pub atEnd : List (List ℕ) → Bool
 atEnd [] = true
 atEnd ([] ∷ u) = true

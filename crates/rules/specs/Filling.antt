@@ -6,7 +6,8 @@ use Prim.Native.Nat.{ℕ, zero, suc, _+_, _-_, _/_, _%_}
 use lib.Dec.{leb, eqb}
 use lib.ListN.{length, replicate}
 use Rattle.rules.specs.Bytes.{byte, newline, space, mark, fixedBlank, gapStart}
-use Rattle.rules.specs.Settings.{Across, Layout, withTotal}
+use Rattle.rules.specs.Settings.{Across, Layout}
+use Rattle.rules.specs.LayoutSetters.{withTotal}
 
 -- a word, and the gap before it
 pub record Word : Type 0 where
@@ -183,7 +184,7 @@ spread each few (b ∷ bs) = spreadCell (eqb b gapStart) (each + moreIf few) b (
 
 -- "a line without gaps stays as it is"
 abbrev pub share : (e : Across) → (k : ℕ) → List ℕ → List ℕ
-share e zero bs = spread 0 0 bs
+share e zero bs = bs
 share e (suc k) bs = spread (e / suc k) (suc k - e % suc k) bs
 
 -- a collected line with its gaps as they are

@@ -1,4 +1,5 @@
--- Lines before their expansion, and the conditions of if (document 01, 'Lines and escapes').
+-- What kind of line a line is, and the conditions of if (document 01, 'Lines and escapes'). A line of the source or of a text is judged by its raw
+-- bytes, before its expansion; what follows an if is a line that is expanded already, and is judged by its expanded bytes.
 use mathlib.Core.Bool.{Bool, true, false, not, _&&_}
 use mathlib.Core.List.{List, [], _∷_}
 use Prim.Native.Nat.{ℕ, _%_}

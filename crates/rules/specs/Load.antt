@@ -1,4 +1,6 @@
--- How much work a state has left, and the limits that each piece of work keeps: why every document comes to its closing answer. Assumes nothing.
+-- How much work a state has left, and the limits that each piece of work keeps: why every document comes to its closing answer. Nothing here need be
+-- believed: a load is only the fuel of `pages`, each step lowers it (Laws.Falls, `falls`), so it is never used up (Laws.Pages, `always-ends`), and any
+-- greater fuel gives the same pages. Only `formatter`, the last definition, says which step the machine has: `step`. Assumes nothing.
 use mathlib.Core.Bool.{Bool, true, false}
 use mathlib.Core.Option.{Option, none, some}
 use mathlib.Core.List.{List, [], _∷_}

@@ -13,7 +13,7 @@ oneByte a = record { first = a; second = 0 }
 abbrev pub twoBytes : ℕ → ℕ → Name
 twoBytes a b = record { first = a; second = b }
 
--- whether two names are the same: of names whose first bytes differ, the second ones do not matter
+-- whether two names are the same, byte for byte
 abbrev pub sameName : Name → Name → Bool
 sameName n m = eqb (n .first) (m .first) && eqb (n .second) (m .second)
 
@@ -33,13 +33,13 @@ orderBy false true false false = later
 abbrev pub order : Name → Name → Order
 order n m = orderBy (ltb (n .first) (m .first)) (eqb (n .first) (m .first)) (ltb (n .second) (m .second)) (eqb (n .second) (m .second))
 
--- The name that some bytes are: none, one, or "7: .. a name argument longer than two bytes".
+-- The name that some bytes are. None is a missing argument; one that is too long earns 7 as an argument, and has its control line ignored.
 pub data Named : Type 0 where
   none : Named
   one : Name → Named
   tooLong : Named
 
--- "a name argument longer than two bytes" is none
+-- "a name argument longer than two bytes" and "names of no or more than two bytes" are told apart from a name
 abbrev pub nameOf : List ℕ → Named
 nameOf [] = none
 nameOf (a ∷ []) = one (oneByte a)

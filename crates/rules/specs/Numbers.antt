@@ -165,7 +165,7 @@ whole v [] = value v
 whole v (b ∷ l) = bad 6
 
 module _ (p : Pitch) (default : Scale) where
-  -- n is above the number of unread bytes; `left` parentheses may still be opened
+  -- n is above the number of unread bytes, so its case 0 is never met (Laws.Numbers, `evaluate-any`); `left` parentheses may still be opened
   unfoldable mutual
     unfolding digits firstWhere scaleOf
 

@@ -1,27 +1,11 @@
--- The pages of a document and its closing answer (document 01, 'How far a promise reaches'), and condition 3 over the rules. Assumes nothing.
-use mathlib.Core.Path.{_≡_}
-use mathlib.Core.List.{List, []}
-use Prim.Native.Nat.{ℕ, _<_, _≤_}
-use Rattle.stream.specs.Answers.{Closing, closes}
+-- The pages of a document and its closing answer (document 01, 'How far a promise reaches'). Assumes nothing.
+use mathlib.Core.List.{List}
+use Prim.Native.Nat.{ℕ}
 use Rattle.stream.specs.Machine.{Pages, pagesFrom}
-use Rattle.stream.specs.Condition3.{Call, Calls, Condition3}
-use Rattle.stream.specs.Laws.{always-ends as machine-ends, condition-3 as of-machine}
 use Rattle.rules.specs.Printers.{Printer}
 use Rattle.rules.specs.State.{start}
-use Rattle.rules.specs.Load.{Good, formatter}
-use Rattle.rules.specs.Falls.{falls}
+use Rattle.rules.specs.Load.{formatter}
 
 -- "These alone fix its pages ..: all that the rules here write for it as one source, up to its end or first refusal (2 to 12). They also fix its closing answer"
 unfoldable pub pages : Printer → (document : List ℕ) → Pages
 pages p d = pagesFrom (formatter p) (start p) d
-
-module _ (p : Printer) (first : 0 < p .page) (last : p .page ≤ 500) where
-  -- "A document is any bytes, none too": each has a closing answer
-  pub always-ends : (d : List ℕ) → (a : Closing) × (pages p d .answer ≡ closes a)
-  unfolding pages
-  always-ends d = machine-ends (formatter p) Good (falls p) (start p) (first, last) d
-
-  -- CONDITION 3 of the rules: for every document, and every list of calls on it from the start.
-  pub condition-3 : (d : List ℕ) (calls : List Call) → Calls (formatter p) [] (start p) d calls → Condition3 (pages p d) calls
-  unfolding pages
-  condition-3 d calls cs = of-machine (formatter p) Good (falls p) (first, last) cs

@@ -8,7 +8,7 @@ use lib.ListN.{length}
 use lib.IntN.{ℤ, pos, negsuc, _+ℤ_, _-ℤ_}
 use Rattle.rules.specs.Bytes.{byte, firstWhere, isThere, entryOf}
 use Rattle.rules.specs.declared.Name.{Name}
-use Rattle.rules.specs.Names.{oneByte, twoBytes, sameName, Order, earlier, same, later, order}
+use Rattle.rules.specs.Names.{oneByte, twoBytes, sameName, earlier, same, later, order}
 use Rattle.rules.specs.Refusals.{Judged, value, bad, judge, _>>=_}
 use Rattle.rules.specs.Numbers.{within}
 use Rattle.rules.specs.declared.Register.{Register}

@@ -1,6 +1,6 @@
 -- The requests (document 01, 'What is built'), which of them break, and which start the first page ('Rows, pages, traps').
 use mathlib.Core.Bool.{Bool, true, false, _||_}
-use mathlib.Core.Option.{Option, none, some}
+use mathlib.Core.Option.{Option}
 use mathlib.Core.List.{List, [], _∷_}
 use Prim.Native.Char.{Char}
 use Rattle.rules.specs.Bytes.{byte, firstWhere, entryOf}
@@ -10,7 +10,6 @@ use Rattle.rules.specs.declared.Mode.{Mode}
 use Rattle.rules.specs.declared.Mode.the-variants.{Plain, Copy}
 use Rattle.rules.specs.declared.Breaking.{Breaking}
 use Rattle.rules.specs.declared.Breaking.the-variants.{Br, Sp, Bp, Fi, Nf, Ce, In, Ti}
-use Rattle.rules.specs.declared.Unbreaking.{Unbreaking}
 use Rattle.rules.specs.declared.Unbreaking.the-variants.{Pl, Po, Ll, Ad, Na, Nr, De, Rm, Wh, If}
 use Rattle.rules.specs.declared.Request.{Request}
 use Rattle.rules.specs.declared.Request.the-variants.{Breaks, Keeps, Ds}
@@ -41,20 +40,16 @@ pub record Traits : Type 0 where
   -- where it starts the first page, its line is dealt with after the top macro: "A bp that starts the first page does no more"
   pub again : Bool
 
--- the traits in their order
-abbrev pub these : Bool → Bool → Bool → Traits
-these s t a = record { starts = s; acts = t; again = a }
-
 -- "br sp bp fi nf ce in ti break", each with its traits
 abbrev pub traits : Breaking → Traits
-traits Br = these false false true
-traits Sp = these true true true
-traits Bp = these true true false
-traits Fi = these false true true
-traits Nf = these false true true
-traits Ce = these false true true
-traits In = these false true true
-traits Ti = these false true true
+traits Br = record { starts = false; acts = false; again = true }
+traits Sp = record { starts = true; acts = true; again = true }
+traits Bp = record { starts = true; acts = true; again = false }
+traits Fi = record { starts = false; acts = true; again = true }
+traits Nf = record { starts = false; acts = true; again = true }
+traits Ce = record { starts = false; acts = true; again = true }
+traits In = record { starts = false; acts = true; again = true }
+traits Ti = record { starts = false; acts = true; again = true }
 
 -- "The first page starts at the first text line, break, sp or bp": a break is a breaking request called with a period
 abbrev pub startsPage : (period : Bool) → Breaking → Bool

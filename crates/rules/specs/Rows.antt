@@ -15,7 +15,8 @@ use Rattle.stream.specs.Machine.{Step, works}
 use Rattle.rules.specs.Settings.{Down}
 use Rattle.rules.specs.Filling.{Collected, brokenRow}
 use Rattle.rules.specs.Traps.{seenAt, nearestTrap, blankRows}
-use Rattle.rules.specs.State.{State, Item, reading, ejects, refuse, close, withStack, withPage, withCollected}
+use Rattle.rules.specs.State.{State, Item, reading, ejects, refuse, close}
+use Rattle.rules.specs.StateSetters.{withStack, withPage, withCollected}
 use Rattle.stream.specs.Answers.{done}
 
 -- what a piece of work leads to
@@ -139,7 +140,7 @@ ejectIf false p s = goes s
 unfoldable pub eject : (page : ℕ) → State → Next
 eject p s = ejectIf (eqb p (s .page .number)) p s
 
--- The end: "breaks, then ejects"; "at row 0 with nothing collected it writes nothing, and where no page has started it starts none"
+-- the end has begun: this page is the last one
 abbrev pub lastPage : State → State
 lastPage s = withPage (record { number = s .page .number; used = s .page .used; last = true }) s
 
@@ -147,7 +148,7 @@ lastPage s = withPage (record { number = s .page .number; used = s .page .used; 
 unfoldable pub ejectLast : State → Next
 ejectLast s = blank (rowsBelow s) [] s
 
--- the end, by what is collected and the rows used
+-- "The end breaks, then ejects"; "at row 0 with nothing collected it writes nothing, and where no page has started it starts none"
 abbrev pub endFrom : Option Collected → (used : Down) → State → Next
 endFrom (some c) r s = break c [] s
 endFrom none zero s = goes (close done s)

@@ -8,7 +8,8 @@ use lib.ListN.{length}
 use Rattle.rules.specs.Printers.{Printer}
 use Rattle.rules.specs.Bytes.{newline}
 use Rattle.stream.specs.Machine.{asks, closed}
-use Rattle.rules.specs.State.{State, Item, reading, fresh, again, others, acts, ejects, Input, Definition, refuse, withInput, withStack, withStored}
+use Rattle.rules.specs.State.{State, Item, reading, fresh, again, others, acts, ejects, Input, Definition, refuse}
+use Rattle.rules.specs.StateSetters.{withInput, withStack, withStored}
 use Rattle.stream.specs.Answers.{Closing}
 use Rattle.rules.specs.Rows.{Next, goes, refuses, eject, beginEnd, ejectLast}
 use Rattle.rules.specs.TextLines.{fill}

@@ -35,42 +35,6 @@ pub record Layout : Type 0 where
   -- the input lines that ce has still to centre
   pub centred : ℕ
 
--- a layout, field by field
-abbrev pub layout : Setting → Setting → Setting → Down → Option Across → Bool → Bool → ℕ → Layout
-layout l i o p t f a c = record { line = l; indent = i; offset = o; page = p; total = t; filling = f; adjusting = a; centred = c }
-
--- ll set anew
-abbrev pub withLine : Setting → Layout → Layout
-withLine v y = layout v (y .indent) (y .offset) (y .page) (y .total) (y .filling) (y .adjusting) (y .centred)
-
--- in set anew
-abbrev pub withIndent : Setting → Layout → Layout
-withIndent v y = layout (y .line) v (y .offset) (y .page) (y .total) (y .filling) (y .adjusting) (y .centred)
-
--- po set anew
-abbrev pub withOffset : Setting → Layout → Layout
-withOffset v y = layout (y .line) (y .indent) v (y .page) (y .total) (y .filling) (y .adjusting) (y .centred)
-
--- pl set anew
-abbrev pub withPageLength : Down → Layout → Layout
-withPageLength v y = layout (y .line) (y .indent) (y .offset) v (y .total) (y .filling) (y .adjusting) (y .centred)
-
--- the ti total set anew, or used up
-abbrev pub withTotal : Option Across → Layout → Layout
-withTotal v y = layout (y .line) (y .indent) (y .offset) (y .page) v (y .filling) (y .adjusting) (y .centred)
-
--- fi or nf
-abbrev pub withFilling : Bool → Layout → Layout
-withFilling v y = layout (y .line) (y .indent) (y .offset) (y .page) (y .total) v (y .adjusting) (y .centred)
-
--- ad or na
-abbrev pub withAdjusting : Bool → Layout → Layout
-withAdjusting v y = layout (y .line) (y .indent) (y .offset) (y .page) (y .total) (y .filling) v (y .centred)
-
--- another number of lines to centre
-abbrev pub withCentred : ℕ → Layout → Layout
-withCentred v y = layout (y .line) (y .indent) (y .offset) (y .page) (y .total) (y .filling) (y .adjusting) v
-
 -- a new value; and a bare ll, in or po, which is a setting too
 abbrev pub set : Across → Setting → Setting
 set n v = record { now = n; former = v .now }
@@ -79,13 +43,22 @@ set n v = record { now = n; former = v .now }
 abbrev pub goBack : Setting → Setting
 goBack v = set (v .former) v
 
--- "Start: ll 65, in 0, po 0, pl 66, filling and adjusting on"
+-- a setting that has not been changed yet
 abbrev pub steady : Across → Setting
 steady n = record { now = n; former = n }
 
 -- "Start: ll 65, in 0, po 0, pl 66, filling and adjusting on"
 abbrev pub startLayout : Printer → Layout
-startLayout p = layout (steady (p .line)) (steady 0) (steady 0) (p .page) none true true 0
+startLayout p = record {
+  line = steady (p .line);
+  indent = steady 0;
+  offset = steady 0;
+  page = p .page;
+  total = none;
+  filling = true;
+  adjusting = true;
+  centred = 0;
+}
 
 -- "a leading sign marks a change to the old value by the whole expression"
 abbrev pub changed : (signed : Bool) → ℕ → ℤ → ℤ

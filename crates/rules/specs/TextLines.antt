@@ -6,10 +6,12 @@ use Prim.Native.Nat.{ℕ, zero, suc, _-_}
 use lib.Dec.{leb}
 use lib.IntN.{pos}
 use Rattle.stream.specs.Machine.{works}
-use Rattle.rules.specs.Settings.{Layout, withCentred}
+use Rattle.rules.specs.Settings.{Layout}
+use Rattle.rules.specs.LayoutSetters.{withCentred}
 use Rattle.rules.specs.Filling.{Word, words, leads, standing, after, gapAfter, Collected, withNext, begin, begun, Placed, all, full, place, fullRow, standingRow}
 use Rattle.rules.specs.declared.Breaking.the-variants.{Sp}
-use Rattle.rules.specs.State.{State, Item, again, others, acts, text, withLayout, withCollected}
+use Rattle.rules.specs.State.{State, Item, again, others, acts, text}
+use Rattle.rules.specs.StateSetters.{withLayout, withCollected}
 use Rattle.rules.specs.Rows.{Next, goes, break, down, skip, startPage}
 
 -- What a line of words asks for: the first page is to start; it is empty; a collected line is written first; it is written as it stands, or filled.

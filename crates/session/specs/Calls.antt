@@ -16,9 +16,9 @@ use Rattle.stream.specs.Laws.{call-parts}
 use Rattle.rules.specs.Printers.{tenToTheInch}
 use Rattle.rules.specs.State.{State, start}
 use Rattle.rules.specs.Load.{Good, formatter}
-use Rattle.rules.specs.Falls.{falls}
+use Rattle.rules.specs.Laws.Falls.{falls}
 use Rattle.rules.specs.Pages.{pages}
-use Rattle.rules.specs.Pages as rules
+use Rattle.rules.specs.Laws.Pages as rules
 use Rattle.record.specs.declared.Record.{Record}
 use Rattle.record.specs.declared.Reply.{Reply}
 use Rattle.record.specs.declared.Closing.{Closing}

@@ -6,7 +6,7 @@ use measure::Rows;
 use number::scales::Down;
 ghost use mathlib.Core.Path.{_≡_};
 ghost use Rattle.measure.specs.Counts.{acrossOf};
-ghost use Rattle.rules.specs.Settings.{withTotal, withFilling, withAdjusting, withCentred};
+ghost use Rattle.rules.specs.LayoutSetters.{withTotal, withFilling, withAdjusting, withCentred};
 ghost use Rattle.rules.specs.Acts.{spacing as spacingOf};
 ghost use Rattle.rules.specs.Filling.{indentNow, begun as begunOf};
 ghost use Rattle.rules.specs.TextLines.{asItStands, counted as countedOf};

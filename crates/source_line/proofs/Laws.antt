@@ -13,7 +13,7 @@ use Rattle.source_line.specs.declared.Source.{Source}
 use Rattle.source_line.specs.declared.Reach.{Reach}
 use Rattle.source_line.specs.declared.Why.{Why}
 use Rattle.source_line.specs.declared.Why.the-variants.{More, Ended, Refused}
-use Rattle.source_line.specs.Gathering.{sourceIn, Takes, Reached, reached, lineBy, lineFrom, reachedBy, ReachedTo, begunLine, begunStored, begunSource, gatheredTo, lastLine, Gathers, GatheredTo, arePlain, isInside}
+use Rattle.source_line.specs.Gathering.{sourceIn, Takes, reached, lineBy, lineFrom, reachedBy, ReachedTo, begunLine, begunStored, begunSource, gatheredTo, lastLine, Gathers, GatheredTo, arePlain, isInside}
 use Rattle.source_line.specs.GatheringLaws.{line-far, line-some, line-takes, past-takes}
 
 -- the block is used up

@@ -1,19 +1,18 @@
 -- What a call does with the bytes that are gathered at once, and with those that are written at once. Assumes nothing.
-use mathlib.Core.Path.{_≡_, refl, sym, ap, _∙_, subst}
-use mathlib.Core.Bool.{Bool, false}
+use mathlib.Core.Path.{_≡_, sym, ap, _∙_, subst}
+use mathlib.Core.Bool.{Bool}
 use mathlib.Core.Option.{none}
 use mathlib.Core.List.{List, [], _∷_, _++_}
 use Prim.Native.Nat.{ℕ, zero, suc, _+_, _-_, _*_, _<_, _≤_}
 use native.Mathlib.Omega.{arith}
 use lib.ListN.{length, take, drop}
-use Rattle.stream.specs.Machine.{Machine, Outcome, stop, writing, taking, flush, asks, callFrom, Below}
-use Rattle.stream.specs.Answers.{needs-room}
+use Rattle.stream.specs.Machine.{Machine, Outcome, writing, taking, asks, callFrom, Below}
 use Rattle.stream.specs.Laws.{call-takes}
 use Rattle.rules.specs.Printers.{Printer}
 use Rattle.rules.specs.State.{State}
 use Rattle.rules.specs.Session.{takeByte, readEnd, step, stepFrom, idle}
 use Rattle.rules.specs.Load.{Good, load, byteLoad, formatter}
-use Rattle.rules.specs.Falls.{falls}
+use Rattle.rules.specs.Laws.Falls.{falls}
 use Rattle.source_line.specs.Gathering.{Asks, Takes}
 
 -- these bytes taken and those written, and then the outcome

@@ -6,7 +6,8 @@ use mathlib.Core.List.{List, [], _∷_, _++_}
 use Prim.Native.Nat.{ℕ, zero, suc, _+_, _<_, _≤_}
 use lib.Dec.{leb, eqb}
 use lib.ListN.{length, take, drop}
-use Rattle.rules.specs.State.{State, Item, fresh, refuse, input, withInput}
+use Rattle.rules.specs.State.{State, Item, fresh, refuse}
+use Rattle.rules.specs.StateSetters.{input, withInput}
 use Rattle.rules.specs.Session.{takeByte}
 use Rattle.source_line.specs.declared.Source.{Source}
 use Rattle.source_line.specs.declared.Gathered.{Gathered}

@@ -3,7 +3,7 @@ use mathlib.Core.Path.{_≡_, refl, sym, ap, _∙_, subst}
 use mathlib.Core.Bool.{Bool, true, false, _&&_}
 use mathlib.Core.Option.{none}
 use mathlib.Core.List.{List, [], _∷_, _++_, append-assoc, append-nil}
-use Prim.Native.Nat.{ℕ, zero, suc, _+_, _-_, _<_, _≤_}
+use Prim.Native.Nat.{ℕ, suc, _+_, _-_, _<_, _≤_}
 use native.Mathlib.Omega.{arith}
 use lib.Dec.{leb, eqb}
 use lib.ListN.{length, take, length-append}
@@ -11,8 +11,7 @@ use lib.Seq.{take-nil}
 use borrow.Author.Tests.{eqb-true, eqb-false, leb-true, leb-false}
 use Rattle.rules.specs.State.{State, fresh, refuse}
 use Rattle.rules.specs.Session.{takeByte, withBegun, gather}
-use Rattle.rules.specs.SessionLaws.{begun-later, take-past, take-newline, take-long, take-bad, take-keeps}
-use Rattle.source_line.specs.declared.Why.{Why}
+use Rattle.rules.specs.Laws.Session.{begun-later, take-past, take-newline, take-long, take-bad, take-keeps}
 use Rattle.source_line.specs.declared.Why.the-variants.{More, Ended, Refused}
 use Rattle.source_line.specs.Gathering.{sourceIn, Asks, Takes, begunLine, begunStored, Reached, reached, lineBy, lineFrom, gatheredTo, arePlain, isInside}
 

@@ -14,7 +14,8 @@ use Rattle.rules.specs.Settings as settings
 use Rattle.rules.specs.Traps as traps
 use Rattle.rules.specs.Registers.{Seen}
 use Rattle.rules.specs.Escapes.{Surroundings}
-use Rattle.rules.specs.State.{State, Definition, input, tables, seen}
+use Rattle.rules.specs.State.{State, Definition, seen}
+use Rattle.rules.specs.StateSetters.{input, tables}
 use Rattle.rules.specs.Rows.{Next}
 use Rattle.registers.specs.Table.Columns.{tableOf, Table}
 use Rattle.texts.specs.Table.Table.{textsOf, Lies}

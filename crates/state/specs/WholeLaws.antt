@@ -10,7 +10,8 @@ use Rattle.stream.specs.Machine.{works}
 use Rattle.rules.specs.Refusals.{Judged}
 use Rattle.rules.specs.declared.Name.{Name}
 use Rattle.rules.specs.Texts.{Text}
-use Rattle.rules.specs.State.{State, input, tables}
+use Rattle.rules.specs.State.{State}
+use Rattle.rules.specs.StateSetters.{input, tables}
 use Rattle.rules.specs.Rows.{Next, goes}
 use Rattle.rules.specs.Acts.{settles, onName, openText}
 use Rattle.texts.specs.Table.Table.{textsOf, Lies}

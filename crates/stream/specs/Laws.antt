@@ -1,5 +1,5 @@
 -- What holds of every machine whose work falls: its calls step by step, that every document comes to a closing answer, and condition 3.
-use mathlib.Core.Path.{_≡_, refl, sym, ap, ap₂, _∙_, subst, fun-ext}
+use mathlib.Core.Path.{_≡_, refl, sym, ap, _∙_, subst, fun-ext}
 use mathlib.Core.Bool.{Bool, true, false}
 use mathlib.Core.List.{List, [], _∷_, _++_, append-assoc, append-nil}
 use mathlib.Core.Logic.{_⊎_, inl, inr}
@@ -8,7 +8,7 @@ use native.Mathlib.Omega.{arith}
 use lib.ListN.{length, length-append}
 use Rattle.stream.specs.Answers.{Closing, Reply, needs-input, needs-room, closes}
 use Rattle.stream.specs.Machine.{Step, works, asks, closed, Machine, Pages, before, Outcome, stop, writing, taking, flush, pagesBy, callBy, fuel, pagesFrom, callFrom, Below, Falls}
-use Rattle.stream.specs.Condition3.{Call, joined, Split, here, there, Condition3, Calls, none, more}
+use Rattle.stream.specs.Condition3.{Call, joined, Split, here, there, Condition3, Calls, more}
 
 module _ {S : Type 0} (m : Machine S) (Good : S → Type 0) (falls : Falls m Good) where
   -- the pages and the call do not depend on the fuel, if that is enough

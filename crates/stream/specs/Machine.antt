@@ -52,7 +52,7 @@ module _ {S : Type 0} where
   flush full go (b ∷ ws) (suc r) = writing b (flush full go ws r)
 
   module _ (m : Machine S) where
-    -- the pages of the document d from a step on; n is the fuel
+    -- the pages of the document d from a step on; n is the fuel, which is never used up (Laws, `always-ends`)
     abbrev pub pagesBy : (n : ℕ) → Step S → (d : List ℕ) → Pages
     pagesBy zero x d = record { bytes = []; answer = needs-input }
     pagesBy (suc n) (works w s) d = before w (pagesBy n (m .step s) d)
@@ -61,7 +61,7 @@ module _ {S : Type 0} where
     pagesBy (suc n) (closed a) d = record { bytes = []; answer = closes a }
 
     -- a call on a block with room r, from a state s whose step is x, while no text waits: "deal with the top of the input stack; else take one byte; else, if
-    -- marked last, read the end; else stop with "needs input""
+    -- marked last, read the end; else stop with "needs input"". Its fuel is never used up (Laws, `call-works`, `call-takes` and `call-ends`)
     abbrev pub callBy : (n : ℕ) → S → Step S → (block : List ℕ) → (last : Bool) → (room : ℕ) → Outcome S
     callBy zero s x bl last r = stop s bl [] needs-input
     callBy (suc n) s (works w s') bl last r = flush (λ ws. stop s' bl ws needs-room) (λ r'. callBy n s' (m .step s') bl last r') w r

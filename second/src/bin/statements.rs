@@ -26,7 +26,7 @@ use Rattle.rules.specs.Bytes.{bytes}
 use Rattle.rules.specs.Printers.{tenToTheInch}
 use Rattle.rules.specs.State.{State, start}
 use Rattle.rules.specs.Load.{formatter}
-use Rattle.rules.specs.Whole.{pagesHere}
+use Rattle.rules.specs.Laws.Whole.{pagesHere}
 use Rattle.stream.specs.Answers.{Closing, done, refused, Reply, needs-input, needs-room, closes}
 use Rattle.stream.specs.Machine.{callFrom}
 

@@ -16,7 +16,8 @@ use Rattle.rules.specs.Settings as rule
 use Rattle.rules.specs.Filling.{Word, word, words, printed, Placed, all, full, place, begin, begun, withNext, indentNow, roomNow, fullRow, leads, standing, after, gapAfter, standingRow}
 use Rattle.rules.specs.Filling as filling
 use Rattle.rules.specs.Texts.{Text}
-use Rattle.rules.specs.State.{State, Item, others, acts, again, text, withLayout, withCollected}
+use Rattle.rules.specs.State.{State, Item, others, acts, again, text}
+use Rattle.rules.specs.StateSetters.{withLayout, withCollected}
 use Rattle.rules.specs.Rows.{down, goes, break, skip, startPage}
 use Rattle.rules.specs.declared.Breaking.the-variants.{Sp}
 use Rattle.rules.specs.declared.Trap.{Trap}

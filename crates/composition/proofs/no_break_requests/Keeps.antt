@@ -14,8 +14,9 @@ use Rattle.rules.specs.Bytes.{byte}
 use Rattle.rules.specs.Printers as printers
 use Rattle.rules.specs.Refusals.{Judged, value, _>>=_}
 use Rattle.rules.specs.Texts.{Text}
-use Rattle.rules.specs.Arguments.{Part, condition}
-use Rattle.rules.specs.State.{State, Item, again, withStack, withLayout}
+use Rattle.rules.specs.Arguments.{Part}
+use Rattle.rules.specs.State.{State, Item, again}
+use Rattle.rules.specs.StateSetters.{withStack, withLayout}
 use Rattle.rules.specs.Settings as rule
 use Rattle.rules.specs.Rows.{Next, goes}
 use Rattle.rules.specs.Lines.{lineOf, simplyHolds, holdsIf, holds}

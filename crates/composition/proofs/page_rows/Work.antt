@@ -17,7 +17,7 @@ use Rattle.rules.specs.Texts.{Text}
 use Rattle.rules.specs.State.{State, Item, ejects}
 use Rattle.rules.specs.Rows.{Next, goes, heldIf, down, break, fewer, blank, skip, ejectIf, eject, ejectLast, endFrom, beginEnd}
 use Rattle.rules.specs.Traps as rules
-use Rattle.rules.specs.TrapLaws.{nearest-most}
+use Rattle.rules.specs.Laws.Traps.{nearest-most}
 use Rattle.texts.specs.Table.Table.{textsOf}
 use Rattle.traps.specs.declared.table.Planted.{Planted}
 use Rattle.traps.specs.Table.Table.{plantedOf}

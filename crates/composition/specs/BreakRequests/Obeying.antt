@@ -40,7 +40,7 @@ startsFirst p q r = eqb p 0 && startsPage q r
 abbrev pub obeyed : Printer → (period : Bool) → Breaking → Name → List ℕ → State → Next
 obeyed p q r n l s = startOrBreak p (startsFirst (s .page .number) q r) q r n l s
 
--- That is the rules' one, after an if or not.
+-- Sanity: that is the rules' one, after an if or not.
 pub obey-is : (p : Printer) (afterIf q : Bool) (r : Breaking) (n : Name) (l : List ℕ) (s : State) → obeyed p q r n l s ≡ obey p (requests (Breaks r)) afterIf q n l s
 obey-is p i q r n l s = refl
 

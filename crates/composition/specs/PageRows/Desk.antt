@@ -10,7 +10,8 @@ use Rattle.stream.specs.Machine.{works}
 use Rattle.rules.specs.declared.Trap.{Trap}
 use Rattle.rules.specs.Filling as rule
 use Rattle.rules.specs.Texts.{Text}
-use Rattle.rules.specs.State.{State, input, tables}
+use Rattle.rules.specs.State.{State}
+use Rattle.rules.specs.StateSetters.{input, tables}
 use Rattle.rules.specs.Rows.{Next}
 use Rattle.texts.specs.Table.Table.{textsOf, Names, Lies}
 use Rattle.traps.specs.declared.table.Planted.{Planted}

@@ -10,7 +10,7 @@ use borrow.Author.Tests.{le-leb, lt-leb}
 use Rattle.rules.specs.Bytes.{space}
 use Rattle.rules.specs.Filling.{Word, word, words, after, width, printed, gapCells, joinByte}
 use Rattle.rules.specs.Filling as rules
-use Rattle.rules.specs.FillingLaws.{place-fits, place-stops, printed-length, gapCells-length}
+use Rattle.rules.specs.Laws.Filling.{place-fits, place-stops, printed-length, gapCells-length}
 use Rattle.fill.specs.Words.Parts.{part, Places}
 use Rattle.fill.specs.Words.Words.{spaces, run, WordEndIs}
 use Rattle.fill.specs.Collected.Writing.{Written}

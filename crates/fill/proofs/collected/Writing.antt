@@ -12,7 +12,7 @@ use lib.Seq.{sets, sets-eq, take-at, drop-at, length-take-le}
 use borrow.Author.Tests.{eq-eqb, ne-eqb}
 use Rattle.rules.specs.Bytes.{space, mark, fixedBlank}
 use Rattle.rules.specs.Filling.{printed, printedByte, width, countIf, gapCells}
-use Rattle.rules.specs.FillingLaws.{printed-append}
+use Rattle.rules.specs.Laws.Filling.{printed-append}
 use Rattle.fill.specs.Words.Parts.{part}
 use Rattle.fill.specs.Collected.Writing.{shownIf, Written}
 use Rattle.fill.proofs.words.Parts.{part-none, part-cons, part-length}

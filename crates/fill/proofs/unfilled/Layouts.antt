@@ -3,18 +3,13 @@ use mathlib.Core.Path.{_≡_, ap}
 use mathlib.Core.List.{List}
 use Prim.Native.Nat.{ℕ, _+_, _-_}
 use lib.Dec.{ltb}
-use lib.ListN.{take}
 use Rattle.rules.specs.Settings.{Layout}
-use Rattle.rules.specs.Filling.{Word, level, adjusted, row, printed, spelled, span, indentNow, roomNow, brokenRow, fullRow, standingRow}
+use Rattle.rules.specs.Filling.{Word, adjusted, row, printed, spelled, span, indentNow, roomNow, fullRow, standingRow}
 use Rattle.fill.specs.Collected.Filled.{lineOf}
 use Rattle.fill.specs.Unfilled.Lines.{standingOf}
 use Rattle.fill.proofs.unfilled.Rows.{adjusted-same, left-count}
 
 module _ (y : Layout) (cells : List ℕ) (count indent room next : ℕ) where
-  -- a collected line that a break writes
-  pub broken-is : row (y .offset .now + indent) (level (take count cells)) ≡ brokenRow y (lineOf indent room cells count next)
-  broken-is = λ i. row (y .offset .now + indent) (level (take count cells))
-
   -- a collected line that is written for overflow
   pub full-is : row (y .offset .now + indent) (adjusted (y .adjusting) (lineOf indent room cells count 1)) ≡ fullRow y (lineOf indent room cells count next)
   full-is = ap (row (y .offset .now + indent)) (adjusted-same (y .adjusting) indent indent room cells count 1 next)

@@ -11,8 +11,8 @@ use lib.Seq.{sets, length-sets, length-take-le}
 use borrow.Author.Tests.{eqb-true, lt-ltb}
 use Rattle.rules.specs.Bytes.{newline, space, mark, fixedBlank}
 use Rattle.rules.specs.Filling.{words, gaps, spread, adjusted, trimmed, printed, printedByte, spelled, span, width, countIf, row, left}
-use Rattle.rules.specs.FillingLaws.{trimmed-blank, trimmed-spaces, trimmed-ends, trimmed-short, printed-append, printed-length, spelled-width, level-length, share-length, adjusted-alone}
-use Rattle.rules.specs.LineLaws.{spelled-words}
+use Rattle.rules.specs.Laws.Filling.{trimmed-blank, trimmed-spaces, trimmed-ends, trimmed-short, printed-append, printed-length, spelled-width, level-length, share-length, adjusted-alone}
+use Rattle.rules.specs.Laws.Lines.{spelled-words}
 use Rattle.fill.specs.Words.Parts.{part}
 use Rattle.fill.specs.Collected.Writing.{Written}
 use Rattle.fill.specs.Collected.Filled.{lineOf}

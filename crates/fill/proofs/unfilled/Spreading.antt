@@ -11,7 +11,7 @@ use lib.Seq.{sets, length-take-le}
 use borrow.Author.Tests.{eq-eqb, ne-eqb, eqb-true}
 use Rattle.rules.specs.Bytes.{space, gapStart}
 use Rattle.rules.specs.Filling.{gaps, countGap, spread, spreadCell, fewAfter, moreIf, share, adjusted, trimmed}
-use Rattle.rules.specs.FillingLaws.{trimmed-spaces, trimmed-ends}
+use Rattle.rules.specs.Laws.Filling.{spread-none, trimmed-spaces, trimmed-ends}
 use Rattle.fill.specs.Words.Parts.{part}
 use Rattle.fill.specs.Collected.Writing.{Written}
 use Rattle.fill.specs.Collected.Filled.{lineOf}
@@ -46,7 +46,7 @@ module _ (cells : List ℕ) (count room : ℕ) (h : count ≤ length cells) wher
   share-none e =
       let z = part-zero cells count in
       let g : gaps (take count cells) ≡ 0 = ap gaps (sym z) ∙ e in
-      ap (spread 0 0) z ∙ sym (ap (λ (k : ℕ). share (room - length (take count cells)) k (take count cells)) g)
+      spread-none 0 0 (part cells 0 count) e ∙ z ∙ sym (ap (λ (k : ℕ). share (room - length (take count cells)) k (take count cells)) g)
 
   pub share-some : (k e : ℕ) → k ≡ gaps (part cells 0 count) → e ≡ room - count → 0 < k → spread (e / k) (k - e % k) (part cells 0 count) ≡ adjusted true (lineOf 0 room cells count 1)
   share-some k e f g p =

@@ -7,8 +7,8 @@ use lib.ListN.{length, getD, replicate}
 use borrow.Author.Tests.{ne-eqb}
 use Rattle.rules.specs.Bytes.{space}
 use Rattle.rules.specs.Filling.{Word, words, trimmed, spelled, gapAfter, gapIf, isStop, lastByte}
-use Rattle.rules.specs.FillingLaws.{trimmed-spaces, trimmed-ends}
-use Rattle.rules.specs.LineLaws.{Solid, Formed, words-formed, spelled-words}
+use Rattle.rules.specs.Laws.Filling.{trimmed-spaces, trimmed-ends}
+use Rattle.rules.specs.Laws.Lines.{Solid, Formed, words-formed, spelled-words}
 use Rattle.fill.specs.Words.Parts.{part}
 use Rattle.fill.proofs.words.Parts.{part-none, part-snoc}
 

@@ -9,7 +9,7 @@ use lib.ListN.{length, getD, take, drop, replicate, take-append-drop, length-dro
 use borrow.Author.Tests.{eq-eqb, ne-eqb, eqb-true, eqb-false, ltb-true, ltb-false, le-leb, lt-leb}
 use Rattle.rules.specs.Bytes.{space, mark}
 use Rattle.rules.specs.Filling.{word, words, width, countIf, leads}
-use Rattle.rules.specs.LineLaws.{Without, Begins, words-gap, words-blank}
+use Rattle.rules.specs.Laws.Lines.{Without, Begins, words-gap, words-blank}
 use Rattle.fill.specs.Words.Parts.{part}
 use Rattle.fill.specs.Words.Words.{sucIf, sucUnless, spaces, run, isNone}
 use Rattle.fill.proofs.words.Parts.{part-none, part-cons, part-length, part-drop, part-take}

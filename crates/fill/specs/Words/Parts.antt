@@ -1,18 +1,12 @@
 -- Parts of a line that is lent in an array of 512 bytes. Assumes nothing.
-use mathlib.Core.Path.{_≡_, sym, ap}
+use mathlib.Core.Path.{_≡_}
 use mathlib.Core.List.{List}
 use Prim.Native.Nat.{ℕ, _-_, _≤_}
 use lib.ListN.{length, take, drop}
-use native.Mathlib.Omega.{arith}
 
 -- the bytes from a place up to another
 unfoldable pub part : List ℕ → (at to : ℕ) → List ℕ
 part l at to = take (to - at) (drop at l)
-
--- that from the first place on is the front
-pub part-front : (l : List ℕ) (n : ℕ) → part l 0 n ≡ take n l
-unfolding part
-part-front l n = let e : n ≡ n - 0 = omega arith in sym (ap (λ (k : ℕ). take k l) e)
 
 -- a line of 512 bytes, and two places of it
 pub record Places (line : List ℕ) (at to : ℕ) : Type 0 where

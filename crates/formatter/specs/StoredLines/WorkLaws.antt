@@ -15,8 +15,9 @@ use Rattle.rules.specs.declared.Name.{Name}
 use Rattle.rules.specs.Bytes.{isThere}
 use Rattle.rules.specs.Printers.{Printer}
 use Rattle.rules.specs.Texts.{Text, textOf}
-use Rattle.rules.specs.State.{State, Item, reading, withStored}
-use Rattle.rules.specs.State as state
+use Rattle.rules.specs.State.{State, Item, reading}
+use Rattle.rules.specs.StateSetters.{withStored}
+use Rattle.rules.specs.StateSetters as setters
 use Rattle.rules.specs.Rows.{Next}
 use Rattle.rules.specs.Rows as rows
 use Rattle.rules.specs.ControlLines.{deal, dealAgain}
@@ -86,7 +87,8 @@ sound-valued q vs' s t = record { sheet = s .sheet; lies = s .lies; store = s .s
 pub shows : (q : Whole) → SoundWhole q → Shows (layoutOf (q .desk .layout)) (pageOf (q .desk .page))
 shows q s = record { limits = s .sheet .limits; used = omega (arith, s .sheet .above, s .sheet .limits .page-most); number = s .sheet .numbered }
 
-pub sound-framed : (q : Whole) (k : Stack) (ends : List ℕ) → SoundWhole q → Columns k (q .desk .arena) ends → Good (textsIn (q .texts)) (framesOf k (q .desk .arena) ends) → SoundWhole (framed k ends q)
+-- another stack in its arrays is sound if its columns and items are
+sound-framed : (q : Whole) (k : Stack) (ends : List ℕ) → SoundWhole q → Columns k (q .desk .arena) ends → Good (textsIn (q .texts)) (framesOf k (q .desk .arena) ends) → SoundWhole (framed k ends q)
 sound-framed q k ps s c g = record {
   sheet = record { limits = s .sheet .limits; above = s .sheet .above; numbered = s .sheet .numbered; few = s .sheet .few; line = s .sheet .line; indent = s .sheet .indent; next = s .sheet .next; columns = c };
   lies = s .lies;
@@ -140,7 +142,7 @@ same-stored x n e = ap (λ (k : ℕ). withStored k x) (sym e)
 
 module _ (p : Printer) (q : Whole) (x : State) (c : x .closing ≡ none) where
   -- a step on the item on top
-  top-step : (i : Item) (k : List Item) → stackOf (textsIn (q .texts)) (q .desk .stack) (q .desk .arena) (q .desk .ends) ≡ i ∷ k → step p (stateIn q x) ≡ work p i (state.withStack k (stateIn q x))
+  top-step : (i : Item) (k : List Item) → stackOf (textsIn (q .texts)) (q .desk .stack) (q .desk .arena) (q .desk .ends) ≡ i ∷ k → step p (stateIn q x) ≡ work p i (setters.withStack k (stateIn q x))
   unfolding step
   top-step i k e = ap (λ (o : Option Closing). stepFrom p o (stackOf (textsIn (q .texts)) (q .desk .stack) (q .desk .arena) (q .desk .ends)) (stateIn q x)) c ∙ ap (λ (l : List Item). stepFrom p none l (stateIn q x)) e
 
@@ -186,9 +188,9 @@ module _ (p : Printer) (q : Whole) (stored : ℕ) (few : stored ≤ 10000) (w : 
     beneath = stackOf (textsIn (q .texts)) (below (q .desk .stack)) (q .desk .arena) (q .desk .ends)
 
     text-step : (x : State) → x .closing ≡ none → (ls : List (List ℕ)) → unread (textOf n (textsIn (q .texts))) k ≡ ls
-        → work p (reading n ls args) (state.withStack beneath (stateIn q x)) ≡ step p (stateIn q x)
+        → work p (reading n ls args) (setters.withStack beneath (stateIn q x)) ≡ step p (stateIn q x)
     text-step x c ls e =
-        sym (ap (λ (v : List (List ℕ)). work p (reading n v args) (state.withStack beneath (stateIn q x))) e)
+        sym (ap (λ (v : List (List ℕ)). work p (reading n v args) (setters.withStack beneath (stateIn q x))) e)
         ∙ sym (top-step p q x c (reading n (unread (textOf n (textsIn (q .texts))) k) args) beneath
         (top-item (textsIn (q .texts)) (q .desk .stack) (q .desk .arena) (q .desk .ends) (what.Reading n k count) deep top))
 
@@ -206,7 +208,7 @@ module _ (p : Printer) (q : Whole) (stored : ℕ) (few : stored ≤ 10000) (w : 
 
       line-step : (x : State) → x .closing ≡ none → readLine p (ltb (x .input .stored) 10000) args line (stateIn q₁ x) ≡ step p (stateIn q x)
       line-step x c =
-          ap (λ (v : List Item). readLine p (ltb (x .input .stored) 10000) args line (state.withStack v (stateIn q x)))
+          ap (λ (v : List Item). readLine p (ltb (x .input .stored) 10000) args line (setters.withStack v (stateIn q x)))
           (placed-item (q .desk .stack) place (q .desk .arena) (q .desk .ends) (sound .sheet .columns) deep (textsIn (q .texts)) n k count top)
           ∙ text-step x c (line ∷ unread (textOf n (textsIn (q .texts))) place) e
 

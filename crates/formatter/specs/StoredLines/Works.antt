@@ -12,7 +12,8 @@ use Rattle.rules.specs.declared.Kind.the-variants.{String}
 use Rattle.rules.specs.Printers as printers
 use Rattle.rules.specs.Texts.{Text}
 use Rattle.rules.specs.Filling.{words}
-use Rattle.rules.specs.State.{State, withStored}
+use Rattle.rules.specs.State.{State}
+use Rattle.rules.specs.StateSetters.{withStored}
 use Rattle.rules.specs.Rows.{Next, goes, eject}
 use Rattle.rules.specs.TextLines.{textLine, fill}
 use Rattle.rules.specs.Acts.{act}

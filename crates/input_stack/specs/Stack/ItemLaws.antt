@@ -12,9 +12,9 @@ use Rattle.rules.specs.declared.Kind.{Kind}
 use Rattle.rules.specs.declared.Kind.the-variants.{Macro, String}
 use Rattle.rules.specs.Bytes.{firstWhere}
 use Rattle.rules.specs.Names.{sameName}
-use Rattle.rules.specs.NameLaws.{same-swap}
+use Rattle.rules.specs.Laws.Names.{same-swap}
 use Rattle.rules.specs.Texts.{Text, textOf}
-use Rattle.rules.specs.TextLaws.{found-first, found-later}
+use Rattle.rules.specs.Laws.Texts.{found-first, found-later}
 use Rattle.rules.specs.Rows.{lines, linesOf}
 use Rattle.rules.specs.State.{reading, isReading, onStack}
 use Rattle.texts.specs.Lines.Lines.{firstLine, lines-first}
@@ -23,7 +23,7 @@ use Rattle.input_stack.specs.declared.frames.What.{What}
 use Rattle.input_stack.specs.declared.frames.What.the-variants as what
 use Rattle.input_stack.specs.declared.stack.Entry.{Entry}
 use Rattle.input_stack.specs.declared.stack.Stack.{Stack}
-use Rattle.input_stack.specs.Stack.Frames.{Frame, frame, noFrames, entryAt, frameAt, framesTo, framesOf, topFrame, topEntry, topBytes, topEnds, Columns, Topped, PushedTo, below, moved, movedEntry, placedIn, placedAt, isCalled, calledTo}
+use Rattle.input_stack.specs.Stack.Frames.{Frame, frame, entryAt, frameAt, framesTo, framesOf, topFrame, topEntry, topBytes, topEnds, Columns, Topped, PushedTo, below, moved, movedEntry, placedIn, placedAt, isCalled, calledTo}
 use Rattle.input_stack.specs.Stack.FrameLaws.{frames-kept, placed-entry, placed-size, placed-before, placed-behind, placed-length}
 use Rattle.input_stack.specs.Stack.Items.{unreadBy, unread, itemBy, itemOf, itemsOf, stackOf, GoodBy, Good, Stacked}
 
@@ -92,11 +92,6 @@ pub below-stacked : (ts : List Text) (s : Stack) (arena ends : List ℕ) → Sta
 below-stacked ts s bs ps k =
     record { columns = below-columns s bs ps (k .columns); good = good-down ts bs ps (s .depth) (k .good) }
 
--- A stack with nothing on it is one, over any texts.
-pub empty-stacked : (ts : List Text) (arena ends : List ℕ) → length arena ≡ 8704 → length ends ≡ 221 → Stacked ts noFrames arena ends
-unfolding framesTo
-empty-stacked ts bs ps a b = record { columns = record { few = omega arith; long = a; ends-long = b; sizes = λ i h. absurd (omega arith) }; good = tt }
-
 -- a frame is pushed
 module _ (ts : List Text) (s : Stack) (bs ps : List ℕ) (w : What) (l g : List ℕ) (r : Stack) (bs' ps' : List ℕ) (p : PushedTo s bs ps w l g r bs' ps') where
   -- It is one item more.
@@ -107,10 +102,6 @@ module _ (ts : List Text) (s : Stack) (bs ps : List ℕ) (w : What) (l g : List 
   -- A good frame leaves all good.
   pub pushed-good : GoodBy ts w l g → Good ts (framesOf s bs ps) → Good ts (framesOf r bs' ps')
   pushed-good a b = subst (Good ts) (sym (p .frames)) (a, b)
-
-  -- With it there is a stack.
-  pub pushed-stacked : GoodBy ts w l g → Stacked ts s bs ps → Stacked ts r bs' ps'
-  pushed-stacked a k = record { columns = p .columns; good = pushed-good a (k .good) }
 
 -- a frame that is read up to another place
 abbrev pub movedFrame : (place : ℕ) → Frame → Frame
@@ -262,11 +253,6 @@ pub good-kept : (ts ts' : List Text) (m : Name) (fs : List Frame) → onStack m 
     → ((k : Name) → sameName k m ≡ false → textOf k ts' ≡ textOf k ts) → Good ts fs → Good ts' fs
 good-kept ts ts' m fs h kept g = all-good ts ts' m kept fs h g
 
--- It is a stack over the other texts.
-pub stacked-kept : (ts ts' : List Text) (m : Name) (s : Stack) (arena ends : List ℕ) → onStack m (stackOf ts s arena ends) ≡ false
-    → ((k : Name) → sameName k m ≡ false → textOf k ts' ≡ textOf k ts) → Stacked ts s arena ends → Stacked ts' s arena ends
-stacked-kept ts ts' m s bs ps h kept k = record { columns = k .columns; good = good-kept ts ts' m (framesOf s bs ps) h kept (k .good) }
-
 -- A text that is found is found where others stand behind it.
 pub found-before : (n : Name) (a b : List Text) (t : Text) → textOf n a ≡ some t → textOf n (a ++ b) ≡ some t
 unfolding textOf firstWhere
@@ -309,10 +295,6 @@ module _ (ts : List Text) (t : Text) where
   pub good-appended : (fs : List Frame) → Good ts fs → Good (ts ++ t ∷ []) fs
   good-appended [] g = g
   good-appended (f ∷ fs) g = (frame-appended (f .entry .what) (f .bytes) (f .ends) (g .0), good-appended fs (g .1))
-
-  -- It is a stack over them all.
-  pub stacked-appended : (s : Stack) (arena ends : List ℕ) → Stacked ts s arena ends → Stacked (ts ++ t ∷ []) s arena ends
-  stacked-appended s bs ps k = record { columns = k .columns; good = good-appended (framesOf s bs ps) (k .good) }
 
 -- A text that is called has all its lines unread.
 pub unread-all : (k : Kind) (l : List ℕ) → unreadBy k l 0 ≡ linesOf k l

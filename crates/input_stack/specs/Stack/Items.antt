@@ -11,7 +11,7 @@ use Rattle.rules.specs.Texts.{Text, textOf}
 use Rattle.rules.specs.Rows.{lines}
 use Rattle.rules.specs.Filling.{words}
 use Rattle.rules.specs.State.{Item, reading, again, others, acts, ejects, text, control, ignored}
-use Rattle.rules.specs.TableLaws.{Each}
+use Rattle.rules.specs.Laws.Tables.{Each}
 use Rattle.scan.specs.Arguments.Around.{argumentsOf, Arguments}
 use Rattle.input_stack.specs.declared.frames.What.{What}
 use Rattle.input_stack.specs.declared.frames.What.the-variants as what

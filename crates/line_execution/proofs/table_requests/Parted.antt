@@ -9,7 +9,8 @@ use Rattle.rules.specs.Refusals.{Judged}
 use Rattle.state.specs.declared.Opening.{Opening}
 use Rattle.state.specs.declared.Opened.{Opened}
 use Rattle.state.specs.WholeLaws.{OpeningIs}
-use Rattle.rules.specs.State.{State, withRegisters, withTraps}
+use Rattle.rules.specs.State.{State}
+use Rattle.rules.specs.StateSetters.{withRegisters, withTraps}
 use Rattle.rules.specs.Acts.{argument, perform, plantTrap}
 use Rattle.rules.specs.declared.Unbreaking.the-variants.{Nr, Wh, Rm, De}
 use Rattle.registers.specs.Table.Columns.{tableOf}

@@ -1,7 +1,6 @@
 -- What the answer of a request that changes a table makes of a status, and which table that is. Assumes nothing.
 use Rattle.rules.specs.declared.Unbreaking.{Unbreaking}
 use Rattle.rules.specs.declared.Unbreaking.the-variants.{Pl, Po, Ll, Ad, Na, Nr, De, Rm, Wh, If}
-use Rattle.page.specs.declared.springs.Way.{Way}
 use Rattle.page.specs.declared.springs.Way.the-variants.{On, Refused}
 use Rattle.requests.specs.declared.nr.Assigned.{Assigned}
 use Rattle.requests.specs.declared.nr.Assigned.the-variants as assigned

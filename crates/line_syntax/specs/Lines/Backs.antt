@@ -1,12 +1,11 @@
 -- Bytes written back with their escapes, behind those written before. Assumes nothing.
-use mathlib.Core.Path.{_≡_, refl, sym, ap, _∙_}
+use mathlib.Core.Path.{_≡_, refl, _∙_}
 use mathlib.Core.Bool.{Bool, true, false}
 use mathlib.Core.List.{List, [], _∷_, _++_}
 use Prim.Native.Nat.{ℕ, _+_, _*_, _≤_}
 use native.Mathlib.Omega.{arith}
 use lib.Dec.{eqb}
 use lib.ListN.{length, take, length-append}
-use lib.Seq.{length-take-le}
 use Rattle.rules.specs.Bytes.{bytes, backslash, mark, fixedBlank, firstWhere, entry}
 use Rattle.rules.specs.Escapes.{escaped}
 
@@ -34,10 +33,6 @@ pub record WrittenBack (bytes : List ℕ) (r : ℕ) (out' : List ℕ) : Type 0 w
   pub is : take r out' ≡ escaped bytes
   pub fits : r ≤ 1024
   pub long : length out' ≡ 1024
-
--- As many bytes are written as the text has with its escapes.
-pub back-length : {bytes : List ℕ} {r : ℕ} {out' : List ℕ} → WrittenBack bytes r out' → length (escaped bytes) ≡ r
-back-length {bytes} {r} {out'} w = ap length (sym (w .is)) ∙ length-take-le r out' (omega (arith, w .fits, w .long))
 
 -- a byte as it is written back
 abbrev back : ℕ → List ℕ

@@ -7,7 +7,6 @@ use Rattle.rules.specs.declared.Name.{Name}
 use Rattle.rules.specs.declared.Kind.{Kind}
 use Rattle.rules.specs.Texts.{Text, textOf}
 use Rattle.rules.specs.ControlLines.{calls, requests, nothing, textMeaning, prefixOf}
-use Rattle.texts.specs.Table.Places.{bytesOr}
 use Rattle.line_syntax.specs.declared.lines.Meaning.{Meaning}
 use Rattle.line_syntax.specs.declared.lines.Meaning.the-variants.{Calls, Requests, Nothing}
 
@@ -27,10 +26,6 @@ MeaningIs ts n Nothing = textMeaning (textOf n ts) n ≡ nothing
 -- A name that calls a text means that text.
 pub called-means : {ts : List Text} {n : Name} {k : Kind} (c : Called ts n k) → textMeaning (textOf n ts) n ≡ calls (c .text)
 called-means {ts} {n} c = ap (λ (o : Option Text). textMeaning o n) (c .is)
-
--- Its bytes are those that are found by its name.
-pub called-bytes : {ts : List Text} {n : Name} {k : Kind} (c : Called ts n k) → bytesOr (textOf n ts) ≡ c .text .bytes
-called-bytes c = ap bytesOr (c .is)
 
 -- the bytes of control byte and name, of which there are at most three
 pub record PrefixIs (n : Name) (r : ℕ) : Type 0 where

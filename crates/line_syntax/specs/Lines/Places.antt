@@ -3,7 +3,7 @@ use mathlib.Core.Path.{_≡_, ap}
 use mathlib.Core.List.{List, []}
 use Prim.Native.Nat.{ℕ, _-_, _≤_}
 use lib.ListN.{length, take, drop, getD}
-use Rattle.rules.specs.Arguments.{Part, part, stringText, condition}
+use Rattle.rules.specs.Arguments.{part, stringText, condition}
 use Rattle.rules.specs.Acts.{argument}
 use Rattle.scan.specs.Arguments.Around.{argumentsOf}
 use Rattle.scan.specs.Arguments.Parting.{PartedAll}
@@ -22,13 +22,6 @@ pub record ConditionAt (line : List ℕ) (at : ℕ) (r : Condition) : Type 0 whe
   pub order : r .from ≤ r .to
   pub onward : r .to ≤ r .rest
   pub inside : r .rest ≤ length line
-
--- The condition, and what follows its spaces.
-pub condition-part : {line : List ℕ} {at : ℕ} {r : Condition} → ConditionAt line at r → take (r .to - r .from) (drop (r .from) line) ≡ condition (drop at line) .part
-condition-part c = ap (λ (p : Part). p .part) (c .is)
-
-pub condition-rest : {line : List ℕ} {at : ℕ} {r : Condition} → ConditionAt line at r → drop (r .rest) line ≡ condition (drop at line) .rest
-condition-rest c = ap (λ (p : Part). p .rest) (c .is)
 
 -- An argument of a line that was parted is the rules' one.
 pub argument-is : {line : List ℕ} {at count : ℕ} {out ends : List ℕ} (k : ℕ) → PartedAll line at count out ends → getD (argumentsOf out ends count) k [] ≡ argument k (drop at line)

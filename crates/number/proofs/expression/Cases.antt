@@ -2,22 +2,21 @@
 use mathlib.Core.Path.{_≡_, refl, sym, ap, _∙_}
 use mathlib.Core.Bool.{Bool, true, false}
 use mathlib.Core.List.{List, [], _∷_}
-use mathlib.Core.Option.{none}
 use Prim.Native.Nat.{ℕ, zero, suc, _+_, _-_, _≤_, _<_}
 use native.Mathlib.Omega.{arith}
-use lib.Dec.{eqb, ltb}
+use lib.Dec.{ltb}
 use lib.ListN.{length, getD, drop, drop-of-length-le}
 use lib.IntN.{ℤ, natAbs, negℤ}
 use borrow.Author.Tests.{ne-eqb, ltb-true, ltb-false}
 use Rattle.measure.specs.declared.Pitch.{Pitch}
 use Rattle.measure.specs.declared.Scale.{Scale}
-use Rattle.rules.specs.Bytes.{byte, firstWhere, inTable, orElse, entry}
-use Rattle.rules.specs.TableLaws.{absent}
-use Rattle.rules.specs.Refusals.{Judged, value, bad, judge, _>>=_}
-use Rattle.rules.specs.RefusalLaws.{of-value}
-use Rattle.rules.specs.Numbers.{operate, joins, stops, jointOf, isDigit, Start, literal, opens, plus, minus, noTerm, startBy, startOf, closed, term, onward}
+use Rattle.rules.specs.Bytes.{byte, firstWhere, orElse}
+use Rattle.rules.specs.Laws.Tables.{absent}
+use Rattle.rules.specs.Refusals.{value, bad, _>>=_}
+use Rattle.rules.specs.Laws.Refusals.{of-value}
+use Rattle.rules.specs.Numbers.{operate, jointOf, isDigit, Start, literal, opens, plus, minus, noTerm, startBy, startOf, closed, term, onward}
 use Rattle.rules.specs.Numbers as rules
-use Rattle.rules.specs.NumberLaws.{start-digit, start-other, start-none, term-bounded}
+use Rattle.rules.specs.Laws.Numbers.{start-digit, start-other, start-none, term-bounded}
 use Rattle.rules.specs.declared.Operator.{Operator}
 use Rattle.number.specs.Expression.Reading.{jointIn, GoodJoint, readOf, Forward, literalTerm}
 use Rattle.number.specs.Expression.Meaning.{expression, TermIs, ExpressionIs}

@@ -8,7 +8,7 @@ use lib.Dec.{leb, ltb}
 use lib.ListN.{length, getD, drop, length-drop, drop-of-length-le, List·getD-eq-default}
 use lib.Seq.{drop-drop, getD-drop}
 use lib.IntN.{pos}
-use borrow.Author.Tests.{leb-true, leb-false, le-leb, lt-leb, ltb-true, ltb-false}
+use borrow.Author.Tests.{leb-true, leb-false, lt-leb, ltb-true, ltb-false}
 use Rattle.measure.specs.declared.Pitch.{Pitch}
 use Rattle.measure.specs.declared.Scale.{Scale}
 use Rattle.measure.specs.declared.MaybeScale.{MaybeScale}
@@ -17,10 +17,10 @@ use Rattle.measure.specs.Pitches.{Sized}
 use Rattle.measure.specs.Scales.{scaleOf, literalOf}
 use Rattle.measure.specs.ScaleLaws.{at-least}
 use Rattle.rules.specs.Bytes.{byte, firstWhere}
-use Rattle.rules.specs.TableLaws.{entry-each}
+use Rattle.rules.specs.Laws.Tables.{entry-each}
 use Rattle.rules.specs.Refusals.{value, bad, judge, _>>=_}
-use Rattle.rules.specs.Numbers.{isDigit, digits, scaled, scaledOr, scaledBy, literalAt, Start, literal, opens, plus, minus, noTerm, startBy, startOf}
-use Rattle.rules.specs.NumberLaws.{digits-short, digits-shorter, digits-rest, digits-stop, start-digit, start-other, start-none}
+use Rattle.rules.specs.Numbers.{isDigit, digits, scaled, scaledOr, scaledBy, literalAt, opens, plus, minus, noTerm, startBy, startOf}
+use Rattle.rules.specs.Laws.Numbers.{digits-short, digits-shorter, digits-rest, digits-stop, start-digit, start-other, start-none}
 use Rattle.number.specs.Expression.Reading.{digitsOf, boundedOf, readOf, Forward, literalTerm}
 use Rattle.number.specs.declared.expression.Read.{Read}
 use Rattle.number.specs.declared.expression.Read.the-variants.{Value, Refused}

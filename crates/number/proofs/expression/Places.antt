@@ -1,18 +1,18 @@
 -- The rules' readers at a place of a text: the bytes that are unread there are `drop at s`. Assumes nothing.
 use mathlib.Core.Path.{_≡_, refl, sym, ap, _∙_}
-use mathlib.Core.Bool.{Bool, true, false, cond}
+use mathlib.Core.Bool.{Bool, true, false}
 use mathlib.Core.List.{List, [], _∷_}
 use mathlib.Core.Option.{none, some}
-use Prim.Native.Nat.{ℕ, zero, suc, _+_, _-_, _*_, _≤_, _<_}
+use Prim.Native.Nat.{ℕ, _+_, _-_, _*_, _≤_, _<_}
 use native.Mathlib.Numerals.{add-one}
 use native.Mathlib.Omega.{arith}
-use lib.Dec.{leb, ltb}
+use lib.Dec.{ltb}
 use lib.ListN.{length, getD, drop, length-drop, drop-of-length-le}
 use lib.Seq.{drop-cons, getD-drop}
 use borrow.Author.Tests.{le-leb, lt-leb, ltb-true, ltb-false}
 use Rattle.rules.specs.Bytes.{inTable}
-use Rattle.rules.specs.Numbers.{operators, operatorsBeforeEqual, Joint, joins, stops, joinsOr, oneByteJoint, jointOf, isDigit, digits}
-use Rattle.rules.specs.NumberLaws.{joint-one, joint-alone, joint-two, digits-more, digits-stop, digits-grow}
+use Rattle.rules.specs.Numbers.{operators, operatorsBeforeEqual, joins, stops, jointOf, isDigit, digits}
+use Rattle.rules.specs.Laws.Numbers.{joint-one, joint-alone, joint-two, digits-more, digits-stop, digits-grow}
 use Rattle.rules.specs.declared.Operator.{Operator}
 use Rattle.number.specs.Expression.Reading.{digitsOf}
 use Rattle.number.specs.declared.expression.Digits.the-variants.{Number, Huge}

@@ -1,6 +1,5 @@
 -- `number_main::answer_all` stays within the text and ends: each line leaves fewer bytes. Assumes nothing.
 use Prim.Native.Nat.{_+_, _-_, _≤_}
-use native.Mathlib.Omega.{arith}
 use lib.ListN.{length}
 use borrow.Author.Needs.{needs}
 use Rattle.number_main.proofs.answer_all.Statement.{statement}

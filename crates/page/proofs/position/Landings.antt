@@ -12,9 +12,9 @@ use borrow.Author.Tests.{lt-ltb, le-ltb, ltb-true}
 use Rattle.measure.specs.Counts.{natOf}
 use Rattle.rules.specs.declared.Name.{Name}
 use Rattle.rules.specs.declared.Trap.{Trap}
-use Rattle.rules.specs.Traps.{Page, seenAt, nearestTrap}
+use Rattle.rules.specs.Traps.{Page, seenAt}
 use Rattle.rules.specs.Rows.{fewer}
-use Rattle.page.specs.Position.Landing.{Landing, on, done, tooMany, nextIf, landingNext, endIf, reachIf, landingDown, below, blanksOf}
+use Rattle.page.specs.Position.Landing.{on, done, tooMany, nextIf, landingNext, endIf, reachIf, landingDown, blanksOf}
 
 module _ (p : Page) (pl : ℕ) (ts : List Trap) where
   pub next-there : (f : Option Name) → p .number < 1000000 → f ≡ seenAt pl 0 ts → on (record { number = p .number + 1; used = 0; last = p .last }) f ≡ landingNext p pl ts

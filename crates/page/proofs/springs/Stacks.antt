@@ -5,26 +5,25 @@ use mathlib.Core.List.{List, [], _∷_, _++_}
 use mathlib.Core.Option.{Option, none, some}
 use Prim.Native.Nat.{ℕ, _+_, _-_, _≤_, _<_}
 use native.Mathlib.Omega.{arith}
-use lib.Dec.{leb}
 use lib.ListN.{length, length-append}
 use borrow.Author.Tests.{le-leb, lt-leb}
 use Rattle.measure.specs.Counts.{downOf}
 use Rattle.rules.specs.declared.Name.{Name}
-use Rattle.rules.specs.declared.Trap.{Trap}
 use Rattle.rules.specs.Bytes.{firstWhere}
 use Rattle.rules.specs.Names.{sameName}
-use Rattle.rules.specs.NameLaws.{same-one}
+use Rattle.rules.specs.Laws.Names.{same-one}
 use Rattle.rules.specs.Texts.{Text, textOf}
-use Rattle.rules.specs.TextLaws.{found-first, found-later}
-use Rattle.rules.specs.State.{State, Item, reading, refuse, withStack}
-use Rattle.rules.specs.Rows.{linesOf, theEnd, pushIf, call, userText, springText}
+use Rattle.rules.specs.Laws.Texts.{found-first, found-later}
+use Rattle.rules.specs.State.{State, Item, reading}
+use Rattle.rules.specs.StateSetters.{withStack}
+use Rattle.rules.specs.Rows.{linesOf, theEnd, pushIf, userText, springText}
 use Rattle.texts.specs.Table.Table.{textsOf, Lies}
 use Rattle.scan.specs.Arguments.Around.{cutAt, argumentsOf, Arguments}
 use Rattle.input_stack.specs.declared.frames.What.{What}
 use Rattle.input_stack.specs.declared.frames.What.the-variants as what
 use Rattle.input_stack.specs.declared.stack.Stack.{Stack}
-use Rattle.input_stack.specs.Stack.Frames.{Frame, frame, entry, framesOf, topFrame, topEntry, Columns, PushedTo}
-use Rattle.input_stack.specs.Stack.Items.{itemBy, itemsOf, stackOf, unread, GoodBy, Good}
+use Rattle.input_stack.specs.Stack.Frames.{Frame, frame, entry, framesOf, topEntry, Columns, PushedTo}
+use Rattle.input_stack.specs.Stack.Items.{itemsOf, stackOf, unread, GoodBy, Good}
 use Rattle.input_stack.specs.Stack.ItemLaws.{stack-length, top-known, pushed-items, pushed-good, unread-all}
 use Rattle.page.specs.declared.springs.Held.{Held}
 use Rattle.page.specs.declared.springs.Held.the-variants as held
@@ -38,8 +37,8 @@ use Rattle.page.specs.declared.position.Page.{Page}
 use Rattle.page.specs.Position.Landing.{Landing, on, pageOf}
 use Rattle.page.specs.Position.Landing as landing
 use Rattle.page.specs.Position.LandingLaws.{landed}
-use Rattle.page.specs.Springs.Held.{noEnds, heldFrames, heldOf, heldCount, lastCount, isText, PlainItem, Plain, limitBy, Fits, Ready, HeldTo}
-use Rattle.page.specs.Springs.Calls.{closeBy, wayIf, CalledTo, SprungTo, standing, landedFrom, LandsWithin, LandsNumbered, LandedTo, MovedTo}
+use Rattle.page.specs.Springs.Held.{noEnds, heldFrames, heldOf, heldCount, lastCount, isText, PlainItem, Plain, limitBy, Fits, HeldTo}
+use Rattle.page.specs.Springs.Calls.{CalledTo, SprungTo, standing, landedFrom, LandsWithin, LandsNumbered, LandedTo, MovedTo}
 
 -- A text that is found has the name that was looked for.
 pub found-name : (n : Name) (ts : List Text) (t : Text) → textOf n ts ≡ some t → t .name ≡ n

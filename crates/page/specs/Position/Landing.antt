@@ -1,6 +1,6 @@
 -- Where a move down a page leads, by itself: the rules' `down` and `startPage` are these in a state (LandingLaws). Assumes nothing.
 use mathlib.Core.Bool.{Bool, true, false}
-use mathlib.Core.Option.{Option, none, some}
+use mathlib.Core.Option.{Option}
 use mathlib.Core.List.{List}
 use Prim.Native.Nat.{ℕ, zero, suc, _+_, _-_, _≤_, _<_}
 use lib.Dec.{ltb}

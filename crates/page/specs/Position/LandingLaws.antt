@@ -1,18 +1,17 @@
 -- The rules' moves down a page, in a state, are those by themselves. Assumes nothing.
-use mathlib.Core.Path.{_≡_, refl, ap}
+use mathlib.Core.Path.{_≡_, refl}
 use mathlib.Core.Bool.{Bool, true, false}
-use mathlib.Core.Option.{Option, none, some}
 use mathlib.Core.List.{List, [], _∷_}
 use Prim.Native.Nat.{ℕ, zero, suc, _+_, _≤_, _<_}
 use native.Mathlib.Omega.{arith}
 use lib.Dec.{ltb}
 use lib.IntN.{ℤ, pos, negsuc}
 use Rattle.stream.specs.Answers.{done}
-use Rattle.stream.specs.Machine.{works}
 use Rattle.rules.specs.Settings.{Down}
-use Rattle.rules.specs.State.{State, Item, withPage, close, refuse}
+use Rattle.rules.specs.State.{State, Item, close, refuse}
+use Rattle.rules.specs.StateSetters.{withPage}
 use Rattle.rules.specs.Rows.{Next, goes, userText, springText, spring, startIf, startPage, endPage, reach, down, rowsBelow, fewer, blank, skip}
-use Rattle.rules.specs.TrapLaws.{nearest-above}
+use Rattle.rules.specs.Laws.Traps.{nearest-above}
 use Rattle.page.specs.Position.Landing.{Landing, on, tooMany, nextIf, landingNext, endIf, reachIf, landingDown, below, blanksOf}
 use Rattle.page.specs.Position.Landing as landing
 

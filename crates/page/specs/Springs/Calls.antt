@@ -11,8 +11,9 @@ use Rattle.rules.specs.declared.Name.{Name}
 use Rattle.rules.specs.declared.Trap.{Trap}
 use Rattle.rules.specs.Texts.{Text, textOf}
 use Rattle.rules.specs.Traps as traps
-use Rattle.rules.specs.Settings.{withPageLength}
-use Rattle.rules.specs.State.{State, Item, input, tables, close, refuse, withStack}
+use Rattle.rules.specs.LayoutSetters.{withPageLength}
+use Rattle.rules.specs.State.{State, Item, close, refuse}
+use Rattle.rules.specs.StateSetters.{input, tables, withStack}
 use Rattle.rules.specs.Rows.{call, userText, springText}
 use Rattle.texts.specs.Table.Table.{textsOf, Lies}
 use Rattle.scan.specs.Arguments.Around.{argumentsOf}

@@ -1,6 +1,5 @@
 -- `record::is_inside` meets its contract. Assumes nothing.
 use mathlib.Core.Path.{_≡_, sym, _∙_}
-use mathlib.Core.Bool.{true}
 use native.Mathlib.Omega.{arith}
 use denote.Ref.{now}
 use Rattle.record.proofs.Inside.{false-true, inside-no, inside-busy, inside-done, inside-refused}

@@ -7,7 +7,7 @@ use native.Mathlib.Omega.{arith}
 use lib.Dec.{leb, eqb}
 use lib.ListN.{take}
 use borrow.Author.Tests.{not-true, not-false, leb-true}
-use Rattle.rules.specs.RefusalLaws.{both}
+use Rattle.rules.specs.Laws.Refusals.{both}
 use Rattle.texts.specs.Table.Table.{sum}
 use Rattle.texts.specs.Table.Changes.{roomOf}
 use Rattle.texts.specs.Table.Checks.{isTable, room-least}

@@ -8,7 +8,7 @@ use lib.Dec.{leb, eqb}
 use lib.ListN.{length, take, drop, getD}
 use borrow.Author.Tests.{leb-true, le-leb, lt-leb, ne-eqb}
 use Rattle.rules.specs.declared.Trap.{Trap}
-use Rattle.rules.specs.RefusalLaws.{both}
+use Rattle.rules.specs.Laws.Refusals.{both}
 use Rattle.registers.specs.Checks.Checks as registers
 use Rattle.texts.specs.Table.Table.{namesOf, Names}
 use Rattle.texts.specs.Table.Checks as texts

@@ -11,7 +11,7 @@ use lib.ListN.{length, take}
 use borrow.Author.Tests.{leb-true, le-leb, ltb-true, lt-ltb, eqb-true, eq-eqb}
 use Rattle.measure.specs.declared.Rows.{Rows}
 use Rattle.measure.specs.Counts.{acrossOf, downOf}
-use Rattle.rules.specs.RefusalLaws.{both}
+use Rattle.rules.specs.Laws.Refusals.{both}
 use Rattle.registers.specs.Checks.Checks as registers
 use Rattle.texts.specs.Table.Table.{sum, namesOf, Lies}
 use Rattle.texts.specs.Table.Checks as texts

@@ -9,7 +9,7 @@ use lib.ListN.{length, take, drop, getD, length-drop}
 use lib.Seq.{length-take-le, getD-take}
 use borrow.Author.Tests.{leb-true, le-leb, eqb-true, eqb-false}
 use Rattle.rules.specs.declared.Name.{Name}
-use Rattle.rules.specs.RefusalLaws.{both}
+use Rattle.rules.specs.Laws.Refusals.{both}
 use Rattle.rules.specs.Texts.{Text}
 use Rattle.texts.specs.declared.table.Place.{Place}
 use Rattle.texts.specs.declared.table.Place.the-variants.{At, Not}

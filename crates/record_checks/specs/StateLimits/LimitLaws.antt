@@ -13,12 +13,12 @@ use Rattle.stream.specs.Answers.{Closing}
 use Rattle.measure.specs.Counts.{acrossOf}
 use Rattle.rules.specs.declared.Name.{Name}
 use Rattle.rules.specs.declared.Trap.{Trap}
-use Rattle.rules.specs.RefusalLaws.{both}
-use Rattle.rules.specs.TableLaws.{Each}
-use Rattle.rules.specs.RegisterLaws.{BoundedTable}
-use Rattle.rules.specs.TrapLaws.{Single}
+use Rattle.rules.specs.Laws.Refusals.{both}
+use Rattle.rules.specs.Laws.Tables.{Each}
+use Rattle.rules.specs.Laws.Registers.{BoundedTable}
+use Rattle.rules.specs.Laws.Traps.{Single}
 use Rattle.rules.specs.Texts.{Text, textOf}
-use Rattle.rules.specs.TextLaws.{Distinct}
+use Rattle.rules.specs.Laws.Texts.{Distinct}
 use Rattle.rules.specs.Rows.{theEnd}
 use Rattle.rules.specs.State.{Item, Definition, State, close}
 use Rattle.registers.specs.Checks.Checks as registers
@@ -361,14 +361,6 @@ module _ (s : Status) (cs bs ps st tf ts ks ls fs ss : List ℕ) (vs us : List �
         depth = deep-sound z (s .stack) bs ps (s .page .last) (f .1);
         opened = opened-sound z (s .stack) bs ps running (s .opening .there) (s .opening) (textColumns st tf ts ks ls (s .texts)) (d .1);
       }
-
-  -- It has gathered no more than a line may have.
-  pub within-short : isWithin s running ps g n tf ts vs us ≡ true → n ≤ 512
-  unfolding isWithin
-  within-short h =
-      let a = areTables s tf ts vs us && areSettings (s .layout) in
-      let t = both (a && isGathered g n) (isPile s running ps) h in
-      leb-true n 512 (both (leb n 512) (areBytes (take n g)) (both a (isGathered g n) (t .0) .1) .0)
 
   -- A record that keeps to the limits passes it: refusal 1 never hits one whose state the rules lead to.
   pub kept-within : (x : State) → x .input .gathered ≡ take n g → n ≤ 512 → SoundWhole held → Kept running (stateIn held x) → isWithin s running ps g n tf ts vs us ≡ true

@@ -5,7 +5,7 @@ use mathlib.Core.List.{List, [], _∷_, _++_, append-nil}
 use native.Mathlib.Nat.{add-zero}
 use native.Mathlib.Numerals.{add-one}
 use native.Mathlib.Omega.{arith}
-use lib.ListN.{length, take, drop, getD, set, drop-of-length-le}
+use lib.ListN.{length, take, getD, set, drop-of-length-le}
 use lib.Seq.{sets, sets-eq, take-suc, length-take-le}
 use lib.IntN.{ℤ}
 use Rattle.rules.specs.declared.Trap.{Trap}

@@ -1,5 +1,5 @@
 -- What is written is read back: the parts are those that were written, if their counts fit a word and their bytes fit a byte. Assumes nothing.
-use Prim.Native.Nat.{ℕ, zero, suc, _+_, _*_, _/_, _%_, _<_, _≤_, min}
+use Prim.Native.Nat.{ℕ, suc, _+_, _*_, _/_, _%_, _<_, _≤_, min}
 use mathlib.Core.Path.{_≡_, refl, sym, ap, subst, _∙_}
 use mathlib.Core.Bool.{Bool, true, false}
 use mathlib.Core.List.{List, [], _∷_, _++_, append-assoc}
@@ -22,7 +22,7 @@ use Rattle.record.specs.declared.Waiting.{Waiting}
 use Rattle.record.specs.declared.Closing.{Closing}
 use Rattle.record.specs.declared.Closing.the-variants as closing
 use Rattle.record_words.specs.declared.decoding.Counts.{Counts}
-use Rattle.record_words.specs.Decoding.Words.{Short, Named, numberOf, AllNamed, nameWord, totalTag, totalValue, flagWord, trapWords, closingTag, closingNumber, closingLine, layoutWords, pageWords, collectedWords, countsWords, openingWords, sourceWords, waitingWords, closingWords, wordOf, wordsOf, isSet, nameOf, nameAt, totalBy, trapAt, trapsFrom, closingBy, layoutIn, pageIn, collectedIn, countsIn, openingIn, sourceIn, waitingIn, closingIn, plantedIn}
+use Rattle.record_words.specs.Decoding.Words.{Short, Named, numberOf, AllNamed, nameWord, totalTag, totalValue, flagWord, trapWords, closingTag, closingNumber, closingLine, layoutWords, pageWords, collectedWords, countsWords, openingWords, sourceWords, waitingWords, closingWords, wordOf, wordsOf, isSet, nameOf, nameAt, totalBy, trapsFrom, closingBy, layoutIn, pageIn, collectedIn, countsIn, openingIn, sourceIn, waitingIn, closingIn, plantedIn}
 
 abbrev pub lineOf : Closing → ℕ
 lineOf closing.Open = 0
@@ -93,9 +93,6 @@ module _ (l : Layout) (p : Page) (c : Collected) (n : Counts) (o : Opening) (s :
 
   pub opening-there-back : openingIn (wordsOf l p c n o s w k t) .there ≡ o .there
   opening-there-back = flag-back (o .there)
-
-  pub opening-name-back : Named (o .name) → openingIn (wordsOf l p c n o s w k t) .name ≡ o .name
-  opening-name-back h = name-back (o .name) h
 
   pub opening-back : Named (o .name) → Short (o .length) → openingIn (wordsOf l p c n o s w k t) ≡ o
   opening-back h m = rw (flag-back (o .there), name-back (o .name) h, count-back (o .length) m)

@@ -3,11 +3,10 @@ use Prim.Native.Nat.{ℕ, _+_, _≤_}
 use mathlib.Core.Path.{_≡_, refl, sym, ap, subst, _∙_}
 use mathlib.Core.Bool.{Bool, true, false}
 use mathlib.Core.List.{List}
-use mathlib.Core.Option.{Option}
 use native.Mathlib.Omega.{arith}
 use lib.ListN.{length}
 use lib.IntN.{ℤ}
-use Rattle.rules.specs.State.{State, Definition}
+use Rattle.rules.specs.State.{State}
 use Rattle.limits.specs.Within.{Within}
 use Rattle.traps.specs.declared.table.Planted.{Planted}
 use Rattle.settings.specs.declared.layout.Layout.{Layout}
@@ -21,7 +20,7 @@ use Rattle.record.specs.declared.Closing.{Closing}
 use Rattle.record.specs.declared.Closing.the-variants.{Open, Done, Refused}
 use Rattle.record.specs.declared.Record.{Record}
 use Rattle.record.specs.Turns.{recordOf, placeOf}
-use Rattle.record.specs.View.{sourced, closedAs, stateOf, waitingOf, wholeIn, lastLine, Formed, Legal}
+use Rattle.record.specs.View.{sourced, closedAs, stateOf, waitingOf, wholeIn, lastLine, Legal}
 use Rattle.record_words.specs.declared.decoding.Counts.{Counts}
 use Rattle.record_words.specs.Decoding.Words.{placeIn, countsOf, wordsAt, layoutIn, pageIn, collectedIn, countsIn, openingIn, sourceIn, waitingIn, closingIn, plantedIn, Named, AllNamed, numberOf, Short}
 use Rattle.record_words.specs.Encoding.Back.{lineOf, layout-back, page-back, collected-back, counts-back, opening-back, opening-there-back, source-back, waiting-back, closing-back, planted-back}

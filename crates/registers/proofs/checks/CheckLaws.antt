@@ -1,14 +1,13 @@
 -- How the checks of lent columns go on at a row. Assumes nothing.
 use mathlib.Core.Path.{_≡_, refl, sym, ap, _∙_, subst}
-use mathlib.Core.Bool.{Bool, true, false, _&&_}
+use mathlib.Core.Bool.{true, false, _&&_}
 use mathlib.Core.List.{List, [], _∷_}
 use Prim.Native.Nat.{ℕ, zero, suc, _+_, _≤_, _<_}
 use native.Mathlib.Numerals.{add-one}
 use native.Mathlib.Omega.{arith}
-use lib.Dec.{leb}
 use lib.ListN.{length, take, drop, getD, drop-of-length-le}
 use lib.Seq.{drop-cons, length-take-le, getD-take}
-use lib.IntN.{ℤ, pos, negsuc, natAbs}
+use lib.IntN.{ℤ, pos, negsuc}
 use lib.Signed.{ltZ}
 use borrow.Author.Tests.{le-leb, lt-leb, ltb-true}
 use Rattle.rules.specs.declared.Name.{Name}
@@ -17,7 +16,7 @@ use Rattle.rules.specs.Names.{twoBytes, earlier}
 use Rattle.registers.specs.declared.table.Order.{Order}
 use Rattle.registers.specs.Table.Columns.{zipWith, asPair, namesOf, Names}
 use Rattle.registers.specs.Table.Places.{orderOf, orderAt}
-use Rattle.registers.specs.Checks.Checks.{NameColumns, NumberColumns, isEarlier, isAhead, inOrder, isTable, isWithin, allWithin, isBounded}
+use Rattle.registers.specs.Checks.Checks.{NameColumns, NumberColumns, isEarlier, inOrder, isTable, isWithin, allWithin, isBounded}
 use Rattle.registers.proofs.table.Laws.{zip-at, zip-length, namesOf-at, row-order}
 
 -- the order of names

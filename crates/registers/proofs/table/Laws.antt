@@ -16,11 +16,11 @@ use Rattle.rules.specs.declared.Turn.{Turn}
 use Rattle.rules.specs.declared.Turn.the-variants.{Still, Up, Down}
 use Rattle.rules.specs.Names as rules
 use Rattle.rules.specs.Names.{twoBytes, sameName, earlier, same, later}
-use Rattle.rules.specs.NameLaws.{same-self, same-one}
+use Rattle.rules.specs.Laws.Names.{same-self, same-one}
 use Rattle.rules.specs.Refusals.{value, bad, _>>=_}
 use Rattle.rules.specs.Bytes.{firstWhere}
 use Rattle.rules.specs.Registers.{register, lookup, put, setValue, Seen, Reference, referBy}
-use Rattle.rules.specs.RegisterLaws.{Before, Means, means, names, Ordered, Sorted, not-found, put-new, put-sorted}
+use Rattle.rules.specs.Laws.Registers.{Before, Means, means, names, Ordered, Sorted, not-found, put-new, put-sorted}
 use Rattle.registers.specs.declared.table.Order.{Order}
 use Rattle.registers.specs.declared.table.Place.{Place}
 use Rattle.registers.specs.declared.table.Place.the-variants.{At, Not}

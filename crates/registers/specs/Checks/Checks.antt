@@ -1,5 +1,5 @@
 -- Whether lent columns are a table: as tests, with the laws that they hold exactly where the table's invariants do. Assumes nothing.
-use mathlib.Core.Path.{_≡_, refl, sym, _∙_}
+use mathlib.Core.Path.{_≡_, refl, _∙_}
 use mathlib.Core.Bool.{Bool, true, false, _&&_, false≢true}
 use mathlib.Core.List.{List, [], _∷_}
 use Prim.Native.Nat.{ℕ, zero, suc, _≤_}
@@ -10,9 +10,9 @@ use lib.IntN.{ℤ, natAbs}
 use borrow.Author.Tests.{leb-true, le-leb}
 use Rattle.rules.specs.declared.Name.{Name}
 use Rattle.rules.specs.Names.{Order, earlier, same, later, order, twoBytes}
-use Rattle.rules.specs.RefusalLaws.{both}
-use Rattle.rules.specs.RegisterLaws.{Ahead, Ordered, BoundedTable}
-use Rattle.registers.specs.Table.Columns.{zipWith, asPair, asRegister, namesOf, tableOf, Names, Table}
+use Rattle.rules.specs.Laws.Refusals.{both}
+use Rattle.rules.specs.Laws.Registers.{Ahead, Ordered, BoundedTable}
+use Rattle.registers.specs.Table.Columns.{zipWith, asPair, asRegister, namesOf, tableOf, Table}
 
 -- the columns of names have all their rows
 pub record NameColumns (firsts seconds : List ℕ) : Type 0 where

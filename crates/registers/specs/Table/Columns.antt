@@ -8,7 +8,7 @@ use Rattle.rules.specs.declared.Name.{Name}
 use Rattle.rules.specs.declared.Register.{Register}
 use Rattle.rules.specs.Names.{twoBytes}
 use Rattle.rules.specs.Registers.{register}
-use Rattle.rules.specs.RegisterLaws.{Ordered}
+use Rattle.rules.specs.Laws.Registers.{Ordered}
 
 -- two columns as one, row by row
 unfoldable pub zipWith : {A B C : Type 0} → (A → B → C) → List A → List B → List C

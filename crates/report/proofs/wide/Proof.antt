@@ -1,5 +1,4 @@
 -- `report::wide` meets its contract: an i32 fits an i64. Assumes nothing.
-use borrow.Author.Needs.{needs}
 use mir.Syntax.{w64}
 use mir.Facts.{toZ-ofZ, sfits-widen}
 use Rattle.report.proofs.wide.Statement.{statement}

@@ -15,7 +15,8 @@ use Rattle.rules.specs.Refusals.{Judged, value, bad, judge, _>>=_}
 use Rattle.rules.specs.Texts as texts
 use Rattle.rules.specs.Texts.{Text, textOf, defineStringIn, openMacro}
 use Rattle.rules.specs.Arguments.{Part, first, stringText}
-use Rattle.rules.specs.State.{State, Item, onStack, withTexts}
+use Rattle.rules.specs.State.{State, Item, onStack}
+use Rattle.rules.specs.StateSetters.{withTexts}
 use Rattle.rules.specs.Acts.{onName, free, writtenBack, defineFrom, defines, openText, removeIf, removeText}
 use Rattle.texts.specs.declared.table.Stored.the-variants.{Set, Full}
 use Rattle.texts.specs.Table.Table.{textsOf, Lies}

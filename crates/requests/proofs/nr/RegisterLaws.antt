@@ -18,7 +18,8 @@ use Rattle.rules.specs.Names as names
 use Rattle.rules.specs.Refusals.{Judged, value, bad, _>>=_}
 use Rattle.rules.specs.Numbers.{units, signed}
 use Rattle.rules.specs.Registers.{lookup, predefined, valueOr0, stepOr0, setValue}
-use Rattle.rules.specs.State.{State, withRegisters}
+use Rattle.rules.specs.State.{State}
+use Rattle.rules.specs.StateSetters.{withRegisters}
 use Rattle.rules.specs.Acts.{onName, newValue, newStep, writeIf, writeRegister}
 use Rattle.registers.specs.declared.table.Stored.{Stored}
 use Rattle.registers.specs.declared.table.Stored.the-variants.{Set, Full}

@@ -15,7 +15,8 @@ use Rattle.rules.specs.Names as names
 use Rattle.rules.specs.Refusals.{Judged, value, bad, judge, _>>=_}
 use Rattle.rules.specs.Numbers.{rows}
 use Rattle.rules.specs.Traps.{plant, removeTrap}
-use Rattle.rules.specs.State.{State, withTraps}
+use Rattle.rules.specs.State.{State}
+use Rattle.rules.specs.StateSetters.{withTraps}
 use Rattle.rules.specs.Acts.{plantAt, plantTrap}
 use Rattle.traps.specs.declared.table.Planted.{Planted}
 use Rattle.traps.specs.declared.table.Planting.{Planting}

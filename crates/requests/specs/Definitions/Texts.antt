@@ -12,7 +12,8 @@ use Rattle.rules.specs.Names.{Named, one, tooLong, nameOf}
 use Rattle.rules.specs.Names as names
 use Rattle.rules.specs.Refusals.{Judged, value, bad}
 use Rattle.rules.specs.Texts.{Text}
-use Rattle.rules.specs.State.{State, Item, withStack, withTexts, withOpened}
+use Rattle.rules.specs.State.{State, Item}
+use Rattle.rules.specs.StateSetters.{withStack, withTexts, withOpened}
 use Rattle.rules.specs.Acts.{argument, onName, writtenBack, defineText, openText, removeText, perform}
 use Rattle.texts.specs.Table.Table.{textsOf, Lies}
 use Rattle.texts.specs.Table.Changes.{Opens}

@@ -12,7 +12,8 @@ use Rattle.rules.specs.Names.{nameOf}
 use Rattle.rules.specs.Refusals.{Judged, value, bad, _>>=_}
 use Rattle.rules.specs.Numbers.{units, signed}
 use Rattle.rules.specs.Registers.{valueOr0, stepOr0}
-use Rattle.rules.specs.State.{State, withRegisters}
+use Rattle.rules.specs.State.{State}
+use Rattle.rules.specs.StateSetters.{withRegisters}
 use Rattle.rules.specs.Acts.{argument, onName, newValue, newStep, writeRegister, perform}
 use Rattle.registers.specs.Table.Columns.{tableOf, Table}
 use Rattle.settings.specs.declared.layout.Printer.{Printer}

@@ -5,7 +5,8 @@ use Prim.Native.Nat.{ℕ, zero, suc, _<_}
 use Rattle.rules.specs.declared.Unbreaking.the-variants.{Wh}
 use Rattle.rules.specs.Printers as printers
 use Rattle.rules.specs.Refusals.{Judged, value, bad}
-use Rattle.rules.specs.State.{State, withTraps}
+use Rattle.rules.specs.State.{State}
+use Rattle.rules.specs.StateSetters.{withTraps}
 use Rattle.rules.specs.Acts.{argument, plantTrap, perform}
 use Rattle.traps.specs.declared.table.Planted.{Planted}
 use Rattle.traps.specs.Table.Table.{Within, plantedOf}

@@ -1,5 +1,5 @@
 -- `rockavine_c::rockavine_call_parts` meets its contract, in each of its three ways out. Assumes nothing.
-use mathlib.Core.Path.{sym, _∙_}
+use mathlib.Core.Path.{_∙_}
 use denote.Ref.{now}
 use borrow.Author.Tests.{not-true, not-false}
 use Rattle.rockavine_c.proofs.Again.{from-turned, from-served}

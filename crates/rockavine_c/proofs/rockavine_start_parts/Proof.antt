@@ -1,4 +1,4 @@
-use mathlib.Core.Path.{refl, sym, ap, _∙_}
+use mathlib.Core.Path.{_∙_}
 use borrow.Author.Needs.{needs}
 use Rattle.rockavine_c.proofs.rockavine_start_parts.Statement.{statement}
 use Rattle.rockavine_c.proofs.rockavine_start_parts.Tie as tie

@@ -2,19 +2,19 @@
 use mathlib.Core.Path.{_≡_, refl, sym, ap, _∙_, subst}
 use mathlib.Core.Bool.{Bool, true, false}
 use mathlib.Core.List.{List, [], _∷_, _++_, append-assoc, append-nil}
-use mathlib.Core.Option.{Option, none, some}
+use mathlib.Core.Option.{none, some}
 use Prim.Native.Nat.{ℕ, zero, suc, _+_, _-_, _≤_, _<_}
 use native.Mathlib.Numerals.{add-one}
 use native.Mathlib.Omega.{arith}
 use lib.Dec.{eqb}
 use borrow.Author.Tests.{eqb-true, eqb-false}
-use lib.ListN.{length, getD, take, drop, set, length-append, length-set}
-use lib.Seq.{sets, sets-eq, length-sets, length-take-le, take-at, drop-at, take-suc-set, take-take, drop-drop, take-nil, append-snoc, getD-take, getD-set-same, getD-set-other}
-use Rattle.rules.specs.Bytes.{byte, space, firstWhere}
-use Rattle.rules.specs.Arguments.{bare, quoted, Part, part, afterSpaces, upTo, first, firstOf, firstBy, byteOf, argumentsUpTo, arguments}
+use lib.ListN.{length, getD, take, drop, set, length-set}
+use lib.Seq.{sets, sets-eq, length-sets, length-take-le, take-at, drop-at, take-suc-set, take-take, take-nil, append-snoc, getD-take, getD-set-same, getD-set-other}
+use Rattle.rules.specs.Bytes.{byte}
+use Rattle.rules.specs.Arguments.{bare, quoted, Part, part, upTo, first, firstOf, firstBy, argumentsUpTo, arguments}
 use Rattle.scan.specs.declared.arguments.Cut.{Cut}
-use Rattle.scan.specs.Arguments.Around.{cutAt, argumentsOf, beginOf, Arguments}
-use Rattle.scan.specs.Arguments.Parting.{Spaces, Parted, Took, PartedAll}
+use Rattle.scan.specs.Arguments.Around.{cutAt, argumentsOf, beginOf}
+use Rattle.scan.specs.Arguments.Parting.{Spaces, Took, PartedAll}
 use Rattle.scan.proofs.output.Places.{unread, nothing}
 use Rattle.scan.proofs.arguments.Parts.{not-quote, quote-is}
 

@@ -2,15 +2,14 @@
 use mathlib.Core.Path.{_≡_, refl, sym, ap, _∙_}
 use mathlib.Core.Bool.{Bool, true, false}
 use mathlib.Core.List.{List, [], _∷_, _++_, append-nil}
-use mathlib.Core.Option.{none, some}
-use Prim.Native.Nat.{ℕ, zero, suc, _+_, _-_, _≤_, _<_}
+use Prim.Native.Nat.{ℕ, suc, _+_, _-_, _≤_, _<_}
 use native.Mathlib.Omega.{arith}
 use lib.Dec.{eqb, ltb}
-use lib.ListN.{length, getD, take, drop, set, length-drop, drop-of-length-le, List·getD-eq-default}
-use lib.Seq.{drop-cons, sets, take-suc, getD-drop, append-snoc}
+use lib.ListN.{length, getD, take, drop, set, length-drop, List·getD-eq-default}
+use lib.Seq.{sets, take-suc, getD-drop, append-snoc}
 use borrow.Author.Tests.{eqb-true, ltb-true, ltb-false}
 use Rattle.rules.specs.Bytes.{space, byte, firstWhere}
-use Rattle.rules.specs.Arguments.{Place, bare, quoted, behind, Byte, blank, quote, other, byteOf, Fate, keeps, drops, ended, fate, Part, part, push, afterSpaces, upTo, word, first, firstBy, firstOf}
+use Rattle.rules.specs.Arguments.{Place, bare, quoted, behind, Byte, blank, quote, other, byteOf, Fate, keeps, drops, ended, fate, Part, part, push, afterSpaces, upTo, word, firstBy}
 use Rattle.scan.specs.Arguments.Parting.{quoteAt, Parted}
 use Rattle.scan.proofs.output.Places.{unread, nothing}
 

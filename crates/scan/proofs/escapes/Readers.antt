@@ -8,13 +8,13 @@ use native.Mathlib.Omega.{arith}
 use lib.Dec.{eqb}
 use lib.ListN.{length, getD, drop, length-drop}
 use borrow.Author.Tests.{ne-eqb, le-leb, lt-leb}
-use Rattle.rules.specs.Bytes.{byte, backslash, firstWhere, orElse}
-use Rattle.rules.specs.TableLaws.{Each, absent}
+use Rattle.rules.specs.Bytes.{backslash, firstWhere, orElse}
+use Rattle.rules.specs.Laws.Tables.{Each, absent}
 use Rattle.rules.specs.Names.{oneByte, twoBytes}
 use Rattle.rules.specs.declared.Mode.{Mode}
 use Rattle.rules.specs.declared.Mode.the-variants.{Plain, Copy}
 use Rattle.rules.specs.declared.Turn.the-variants.{Still, Up, Down}
-use Rattle.rules.specs.Escapes.{Wanted, number, Escape, slash, numbering, naming, argument, Action, writes, wants, gives, ends, unlisted, listed, listedInCopy, actionOf}
+use Rattle.rules.specs.Escapes.{Wanted, number, Escape, slash, numbering, naming, argument, Action, writes, wants, gives, unlisted, listed, listedInCopy, actionOf}
 use Rattle.scan.specs.declared.escapes.What.{What}
 use Rattle.scan.specs.declared.escapes.Reading.{Reading}
 use Rattle.scan.specs.declared.escapes.Naming.{Naming}

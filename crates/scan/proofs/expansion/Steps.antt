@@ -14,7 +14,6 @@ use Rattle.scan.specs.declared.escapes.Reading.{Reading}
 use Rattle.scan.specs.Escapes.Readings.{actionIn, lone, ReadingIs}
 use Rattle.scan.specs.Output.Runs.{standing, from, acts, total, ifLeft}
 use Rattle.scan.specs.Output.Writes.{Passed, Stops}
-use Rattle.scan.specs.Expansion.Acts.{behind}
 use Rattle.scan.specs.Expansion.Expansion.{Filled, ReadOver, ReadEscape, StopsIn}
 use Rattle.scan.proofs.output.Places.{unread, nothing}
 use Rattle.scan.proofs.expansion.Escapes.{from-escape}

@@ -2,13 +2,13 @@
 use mathlib.Core.Path.{_≡_}
 use mathlib.Core.Bool.{Bool}
 use mathlib.Core.List.{List, [], _∷_}
-use mathlib.Core.Option.{Option, none, some}
+use mathlib.Core.Option.{none, some}
 use Prim.Native.Nat.{ℕ, _+_, _-_, _≤_}
 use lib.Dec.{eqb}
 use lib.ListN.{length, take, drop, getD}
-use lib.Seq.{sets, slice}
+use lib.Seq.{sets}
 use Rattle.rules.specs.Bytes.{byte}
-use Rattle.rules.specs.Arguments.{Place, Part, part, afterSpaces, upTo, word, first, arguments}
+use Rattle.rules.specs.Arguments.{Place, part, afterSpaces, upTo, word, first, arguments}
 use Rattle.scan.specs.Arguments.Around.{argumentsOf, Arguments}
 use Rattle.scan.specs.declared.arguments.Cut.{Cut}
 use Rattle.scan.specs.declared.arguments.Argument.{Argument}

@@ -1,8 +1,7 @@
-use mathlib.Core.Path.{sym, _∙_, ap}
+use mathlib.Core.Path.{sym, _∙_}
 use denote.Ref.{now}
 use borrow.Author.Tests.{not-true, not-false}
 use Rattle.record.specs.Turns.{recordOf}
-use Rattle.record_checks.specs.StateLimits.LimitChecks.{isWithin}
 use Rattle.session.proofs.Limits.{legal-no, legal-unsound, legal-by}
 use borrow.Author.Needs.{needs}
 use Rattle.session.proofs.is_legal.Statement.{statement}

@@ -9,7 +9,8 @@ use Rattle.measure.specs.Counts.{natOf}
 use Rattle.rules.specs.Printers as printers
 use Rattle.rules.specs.Refusals.{Judged, value, _>>=_}
 use Rattle.rules.specs.Numbers.{rows, units}
-use Rattle.rules.specs.Settings.{pageRange, withCentred}
+use Rattle.rules.specs.Settings.{pageRange}
+use Rattle.rules.specs.LayoutSetters.{withCentred}
 use Rattle.rules.specs.Settings as rule
 use Rattle.rules.specs.Acts.{countOf, setting, pageLength, indentTotal, spacing, centring}
 use Rattle.rules.specs.Filling.{begun}

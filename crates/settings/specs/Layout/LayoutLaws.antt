@@ -10,13 +10,15 @@ use lib.IntN.{ℤ, pos, negsuc}
 use borrow.Author.Tests.{leb-true}
 use Rattle.rules.specs.Printers.{Printer}
 use Rattle.rules.specs.Refusals.{Judged, value, bad, _>>=_}
-use Rattle.rules.specs.RefusalLaws.{Every, here, refused, of-value, every, every-of, tested-every, both}
+use Rattle.rules.specs.Laws.Refusals.{Every, here, refused, of-value, every, every-of, tested-every, both}
 use Rattle.rules.specs.Numbers.{cells, rows, signed}
-use Rattle.rules.specs.Settings.{Setting, Layout, changed, inRange, lineRange, indentRange, offsetRange, withLine, withIndent, withOffset, withPageLength, withFilling, withAdjusting, withCentred}
+use Rattle.rules.specs.Settings.{Setting, Layout, changed, inRange, lineRange, indentRange, offsetRange}
+use Rattle.rules.specs.LayoutSetters.{withLine, withIndent, withOffset, withPageLength, withFilling, withAdjusting, withCentred}
 use Rattle.rules.specs.Filling.{indentNow, roomNow, begun}
 use Rattle.rules.specs.TextLines.{counted}
-use Rattle.rules.specs.State.{State, withLayout}
-use Rattle.rules.specs.Acts.{argument, laidOut, setting, pageLength, indentTotal, centring, act, perform}
+use Rattle.rules.specs.State.{State}
+use Rattle.rules.specs.StateSetters.{withLayout}
+use Rattle.rules.specs.Acts.{argument, setting, pageLength, indentTotal, centring, perform}
 use Rattle.rules.specs.declared.Breaking.{Breaking}
 use Rattle.rules.specs.declared.Breaking.the-variants.{Br, Sp, Bp, Fi, Nf, Ce, In, Ti}
 use Rattle.rules.specs.declared.Unbreaking.{Unbreaking}
@@ -29,29 +31,6 @@ use Rattle.settings.specs.Layout.Layouts.{layoutOf, newLayoutIs, Limits,
 -- what holds of a new layout that is given
 pub of-new : {P : Layout → Type 0} (r : NewLayout) (z : own.Layout) → Every P (newLayoutIs r) → r ≡ new-layout.Is z → P (layoutOf z)
 of-new r z h e = of-value h (ap newLayoutIs e)
-
--- the requests that break and then change the layout alone
-abbrev pub layoutActs : Breaking → Bool
-layoutActs Br = false
-layoutActs Sp = false
-layoutActs Bp = false
-layoutActs Fi = true
-layoutActs Nf = true
-layoutActs Ce = true
-layoutActs In = true
-layoutActs Ti = true
-
--- such a request in a state
-pub acted-is : (p : Printer) (q : Breaking) (l : List ℕ) (s : State) → layoutActs q ≡ true → laidOut (actedOf p q (argument 0 l) (s .layout)) s ≡ act p q l s
-unfolding act
-acted-is p Br l s h = absurd (false≢true h)
-acted-is p Sp l s h = absurd (false≢true h)
-acted-is p Bp l s h = absurd (false≢true h)
-acted-is p Fi l s h = refl
-acted-is p Nf l s h = refl
-acted-is p Ce l s h = refl
-acted-is p In l s h = refl
-acted-is p Ti l s h = refl
 
 -- the requests that do not break and change the layout alone
 abbrev pub layoutKeeps : Unbreaking → Bool

@@ -10,8 +10,9 @@ use Rattle.measure.specs.Counts.{acrossOf, downOf}
 use Rattle.rules.specs.Printers.{tenToTheInch}
 use Rattle.rules.specs.Printers as printers
 use Rattle.rules.specs.Refusals.{Judged, value, bad, _>>=_}
-use Rattle.rules.specs.RefusalLaws.{Every}
-use Rattle.rules.specs.Settings.{Across, Down, lineRange, indentRange, offsetRange, withLine, withIndent, withOffset, withPageLength, withFilling, withAdjusting, withCentred}
+use Rattle.rules.specs.Laws.Refusals.{Every}
+use Rattle.rules.specs.Settings.{Across, Down, lineRange, indentRange, offsetRange}
+use Rattle.rules.specs.LayoutSetters.{layout, withLine, withIndent, withOffset, withPageLength, withFilling, withAdjusting, withCentred}
 use Rattle.rules.specs.Settings as rule
 use Rattle.rules.specs.Acts.{setting, pageLength, indentTotal, centring}
 use Rattle.rules.specs.Filling.{roomNow}
@@ -51,7 +52,7 @@ totalOf total.Nothing = none
 
 -- the rules' layout
 abbrev pub layoutOf : Layout → rule.Layout
-layoutOf y = rule.layout (settingOf (y .line)) (settingOf (y .indent)) (settingOf (y .offset)) (downOf (y .page)) (totalOf (y .total)) (y .filling) (y .adjusting) (y .centred)
+layoutOf y = layout (settingOf (y .line)) (settingOf (y .indent)) (settingOf (y .offset)) (downOf (y .page)) (totalOf (y .total)) (y .filling) (y .adjusting) (y .centred)
 
 -- "ll 1 to 240 cells, in and the ti total 0 to 239, po 0 to 120, pl 1 to 500 rows": the most of each, and of the value before
 pub record Limits (y : rule.Layout) : Type 0 where

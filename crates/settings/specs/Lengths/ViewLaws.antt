@@ -6,16 +6,12 @@ use Prim.Native.Nat.{ℕ, _<_}
 use native.Mathlib.Omega.{arith}
 use lib.ListN.{length}
 use Rattle.measure.specs.declared.Pitch.{Pitch}
-use Rattle.rules.specs.Refusals.{Judged, value, bad, _>>=_}
+use Rattle.rules.specs.Refusals.{value, bad, _>>=_}
 use Rattle.rules.specs.Numbers.{Value, cells, signed}
-use Rattle.rules.specs.Settings.{Layout, withTotal, changed, indentRange}
-use Rattle.rules.specs.Acts.{pageLength, indentTotal}
-use Rattle.settings.specs.Lengths.Views.{printer, pageLengthIn, totalIn}
-
--- pl
-pub page-length-is : (q : Pitch) (page used old : ℕ) (l : List ℕ) → 0 < length l → pageLengthIn q used old l ≡ pageLength (printer q page) used old l
-page-length-is q page used old [] h = absurd (omega arith)
-page-length-is q page used old (b ∷ l) h = refl
+use Rattle.rules.specs.Settings.{Layout, changed, indentRange}
+use Rattle.rules.specs.LayoutSetters.{withTotal}
+use Rattle.rules.specs.Acts.{indentTotal}
+use Rattle.settings.specs.Lengths.Views.{printer, totalIn}
 
 kept : (v : Value) (y : Layout) (l : List ℕ)
     → ((v >>= λ z. indentRange (changed (signed l) (y .indent .now) z)) >>= λ n. value (withTotal (some n) y))

@@ -1,9 +1,8 @@
 -- What the answers stand for, in the rules' terms, over a pitch. Assumes nothing.
-use mathlib.Core.Path.{_≡_, refl}
-use mathlib.Core.Option.{Option, none, some}
+use mathlib.Core.Path.{_≡_}
 use mathlib.Core.List.{List, [], _∷_}
 use Prim.Native.Nat.{ℕ}
-use lib.IntN.{ℤ, pos}
+use lib.IntN.{ℤ}
 use Rattle.measure.specs.declared.Pitch.{Pitch}
 use Rattle.measure.specs.Counts.{acrossOf, downOf}
 use Rattle.rules.specs.Printers.{Printer}

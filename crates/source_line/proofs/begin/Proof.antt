@@ -1,5 +1,5 @@
 -- `source_line::begin` meets its contract. Assumes nothing.
-use mathlib.Core.Path.{_≡_, refl, sym, ap, ap₂, _∙_}
+use mathlib.Core.Path.{_≡_, _∙_}
 use borrow.Author.Needs.{needs}
 use Rattle.source_line.proofs.Laws.{begun-first, begun-later}
 use Rattle.source_line.proofs.begin.Statement.{statement}

@@ -10,7 +10,7 @@ use lib.Seq.{drop-drop, length-take-le, getD-take, take-take, length-paste, past
 use Rattle.rules.specs.declared.Name.{Name}
 use Rattle.rules.specs.Names.{twoBytes, sameName}
 use Rattle.rules.specs.Texts.{Text, text, remove, live}
-use Rattle.rules.specs.TextLaws.{remove-first, remove-later}
+use Rattle.rules.specs.Laws.Texts.{remove-first, remove-later}
 use Rattle.texts.specs.declared.table.Place.{Place}
 use Rattle.texts.specs.declared.table.Place.the-variants.{At, Not}
 use Rattle.texts.specs.Table.Table.{zipWith, Row, row, asPair, namesOf, rowsOf, sum, cut, textsOf, Lies}

@@ -1,26 +1,19 @@
 -- How the checks of lent columns go on at a row. Assumes nothing.
-use mathlib.Core.Path.{_≡_, refl, sym, ap, _∙_}
-use mathlib.Core.Bool.{Bool, true, false, not, _&&_}
+use mathlib.Core.Path.{_≡_, sym, ap, _∙_}
+use mathlib.Core.Bool.{true, false, not, _&&_}
 use mathlib.Core.List.{List, [], _∷_}
 use Prim.Native.Nat.{ℕ, suc, _+_, _≤_, _<_}
 use native.Mathlib.Numerals.{add-one}
 use native.Mathlib.Omega.{arith}
-use lib.Dec.{leb}
 use lib.ListN.{length, take, drop, getD, drop-of-length-le}
 use lib.Seq.{drop-cons}
 use borrow.Author.Tests.{le-leb, lt-leb}
 use Rattle.rules.specs.declared.Name.{Name}
-use Rattle.rules.specs.Names.{sameName, twoBytes}
-use Rattle.rules.specs.Texts.{live}
-use Rattle.texts.specs.Table.Table.{namesOf, sum, textsOf, Names, Lies}
+use Rattle.rules.specs.Names.{sameName}
+use Rattle.texts.specs.Table.Table.{namesOf, sum, Names}
 use Rattle.texts.specs.Table.Changes.{roomOf}
-use Rattle.texts.specs.Table.Checks.{NameColumns, isTable, table-short, lacks, allDistinct, noNameTwice}
+use Rattle.texts.specs.Table.Checks.{NameColumns, isTable, lacks, allDistinct, noNameTwice}
 use Rattle.texts.proofs.table.Lists.{sum-step, sum-mono}
-use Rattle.texts.proofs.table.ChangeLaws.{texts-live}
-
--- "live text past 8,192 bytes": the texts of columns that pass the test have no more
-pub table-live : (st fs ss ks ls : List ℕ) (n : ℕ) → Lies st fs ss ks ls n → isTable (length st) ls n ≡ true → live (textsOf st fs ss ks ls n) ≤ 8192
-table-live st fs ss ks ls n h e = omega (arith, texts-live st fs ss ks ls n h, table-short st fs ss ks ls n e)
 
 -- the sum of lengths
 

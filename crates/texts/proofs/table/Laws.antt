@@ -13,9 +13,9 @@ use borrow.Author.Tests.{eq-eqb, ne-eqb}
 use Rattle.rules.specs.declared.Name.{Name}
 use Rattle.rules.specs.declared.Kind.the-variants.{String}
 use Rattle.rules.specs.Names.{twoBytes, sameName}
-use Rattle.rules.specs.NameLaws.{same-one}
+use Rattle.rules.specs.Laws.Names.{same-one}
 use Rattle.rules.specs.Texts.{Text, text, textOf}
-use Rattle.rules.specs.TextLaws.{found-first, found-later}
+use Rattle.rules.specs.Laws.Texts.{found-first, found-later}
 use Rattle.texts.specs.declared.table.Place.{Place}
 use Rattle.texts.specs.declared.table.Place.the-variants.{At, Not}
 use Rattle.texts.specs.Table.Table.{zipWith, kindOf, Row, row, asPair, namesOf, rowsOf, sum, cut, textsOf, Names, Lies}

@@ -23,7 +23,7 @@ lesser false n m = m
 abbrev pub roomOf : (store : ℕ) → ℕ
 roomOf n = lesser (ltb n 8192) n 8192
 
--- In a store of 8,192 bytes a change is the rules' own.
+-- Sanity: in a store of 8,192 bytes a change is the rules' own.
 pub room-whole : roomOf 8192 ≡ 8192
 room-whole = refl
 

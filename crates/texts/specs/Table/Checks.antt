@@ -1,5 +1,5 @@
 -- Whether lent columns are a table of texts: as tests, with the laws that they hold exactly where the table's invariants do. Assumes nothing.
-use mathlib.Core.Path.{_≡_, refl, sym, ap, _∙_, subst}
+use mathlib.Core.Path.{_≡_, refl, sym, ap, _∙_}
 use mathlib.Core.Bool.{Bool, true, false, not, _&&_, false≢true}
 use mathlib.Core.List.{List, [], _∷_}
 use mathlib.Core.Option.{none}
@@ -11,10 +11,10 @@ use borrow.Author.Tests.{leb-true, le-leb, ltb-true, ltb-false}
 use Rattle.rules.specs.declared.Name.{Name}
 use Rattle.rules.specs.Bytes.{firstWhere}
 use Rattle.rules.specs.Names.{sameName, twoBytes}
-use Rattle.rules.specs.RefusalLaws.{both}
-use Rattle.rules.specs.Texts.{Text, text, textOf}
-use Rattle.rules.specs.TextLaws.{Distinct, found-later, none-first, none-later}
-use Rattle.texts.specs.Table.Table.{zipWith, Row, row, asPair, namesOf, rowsOf, sum, cut, textsOf, Names, Lies}
+use Rattle.rules.specs.Laws.Refusals.{both}
+use Rattle.rules.specs.Texts.{text, textOf}
+use Rattle.rules.specs.Laws.Texts.{Distinct, found-later, none-first, none-later}
+use Rattle.texts.specs.Table.Table.{zipWith, Row, row, asPair, namesOf, rowsOf, sum, cut, textsOf, Lies}
 use Rattle.texts.specs.Table.Changes.{lesser, roomOf}
 
 -- the columns of names have all their rows

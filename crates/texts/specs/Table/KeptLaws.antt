@@ -7,11 +7,11 @@ use lib.ListN.{length}
 use Rattle.rules.specs.declared.Name.{Name}
 use Rattle.rules.specs.Names.{sameName}
 use Rattle.rules.specs.Texts.{textOf}
-use Rattle.rules.specs.TextLaws.{kept-remove, kept-define, kept-open, kept-close}
+use Rattle.rules.specs.Laws.Texts.{kept-remove, kept-define, kept-open}
 use Rattle.texts.specs.declared.table.Stored.{Stored}
 use Rattle.texts.specs.declared.table.Stored.the-variants.{Set, Full}
 use Rattle.texts.specs.Table.Table.{textsOf}
-use Rattle.texts.specs.Table.Changes.{roomOf, countOf, bodyOf, RemovedTo, DefinedTo, OpenedTo, ClosedTo}
+use Rattle.texts.specs.Table.Changes.{roomOf, countOf, RemovedTo, DefinedTo, OpenedTo}
 
 module _ (st fs ss ks ls : List ℕ) (n : ℕ) (m : Name) (st' fs' ss' ks' ls' : List ℕ) (k : Name) (e : sameName k m ≡ false) where
   pub kept-removed : (r : ℕ) → RemovedTo st fs ss ks ls n m r st' fs' ss' ks' ls' → textOf k (textsOf st' fs' ss' ks' ls' r) ≡ textOf k (textsOf st fs ss ks ls n)
@@ -24,6 +24,3 @@ module _ (st fs ss ks ls : List ℕ) (n : ℕ) (m : Name) (st' fs' ss' ks' ls' :
   pub kept-opened : (r : Stored) → OpenedTo st fs ss ks ls n m r st' fs' ss' ks' ls' → textOf k (textsOf st' fs' ss' ks' ls' (countOf r n)) ≡ textOf k (textsOf st fs ss ks ls n)
   kept-opened (Set q) c = kept-open k m (textsOf st fs ss ks ls n) (textsOf st' fs' ss' ks' ls' q) e (sym (c .is))
   kept-opened Full c = let h = c .kept in rw (h .0, h .1, h .2, h .3, h .4)
-
-  pub kept-closed : (o r : ℕ) → ClosedTo st fs ss ks ls n o m r fs' ss' ks' ls' → textOf k (textsOf st fs' ss' ks' ls' r) ≡ textOf k (textsOf st fs ss ks ls n)
-  kept-closed o r c = rw (c .is) (kept-close k m (bodyOf st ls n o) (textsOf st fs ss ks ls n) e)

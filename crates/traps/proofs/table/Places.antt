@@ -15,7 +15,7 @@ use mir.Facts.{toZ-ofZ}
 use Rattle.rules.specs.declared.Trap.{Trap}
 use Rattle.rules.specs.Numbers.{equalZ}
 use Rattle.rules.specs.Traps.{someIf, rowOf}
-use Rattle.rules.specs.TrapLaws.{equal-self, equal-one}
+use Rattle.rules.specs.Laws.Traps.{equal-self, equal-one}
 use Rattle.traps.specs.declared.table.Row.{Row}
 use Rattle.traps.specs.Table.Table.{rowIs}
 

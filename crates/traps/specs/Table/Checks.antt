@@ -7,8 +7,8 @@ use lib.IntN.{ℤ}
 use borrow.Author.Tests.{leb-true, le-leb}
 use Rattle.rules.specs.declared.Trap.{Trap}
 use Rattle.rules.specs.Numbers.{equalZ}
-use Rattle.rules.specs.RefusalLaws.{both}
-use Rattle.rules.specs.TrapLaws.{Lacks, Single}
+use Rattle.rules.specs.Laws.Refusals.{both}
+use Rattle.rules.specs.Laws.Traps.{Lacks, Single}
 use Rattle.traps.specs.declared.table.Planted.{Planted}
 use Rattle.traps.specs.Table.Table.{Within, plantedOf}
 

@@ -15,7 +15,7 @@ use Rattle.rules.specs.declared.Name.{Name}
 use Rattle.rules.specs.declared.Trap.{Trap}
 use Rattle.rules.specs.Numbers.{equalZ}
 use Rattle.rules.specs.Traps.{rowOf, isRow, seenAt, nearer, nearestTrap, plant, removeTrap}
-use Rattle.rules.specs.TrapLaws.{trap, plant-here, plant-on, remove-here, remove-on, seen-first, seen-later, remove-length}
+use Rattle.rules.specs.Laws.Traps.{trap, plant-here, plant-on, remove-here, remove-on, seen-first, seen-later, remove-length}
 use Rattle.traps.specs.declared.table.Planted.{Planted}
 use Rattle.traps.specs.declared.table.Planting.{Planting}
 use Rattle.traps.specs.Table.Table.{Within, plantedOf, holding, indexOf, without, keptOr, plantingOf}
@@ -179,11 +179,3 @@ within-plant p z n w = go (leb (length (plant z n (plantedOf p))) 16) refl
 
 pub within-remove : (p : Planted) (z : ℤ) → Within p → Within (holding p (removeTrap z (plantedOf p)))
 within-remove p z w = omega (arith, remove-length z (plantedOf p), length-take (p .count) (p .traps))
-
--- What a table that was not full holds after planting.
-pub plant-list : (p : Planted) (z : ℤ) (n : Name) → plantingOf p z n .full ≡ false → plantedOf (plantingOf p z n .planted) ≡ plant z n (plantedOf p)
-plant-list p z n = go (leb (length (plant z n (plantedOf p))) 16) refl
-  where
-    go : (b : Bool) → leb (length (plant z n (plantedOf p))) 16 ≡ b → plantingOf p z n .full ≡ false → plantedOf (plantingOf p z n .planted) ≡ plant z n (plantedOf p)
-    go true e f = rw e (holding-list p (plant z n (plantedOf p)))
-    go false e f = let g : true ≡ false = rw e at f in let y : _≡_ {A = ℕ} 0 1 = cc in absurd (omega arith)

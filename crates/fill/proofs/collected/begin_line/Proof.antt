@@ -4,7 +4,7 @@ use mathlib.Core.Path.{_∙_}
 use native.Mathlib.Omega.{arith}
 use denote.Ref.{now}
 use lib.Seq.{length-sets}
-use Rattle.rules.specs.FillingLaws.{printed-length}
+use Rattle.rules.specs.Laws.Filling.{printed-length}
 use Rattle.fill.specs.Words.Parts.{part}
 use Rattle.fill.proofs.collected.Writing.{part-width, begin-cells, begin-length}
 use Rattle.fill.proofs.collected.begin_line.Statement.{statement}

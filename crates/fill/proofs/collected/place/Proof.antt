@@ -3,7 +3,7 @@ use borrow.Author.Needs.{needs}
 use native.Mathlib.Omega.{arith}
 use denote.Ref.{now}
 use Prim.Native.Nat.{_-_}
-use Rattle.rules.specs.FillingLaws.{gapCells-length}
+use Rattle.rules.specs.Laws.Filling.{gapCells-length}
 use Rattle.fill.proofs.collected.Writing.{part-width}
 use Rattle.fill.proofs.collected.Placing.{Placing, placing-start, placed-all, placed-full, placing-next, word-width, word-some}
 use Rattle.fill.proofs.collected.place.Statement.{statement}

@@ -5,7 +5,7 @@ use native.Mathlib.Omega.{arith}
 use denote.Ref.{now}
 use lib.ListN.{length-set}
 use lib.Seq.{length-sets}
-use Rattle.rules.specs.FillingLaws.{gapCells-length}
+use Rattle.rules.specs.Laws.Filling.{gapCells-length}
 use Rattle.fill.proofs.collected.Writing.{gap-cells}
 use Rattle.fill.proofs.collected.put_gap.Statement.{statement}
 use Rattle.fill.proofs.collected.put_gap.Tie as tie

@@ -7,7 +7,7 @@ use Prim.Native.Nat.{ℕ, _+_, _-_, _≤_, _<_}
 use lib.ListN.{length, length-set}
 use lib.Seq.{sets}
 use Rattle.rules.specs.Filling.{printed}
-use Rattle.rules.specs.FillingLaws.{printed-length}
+use Rattle.rules.specs.Laws.Filling.{printed-length}
 use Rattle.fill.specs.Words.Parts.{part}
 use Rattle.fill.proofs.collected.Writing.{write-mark, write-byte, count-mark, count-byte, printed-end}
 use Rattle.fill.proofs.collected.put_word.Statement.{statement}

@@ -6,7 +6,7 @@ use lib.ListN.{length, replicate}
 use Prim.Native.Nat.{_≤_, _<_}
 use lib.Seq.{length-sets}
 use Rattle.rules.specs.Filling.{printed, width}
-use Rattle.rules.specs.FillingLaws.{printed-length}
+use Rattle.rules.specs.Laws.Filling.{printed-length}
 use Rattle.fill.specs.Words.Parts.{part}
 use Rattle.fill.proofs.unfilled.Rows.{row-done, row-alone, text-none, text-row, text-short}
 use Rattle.fill.proofs.unfilled.put_text.Statement.{statement}

@@ -6,7 +6,7 @@ use denote.Ref.{now}
 use Prim.Native.Nat.{_+_, _-_, _≤_}
 use Rattle.rules.specs.Filling.{words, row, left, width, span}
 use Rattle.measure.specs.Counts.{acrossOf}
-use Rattle.rules.specs.FillingLaws.{printed-length}
+use Rattle.rules.specs.Laws.Filling.{printed-length}
 use Rattle.fill.specs.Words.Parts.{part}
 use Rattle.fill.specs.Unfilled.Lines.{oneIf}
 use Rattle.fill.proofs.collected.Writing.{part-width}

@@ -9,7 +9,8 @@ use Rattle.rules.specs.Rows.{goes, refuses}
 use Rattle.rules.specs.TextLines.{textLine}
 use Rattle.rules.specs.ControlLines.{meaningOf, obey}
 use Rattle.settings.specs.Layout.Layouts.{printerOf}
-use Rattle.fill.specs.Words.Parts.{part, part-front}
+use Rattle.fill.specs.Words.Parts.{part}
+use Rattle.fill.proofs.words.Parts.{part-zero}
 use Rattle.page.specs.declared.springs.Way.the-variants.{On, Refused}
 use Rattle.state.specs.Whole.{textsIn, stateIn, OpensIn}
 use Rattle.state.specs.WholeLaws.{desk-did, did-as, stay-did}
@@ -58,7 +59,7 @@ slice-requires-2 : tie.Need-slice-requires-2
 slice-requires-2 c κs = let y = (c .before .before .before .before .before .before .before .before .before .before .before) in let a = y .args in let b = y .pre .0 in let h = control-closed (a .status .opening .there) (textsIn ((wholeOf (a .status) (now (a .cells)) (now (a .arena)) (now (a .ends)) (now (a .store)) (now (a .text-firsts)) (now (a .text-seconds)) (now (a .kinds)) (now (a .lengths)) (now (a .firsts)) (now (a .seconds)) (now (a .values)) (now (a .steps))) .texts)) _ _ _ _ (subst (SoundDealt (a .status .opening .there) (textsIn ((wholeOf (a .status) (now (a .cells)) (now (a .arena)) (now (a .ends)) (now (a .store)) (now (a .text-firsts)) (now (a .text-seconds)) (now (a .kinds)) (now (a .lengths)) (now (a .firsts)) (now (a .seconds)) (now (a .values)) (now (a .steps))) .texts))) (c .before .before .dealt3 .given .1) (y .pre .2)) in (omega arith, omega (arith, h .1, y .pre .1))
 
 obey-requires : tie.Need-obey-requires
-obey-requires c κs = let y = (c .before .before .before .before .before .before .before .before .before .before .before .before .before .before .before .before .before .before .before .before .before .before .before .before .before) in let a = y .args in let b = y .pre .0 in let h = control-closed (a .status .opening .there) (textsIn ((wholeOf (a .status) (now (a .cells)) (now (a .arena)) (now (a .ends)) (now (a .store)) (now (a .text-firsts)) (now (a .text-seconds)) (now (a .kinds)) (now (a .lengths)) (now (a .firsts)) (now (a .seconds)) (now (a .values)) (now (a .steps))) .texts)) _ _ _ _ (subst (SoundDealt (a .status .opening .there) (textsIn ((wholeOf (a .status) (now (a .cells)) (now (a .arena)) (now (a .ends)) (now (a .store)) (now (a .text-firsts)) (now (a .text-seconds)) (now (a .kinds)) (now (a .lengths)) (now (a .firsts)) (now (a .seconds)) (now (a .values)) (now (a .steps))) .texts))) (c .before .before .before .before .before .before .before .before .before .before .before .before .before .before .before .before .dealt3 .given .1) (y .pre .2)) in (record { sound = b .sound; items = b .items; short = rw (c .before .before .before .before .before .before .before .before .before .before .before .before .before .slice2 .ensures ∙ part-front _ _) (front-short (now (a .out)) _ (h .1)); long = b .long; printer = b .printer }, h .0, h .2)
+obey-requires c κs = let y = (c .before .before .before .before .before .before .before .before .before .before .before .before .before .before .before .before .before .before .before .before .before .before .before .before .before) in let a = y .args in let b = y .pre .0 in let h = control-closed (a .status .opening .there) (textsIn ((wholeOf (a .status) (now (a .cells)) (now (a .arena)) (now (a .ends)) (now (a .store)) (now (a .text-firsts)) (now (a .text-seconds)) (now (a .kinds)) (now (a .lengths)) (now (a .firsts)) (now (a .seconds)) (now (a .values)) (now (a .steps))) .texts)) _ _ _ _ (subst (SoundDealt (a .status .opening .there) (textsIn ((wholeOf (a .status) (now (a .cells)) (now (a .arena)) (now (a .ends)) (now (a .store)) (now (a .text-firsts)) (now (a .text-seconds)) (now (a .kinds)) (now (a .lengths)) (now (a .firsts)) (now (a .seconds)) (now (a .values)) (now (a .steps))) .texts))) (c .before .before .before .before .before .before .before .before .before .before .before .before .before .before .before .before .dealt3 .given .1) (y .pre .2)) in (record { sound = b .sound; items = b .items; short = rw (c .before .before .before .before .before .before .before .before .before .before .before .before .before .slice2 .ensures ∙ part-zero _ _) (front-short (now (a .out)) _ (h .1)); long = b .long; printer = b .printer }, h .0, h .2)
 
 enum-told-2 : tie.Need-enum-told-2
 enum-told-2 c = search needs
@@ -82,16 +83,16 @@ same-length-2 : tie.Need-same-length-2
 same-length-2 c = search needs
 
 returns-2 : tie.Need-returns-2
-returns-2 c = let y = (c .before .before .before .before .before .before .before .before .before .before .before .before .before .before .before .before .before .before) in let a = y .args in let b = y .pre .0 in let h = keeps-open (a .status .opening .there) (textsIn ((wholeOf (a .status) (now (a .cells)) (now (a .arena)) (now (a .ends)) (now (a .store)) (now (a .text-firsts)) (now (a .text-seconds)) (now (a .kinds)) (now (a .lengths)) (now (a .firsts)) (now (a .seconds)) (now (a .values)) (now (a .steps))) .texts)) _ (subst (SoundDealt (a .status .opening .there) (textsIn ((wholeOf (a .status) (now (a .cells)) (now (a .arena)) (now (a .ends)) (now (a .store)) (now (a .text-firsts)) (now (a .text-seconds)) (now (a .kinds)) (now (a .lengths)) (now (a .firsts)) (now (a .seconds)) (now (a .values)) (now (a .steps))) .texts))) (c .before .before .before .before .before .before .before .before .before .dealt .given .1) (y .pre .2)) in rw (c .before .before .before .before .before .before .before .before .before .dealt .given .1, c .kept .ensures) (did-as _ (dealtOf (printerOf (a .printer)) (dealt.Keeps (c .before .before .before .before .before .before .before .before .before .dealt .given .0 .0)) (now (a .out))) (wholeOf (a .status) (now (a .cells)) (now (a .arena)) (now (a .ends)) (now (a .store)) (now (a .text-firsts)) (now (a .text-seconds)) (now (a .kinds)) (now (a .lengths)) (now (a .firsts)) (now (a .seconds)) (now (a .values)) (now (a .steps))) _ _ _ _ (λ x. ap (λ (l : List ℕ). keepsIn (printerOf (a .printer)) (stateIn (wholeOf (a .status) (now (a .cells)) (now (a .arena)) (now (a .ends)) (now (a .store)) (now (a .text-firsts)) (now (a .text-seconds)) (now (a .kinds)) (now (a .lengths)) (now (a .firsts)) (now (a .seconds)) (now (a .values)) (now (a .steps))) x .tables .opened) l (stateIn (wholeOf (a .status) (now (a .cells)) (now (a .arena)) (now (a .ends)) (now (a .store)) (now (a .text-firsts)) (now (a .text-seconds)) (now (a .kinds)) (now (a .lengths)) (now (a .firsts)) (now (a .seconds)) (now (a .values)) (now (a .steps))) x)) (c .before .before .before .before .before .before .slice .ensures ∙ part-front _ _)) (kept-did (a .status) (now (a .cells)) (now (a .arena)) (now (a .ends)) (now (a .store)) (now (a .text-firsts)) (now (a .text-seconds)) (now (a .kinds)) (now (a .lengths)) (now (a .firsts)) (now (a .seconds)) (now (a .values)) (now (a .steps)) (now (a .out)) (now (a .row)) (a .printer) b (printerOf (a .printer)) _ _ (h .0) _ (c .before .before .before .keep-line .ensures)))
+returns-2 c = let y = (c .before .before .before .before .before .before .before .before .before .before .before .before .before .before .before .before .before .before) in let a = y .args in let b = y .pre .0 in let h = keeps-open (a .status .opening .there) (textsIn ((wholeOf (a .status) (now (a .cells)) (now (a .arena)) (now (a .ends)) (now (a .store)) (now (a .text-firsts)) (now (a .text-seconds)) (now (a .kinds)) (now (a .lengths)) (now (a .firsts)) (now (a .seconds)) (now (a .values)) (now (a .steps))) .texts)) _ (subst (SoundDealt (a .status .opening .there) (textsIn ((wholeOf (a .status) (now (a .cells)) (now (a .arena)) (now (a .ends)) (now (a .store)) (now (a .text-firsts)) (now (a .text-seconds)) (now (a .kinds)) (now (a .lengths)) (now (a .firsts)) (now (a .seconds)) (now (a .values)) (now (a .steps))) .texts))) (c .before .before .before .before .before .before .before .before .before .dealt .given .1) (y .pre .2)) in rw (c .before .before .before .before .before .before .before .before .before .dealt .given .1, c .kept .ensures) (did-as _ (dealtOf (printerOf (a .printer)) (dealt.Keeps (c .before .before .before .before .before .before .before .before .before .dealt .given .0 .0)) (now (a .out))) (wholeOf (a .status) (now (a .cells)) (now (a .arena)) (now (a .ends)) (now (a .store)) (now (a .text-firsts)) (now (a .text-seconds)) (now (a .kinds)) (now (a .lengths)) (now (a .firsts)) (now (a .seconds)) (now (a .values)) (now (a .steps))) _ _ _ _ (λ x. ap (λ (l : List ℕ). keepsIn (printerOf (a .printer)) (stateIn (wholeOf (a .status) (now (a .cells)) (now (a .arena)) (now (a .ends)) (now (a .store)) (now (a .text-firsts)) (now (a .text-seconds)) (now (a .kinds)) (now (a .lengths)) (now (a .firsts)) (now (a .seconds)) (now (a .values)) (now (a .steps))) x .tables .opened) l (stateIn (wholeOf (a .status) (now (a .cells)) (now (a .arena)) (now (a .ends)) (now (a .store)) (now (a .text-firsts)) (now (a .text-seconds)) (now (a .kinds)) (now (a .lengths)) (now (a .firsts)) (now (a .seconds)) (now (a .values)) (now (a .steps))) x)) (c .before .before .before .before .before .before .slice .ensures ∙ part-zero _ _)) (kept-did (a .status) (now (a .cells)) (now (a .arena)) (now (a .ends)) (now (a .store)) (now (a .text-firsts)) (now (a .text-seconds)) (now (a .kinds)) (now (a .lengths)) (now (a .firsts)) (now (a .seconds)) (now (a .values)) (now (a .steps)) (now (a .out)) (now (a .row)) (a .printer) b (printerOf (a .printer)) _ _ (h .0) _ (c .before .before .before .keep-line .ensures)))
 
 returns-3 : tie.Need-returns-3
-returns-3 c = let y = (c .before .before .before .before .before .before .before .before .before .before .before .before .before .before .before .before .before .before) in let a = y .args in let b = y .pre .0 in rw (c .before .before .before .before .before .before .before .before .before .dealt2 .given .1, c .moved .ensures) (did-as _ (dealtOf (printerOf (a .printer)) (dealt.Words (c .before .before .before .before .before .before .before .before .before .dealt2 .given .0 .0)) (now (a .out))) (wholeOf (a .status) (now (a .cells)) (now (a .arena)) (now (a .ends)) (now (a .store)) (now (a .text-firsts)) (now (a .text-seconds)) (now (a .kinds)) (now (a .lengths)) (now (a .firsts)) (now (a .seconds)) (now (a .values)) (now (a .steps))) _ _ _ _ (λ x. sym (ap (λ (l : List ℕ). textLine l (stateIn (wholeOf (a .status) (now (a .cells)) (now (a .arena)) (now (a .ends)) (now (a .store)) (now (a .text-firsts)) (now (a .text-seconds)) (now (a .kinds)) (now (a .lengths)) (now (a .firsts)) (now (a .seconds)) (now (a .values)) (now (a .steps))) x)) (sym (part-front (now (a .out)) (c .before .before .before .before .before .before .before .before .before .dealt2 .given .0 .0))))) (desk-did (λ ts s. textLine (part (now (a .out)) 0 (c .before .before .before .before .before .before .before .before .before .dealt2 .given .0 .0)) s) (wholeOf (a .status) (now (a .cells)) (now (a .arena)) (now (a .ends)) (now (a .store)) (now (a .text-firsts)) (now (a .text-seconds)) (now (a .kinds)) (now (a .lengths)) (now (a .firsts)) (now (a .seconds)) (now (a .values)) (now (a .steps))) _ _ _ _ (b .sound) (c .before .text-line .ensures)))
+returns-3 c = let y = (c .before .before .before .before .before .before .before .before .before .before .before .before .before .before .before .before .before .before) in let a = y .args in let b = y .pre .0 in rw (c .before .before .before .before .before .before .before .before .before .dealt2 .given .1, c .moved .ensures) (did-as _ (dealtOf (printerOf (a .printer)) (dealt.Words (c .before .before .before .before .before .before .before .before .before .dealt2 .given .0 .0)) (now (a .out))) (wholeOf (a .status) (now (a .cells)) (now (a .arena)) (now (a .ends)) (now (a .store)) (now (a .text-firsts)) (now (a .text-seconds)) (now (a .kinds)) (now (a .lengths)) (now (a .firsts)) (now (a .seconds)) (now (a .values)) (now (a .steps))) _ _ _ _ (λ x. sym (ap (λ (l : List ℕ). textLine l (stateIn (wholeOf (a .status) (now (a .cells)) (now (a .arena)) (now (a .ends)) (now (a .store)) (now (a .text-firsts)) (now (a .text-seconds)) (now (a .kinds)) (now (a .lengths)) (now (a .firsts)) (now (a .seconds)) (now (a .values)) (now (a .steps))) x)) (sym (part-zero (now (a .out)) (c .before .before .before .before .before .before .before .before .before .dealt2 .given .0 .0))))) (desk-did (λ ts s. textLine (part (now (a .out)) 0 (c .before .before .before .before .before .before .before .before .before .dealt2 .given .0 .0)) s) (wholeOf (a .status) (now (a .cells)) (now (a .arena)) (now (a .ends)) (now (a .store)) (now (a .text-firsts)) (now (a .text-seconds)) (now (a .kinds)) (now (a .lengths)) (now (a .firsts)) (now (a .seconds)) (now (a .values)) (now (a .steps))) _ _ _ _ (b .sound) (c .before .text-line .ensures)))
 
 same-length-3 : tie.Need-same-length-3
 same-length-3 c = search needs
 
 returns-4 : tie.Need-returns-4
-returns-4 c = let y = (c .before .before .before .before .before .before .before .before .before .before .before .before .before .before .before .before .before .before .before .before .before .before .before .before .before .before .before .before) in let a = y .args in let g = c .before .before .before .before .before .before .before .before .before .before .before .before .before .before .before .before .before .before .before .dealt3 .given .0 in rw (c .before .before .before .before .before .before .before .before .before .before .before .before .before .before .before .before .before .before .before .dealt3 .given .1) (did-as _ (dealtOf (printerOf (a .printer)) (dealt.Control (g .0) (g .1 .0) (g .1 .1 .0) (g .1 .1 .1 .0)) (now (a .out))) (wholeOf (a .status) (now (a .cells)) (now (a .arena)) (now (a .ends)) (now (a .store)) (now (a .text-firsts)) (now (a .text-seconds)) (now (a .kinds)) (now (a .lengths)) (now (a .firsts)) (now (a .seconds)) (now (a .values)) (now (a .steps))) _ _ _ _ (λ x. ap (λ (l : List ℕ). obey (printerOf (a .printer)) (meaningOf (g .1 .0) (stateIn (wholeOf (a .status) (now (a .cells)) (now (a .arena)) (now (a .ends)) (now (a .store)) (now (a .text-firsts)) (now (a .text-seconds)) (now (a .kinds)) (now (a .lengths)) (now (a .firsts)) (now (a .seconds)) (now (a .values)) (now (a .steps))) x)) false (g .0) (g .1 .0) l (stateIn (wholeOf (a .status) (now (a .cells)) (now (a .arena)) (now (a .ends)) (now (a .store)) (now (a .text-firsts)) (now (a .text-seconds)) (now (a .kinds)) (now (a .lengths)) (now (a .firsts)) (now (a .seconds)) (now (a .values)) (now (a .steps))) x)) (c .before .before .before .before .before .before .before .before .before .before .before .before .before .before .before .before .slice2 .ensures ∙ part-front _ _)) (c .before .before .obey .ensures))
+returns-4 c = let y = (c .before .before .before .before .before .before .before .before .before .before .before .before .before .before .before .before .before .before .before .before .before .before .before .before .before .before .before .before) in let a = y .args in let g = c .before .before .before .before .before .before .before .before .before .before .before .before .before .before .before .before .before .before .before .dealt3 .given .0 in rw (c .before .before .before .before .before .before .before .before .before .before .before .before .before .before .before .before .before .before .before .dealt3 .given .1) (did-as _ (dealtOf (printerOf (a .printer)) (dealt.Control (g .0) (g .1 .0) (g .1 .1 .0) (g .1 .1 .1 .0)) (now (a .out))) (wholeOf (a .status) (now (a .cells)) (now (a .arena)) (now (a .ends)) (now (a .store)) (now (a .text-firsts)) (now (a .text-seconds)) (now (a .kinds)) (now (a .lengths)) (now (a .firsts)) (now (a .seconds)) (now (a .values)) (now (a .steps))) _ _ _ _ (λ x. ap (λ (l : List ℕ). obey (printerOf (a .printer)) (meaningOf (g .1 .0) (stateIn (wholeOf (a .status) (now (a .cells)) (now (a .arena)) (now (a .ends)) (now (a .store)) (now (a .text-firsts)) (now (a .text-seconds)) (now (a .kinds)) (now (a .lengths)) (now (a .firsts)) (now (a .seconds)) (now (a .values)) (now (a .steps))) x)) false (g .0) (g .1 .0) l (stateIn (wholeOf (a .status) (now (a .cells)) (now (a .arena)) (now (a .ends)) (now (a .store)) (now (a .text-firsts)) (now (a .text-seconds)) (now (a .kinds)) (now (a .lengths)) (now (a .firsts)) (now (a .seconds)) (now (a .values)) (now (a .steps))) x)) (c .before .before .before .before .before .before .before .before .before .before .before .before .before .before .before .before .slice2 .ensures ∙ part-zero _ _)) (c .before .before .obey .ensures))
 
 returns-5 : tie.Need-returns-5
 returns-5 c = let y = (c .before .before .before .before .before .before .before .before .before .before) in let a = y .args in let b = y .pre .0 in rw (c .before .enum-told2 .given .1, c .stay .ensures) (stay-did (λ s. goes s) (wholeOf (a .status) (now (a .cells)) (now (a .arena)) (now (a .ends)) (now (a .store)) (now (a .text-firsts)) (now (a .text-seconds)) (now (a .kinds)) (now (a .lengths)) (now (a .firsts)) (now (a .seconds)) (now (a .values)) (now (a .steps))) On _ (b .sound) (b .items) (b .long) (λ x. refl))

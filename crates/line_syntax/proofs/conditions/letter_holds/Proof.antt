@@ -1,9 +1,7 @@
 -- `line_syntax::conditions::letter_holds` meets its contract. Assumes nothing.
-use borrow.Author.Needs.{needs, sfits-of}
-use mathlib.Core.Path.{_≡_, refl, sym, ap, _∙_}
-use mathlib.Core.Bool.{Bool, true, false}
-use native.Mathlib.Omega.{arith}
-use Rattle.line_syntax.proofs.conditions.Conditions.{odd, even, never, always, by-letter, no-letter, simply-none, simply-more, holds-none, holds-not, holds-plain, one-byte}
+use borrow.Author.Needs.{needs}
+use mathlib.Core.Path.{_≡_, _∙_}
+use Rattle.line_syntax.proofs.conditions.Conditions.{odd, even, never, always, by-letter, no-letter}
 use Rattle.line_syntax.proofs.conditions.letter_holds.Statement.{statement}
 use Rattle.line_syntax.proofs.conditions.letter_holds.Tie as tie
 

@@ -1,9 +1,6 @@
 -- `line_syntax::conditions::negated` meets its contract. Assumes nothing.
-use borrow.Author.Needs.{needs, sfits-of}
-use mathlib.Core.Path.{_≡_, refl, sym, ap, _∙_}
-use mathlib.Core.Bool.{Bool, true, false}
-use native.Mathlib.Omega.{arith}
-use Rattle.line_syntax.specs.Conditions.Conditions.{conditionIs, negatedOf}
+use borrow.Author.Needs.{needs}
+use mathlib.Core.Path.{_≡_, _∙_}
 use Rattle.line_syntax.proofs.conditions.negated.Statement.{statement}
 use Rattle.line_syntax.proofs.conditions.negated.Tie as tie
 

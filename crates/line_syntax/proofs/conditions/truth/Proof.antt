@@ -1,8 +1,5 @@
 -- `line_syntax::conditions::truth` meets its contract. Assumes nothing.
-use borrow.Author.Needs.{needs, sfits-of}
-use mathlib.Core.Path.{_≡_, refl, sym, ap, _∙_}
-use mathlib.Core.Bool.{Bool, true, false}
-use native.Mathlib.Omega.{arith}
+use mathlib.Core.Path.{_≡_, sym, ap, _∙_}
 use Rattle.rules.specs.Refusals.{value}
 use Rattle.line_syntax.proofs.conditions.truth.Statement.{statement}
 use Rattle.line_syntax.proofs.conditions.truth.Tie as tie

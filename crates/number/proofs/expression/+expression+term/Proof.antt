@@ -14,9 +14,9 @@ use borrow.Fn.PlainCycle.{Measures, is, falls, and}
 use Rattle.measure.specs.RoundingLaws.{abs-neg}
 use Rattle.rules.specs.Numbers.{operate as operateOf}
 use Rattle.number.specs.Arithmetic.Values.{judgedOf}
-use Rattle.number.specs.Expression.Meaning.{TermIs, ExpressionIs}
-use Rattle.number.specs.declared.expression.Joint.the-variants.{By, None}
-use Rattle.number.specs.declared.expression.Read.the-variants.{Value, Refused}
+use Rattle.number.specs.Expression.Meaning.{TermIs}
+use Rattle.number.specs.declared.expression.Joint.the-variants.{By}
+use Rattle.number.specs.declared.expression.Read.the-variants.{Value}
 use Rattle.number.proofs.arithmetic.Laws.{small-32}
 use Rattle.number.proofs.expression.Cases.{JointIs, From, cut-first, start, done, cut, refused, turn, plain, minus-cut, minus-is, plus-is, deep, inner, shut, unshut, small}
 use Rattle.number.proofs.expression.expression.Reads as expression

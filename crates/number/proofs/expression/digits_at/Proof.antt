@@ -1,5 +1,5 @@
 -- `number::expression::digits_at` meets its contract. The invariant: what the rules read from here on is what they read from the start. Assumes nothing.
-use mathlib.Core.Path.{_≡_, refl, _∙_}
+use mathlib.Core.Path.{_≡_, _∙_}
 use Prim.Native.Nat.{_+_, _-_, _*_, _≤_}
 use native.Mathlib.Omega.{arith}
 use lib.ListN.{length, getD, drop}

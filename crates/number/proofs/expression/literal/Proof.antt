@@ -2,11 +2,9 @@
 use mathlib.Core.Path.{_≡_, sym, ap, _∙_}
 use Prim.Native.Nat.{ℕ, _+_, _≤_, _<_}
 use native.Mathlib.Omega.{arith}
-use lib.ListN.{length, getD}
-use mir.Val.{Fits}
+use lib.ListN.{length}
 use borrow.Author.Needs.{needs}
 use Rattle.measure.specs.Scales.{scaleOf, literalOf}
-use Rattle.measure.specs.declared.MaybeScale.the-variants.{Some, None}
 use Rattle.number.specs.Expression.Reading.{boundedOf, readOf}
 use Rattle.number.proofs.expression.Literals.{Found, found, is-huge, is-empty, further, own-scale, default-scale, letter, bounded-forward}
 use Rattle.number.proofs.expression.literal.Statement.{statement}

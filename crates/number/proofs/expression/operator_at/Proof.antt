@@ -8,7 +8,7 @@ use borrow.Author.Tests.{ne-eqb}
 use mathlib.Core.Bool.{false}
 use lib.Dec.{eqb}
 use Rattle.rules.specs.Bytes.{firstWhere}
-use Rattle.rules.specs.TableLaws.{absent}
+use Rattle.rules.specs.Laws.Tables.{absent}
 use Rattle.rules.specs.Numbers.{operators, operatorsBeforeEqual}
 use Rattle.rules.specs.declared.Operator.the-variants.{Add, Subtract, Multiply, Divide, Remainder, Less, Greater, AtMost, AtLeast, Equal, And, Or}
 use Rattle.number.proofs.expression.Places.{one, alone, two, none-at}

@@ -1,5 +1,5 @@
 -- `number::scales::signed` meets its contract. Assumes nothing.
-use mathlib.Core.Path.{sym, _∙_}
+use mathlib.Core.Path.{_∙_}
 use borrow.Author.Needs.{needs}
 use borrow.Author.Tests.{ne-eqb}
 use Rattle.number.proofs.expression.Arguments.{signed-at}

@@ -2,7 +2,7 @@
 use mathlib.Core.Path.{ap}
 use native.Mathlib.Omega.{arith}
 use Rattle.measure.specs.Counts.{downOf}
-use Rattle.rules.specs.TrapLaws.{nearest-above, nearest-most}
+use Rattle.rules.specs.Laws.Traps.{nearest-above, nearest-most}
 use Rattle.traps.specs.Table.Table.{plantedOf}
 use borrow.Author.Needs.{needs}
 use Rattle.page.proofs.position.rows_below.Statement.{statement}

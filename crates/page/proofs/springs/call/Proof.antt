@@ -4,7 +4,6 @@ use native.Mathlib.Omega.{arith}
 use denote.Ref.{now}
 use borrow.Author.Needs.{needs}
 use Prim.Native.Nat.{_≤_}
-use Rattle.page.specs.Springs.Held.{heldCount, lastCount}
 use Rattle.page.proofs.springs.Stacks.{held-few, last-few, not-called, was-called}
 use Rattle.page.proofs.springs.call.Statement.{statement}
 use Rattle.page.proofs.springs.call.Tie as tie

@@ -1,6 +1,5 @@
 -- `page::springs::land_called` meets its contract. Assumes nothing.
-use mathlib.Core.Path.{_≡_, refl}
-use borrow.Author.Needs.{needs}
+use mathlib.Core.Path.{_≡_}
 use Rattle.page.proofs.springs.land_called.Statement.{statement}
 use Rattle.page.proofs.springs.land_called.Tie as tie
 

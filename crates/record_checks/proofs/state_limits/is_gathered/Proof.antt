@@ -1,7 +1,7 @@
 -- `record_checks::state_limits::is_gathered` meets its contract. The invariant: the bytes pass if none before i is odd and those from i on pass. Assumes nothing.
 use Prim.Native.Nat.{_+_, _≤_, _-_}
 use mathlib.Core.Path.{_≡_, sym, ap, _∙_}
-use mathlib.Core.Bool.{Bool, _&&_}
+use mathlib.Core.Bool.{_&&_}
 use native.Mathlib.Omega.{arith}
 use lib.Dec.{eqb}
 use lib.ListN.{take, drop, getD}

@@ -1,7 +1,6 @@
 -- `registers::table::insert_byte` meets its contract. The invariant: what is carried is still to be inserted at i. Assumes nothing.
 use Prim.Native.Nat.{_≤_, _-_}
 use mathlib.Core.Path.{_≡_, refl, sym, _∙_}
-use native.Mathlib.Omega.{arith}
 use borrow.Author.Needs.{needs}
 use Rattle.registers.specs.Table.Moves.{inserted}
 use Rattle.registers.proofs.table.Laws.{insert-step, insert-done}

@@ -1,7 +1,6 @@
 -- `registers::table::insert_number` meets its contract, as `insert_byte` does; the numbers are read back from their bits. Assumes nothing.
 use Prim.Native.Nat.{_≤_, _-_}
 use mathlib.Core.Path.{_≡_, refl, sym, _∙_}
-use native.Mathlib.Omega.{arith}
 use lib.ListN.{getD}
 use lib.IntN.{pos}
 use borrow.Author.Needs.{needs}

@@ -6,7 +6,7 @@ use lib.ListN.{getD}
 use denote.Ref.{now}
 use Rattle.rules.specs.declared.Name.{Name}
 use Rattle.rules.specs.Names.{twoBytes}
-use Rattle.rules.specs.RegisterLaws.{before-order}
+use Rattle.rules.specs.Laws.Registers.{before-order}
 use Rattle.registers.proofs.table.Laws.{order-later, order-same}
 use Rattle.registers.proofs.table.order_at.Statement.{statement}
 use Rattle.registers.proofs.table.order_at.Tie as tie

@@ -1,11 +1,10 @@
 -- `scan::arguments::bare_argument` meets its contract. Assumes nothing.
 use Prim.Native.Nat.{_+_, _-_, _≤_}
-use mathlib.Core.Path.{_≡_, refl, sym, ap, _∙_}
+use mathlib.Core.Path.{_≡_, refl, _∙_}
 use native.Mathlib.Omega.{arith}
-use lib.ListN.{length, getD, drop}
+use lib.ListN.{length}
 use borrow.Author.Needs.{needs}
-use borrow.Author.Tests.{eq-eqb, ne-eqb}
-use Rattle.rules.specs.Bytes.{space}
+use borrow.Author.Tests.{ne-eqb}
 use Rattle.rules.specs.Arguments.{bare}
 use Rattle.scan.proofs.arguments.Parts.{Onward, onward, ends, bare-turn, bare-stop, any-end}
 use Rattle.scan.proofs.arguments.bare_argument.Statement.{statement}

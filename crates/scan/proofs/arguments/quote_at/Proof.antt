@@ -1,5 +1,4 @@
 -- `scan::arguments::quote_at` meets its contract: behind the end stands no byte. Assumes nothing.
-use mathlib.Core.Path.{sym}
 use lib.ListN.{List·getD-eq-default}
 use borrow.Author.Needs.{needs}
 use Rattle.scan.proofs.arguments.quote_at.Statement.{statement}

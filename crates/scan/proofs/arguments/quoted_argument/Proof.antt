@@ -1,11 +1,10 @@
 -- `scan::arguments::quoted_argument` meets its contract. Assumes nothing.
 use Prim.Native.Nat.{_+_, _-_, _≤_}
-use mathlib.Core.Path.{_≡_, refl, sym, ap, _∙_}
+use mathlib.Core.Path.{_≡_, refl, sym, _∙_}
 use native.Mathlib.Omega.{arith}
-use lib.ListN.{length, getD, drop}
+use lib.ListN.{length}
 use borrow.Author.Needs.{needs}
 use borrow.Author.Tests.{eqb-true, ne-eqb}
-use Rattle.rules.specs.Bytes.{byte}
 use Rattle.rules.specs.Arguments.{quoted}
 use Rattle.scan.proofs.arguments.Parts.{Onward, onward, ends, quoted-turn, quoted-two, quoted-stop, quote-inside, any-end}
 use Rattle.scan.proofs.arguments.quoted_argument.Statement.{statement}

@@ -1,11 +1,10 @@
 -- `scan::arguments::skip_spaces` meets its contract. The invariant: what follows the spaces from here on is what follows them from the start. Assumes nothing.
 use Prim.Native.Nat.{_+_, _-_, _≤_}
-use mathlib.Core.Path.{_≡_, refl, sym, ap, _∙_}
+use mathlib.Core.Path.{_≡_, sym, _∙_}
 use native.Mathlib.Omega.{arith}
-use lib.ListN.{length, getD, drop}
+use lib.ListN.{length, drop}
 use borrow.Author.Needs.{needs}
-use borrow.Author.Tests.{eq-eqb, ne-eqb}
-use Rattle.rules.specs.Bytes.{space}
+use borrow.Author.Tests.{ne-eqb}
 use Rattle.rules.specs.Arguments.{afterSpaces}
 use Rattle.scan.proofs.arguments.Parts.{space-more, space-stop, space-end}
 use Rattle.scan.proofs.arguments.skip_spaces.Statement.{statement}

@@ -1,12 +1,11 @@
 -- `scan::arguments::word_end` meets its contract. The invariant: the bytes passed, then the word from here on. Assumes nothing.
 use Prim.Native.Nat.{_+_, _-_, _≤_}
-use mathlib.Core.Path.{_≡_, refl, sym, ap, _∙_}
+use mathlib.Core.Path.{_≡_, _∙_}
 use native.Mathlib.Omega.{arith}
-use lib.ListN.{length, getD, drop}
+use lib.ListN.{length, drop}
 use borrow.Author.Needs.{needs}
-use borrow.Author.Tests.{eq-eqb, ne-eqb}
+use borrow.Author.Tests.{ne-eqb}
 use lib.ListN.{take}
-use Rattle.rules.specs.Bytes.{space}
 use Rattle.rules.specs.Arguments.{bare, upTo}
 use Rattle.scan.proofs.arguments.Parts.{ahead, passing, passes, passed, bare-stop, any-end}
 use Rattle.scan.proofs.arguments.word_end.Statement.{statement}

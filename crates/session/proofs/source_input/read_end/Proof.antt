@@ -5,7 +5,7 @@ use mathlib.Core.Bool.{true}
 use lib.ListN.{length, take}
 use lib.Seq.{length-take-le}
 use denote.Ref.{now}
-use Rattle.fill.specs.Words.Parts.{part-front}
+use Rattle.fill.proofs.words.Parts.{part-zero}
 use Rattle.page.specs.declared.springs.Way.the-variants as way
 use Rattle.record.specs.Turns.{resting, placeIn, placeAfter}
 use Rattle.record.proofs.Taking.{may-deal, end-stands, end-dealt}
@@ -38,7 +38,7 @@ deal-line-requires c κs =
     let a = c .before .before .before .before .before .before .before .before .before .before .before .before .before .before .before .before .before .before .before .args in
     let h = c .before .before .before .before .before .before .before .before .before .before .before .before .before .before .before .before .before .before .before .pre in
     let l = h .formed in
-    rw (c .before .before .before .before .before .before .before .before .before .before .before .before .before .before .before .before .before .emptied .ensures, c .before .before .before .before .before .before .before .before .before .before .before .before .before .slice .ensures ∙ part-front _ _)
+    rw (c .before .before .before .before .before .before .before .before .before .before .before .before .before .before .before .before .before .emptied .ensures, c .before .before .before .before .before .before .before .before .before .before .before .before .before .slice .ensures ∙ part-zero _ _)
     (may-deal (resting (a .status) (a .source)) (now (a .gathered)) (now (a .cells)) (now (a .row)) (now (a .arena)) (now (a .ends)) (now (a .text-firsts)) (now (a .text-seconds)) (now (a .kinds)) (now (a .lengths)) (now (a .firsts)) (now (a .seconds)) (now (a .values)) (now (a .steps)) (now (a .store)) h (a .source) true (take (a .source .length) (now (a .gathered))) (l .numbered) (l .counted)
     (rw (length-take-le (a .source .length) (now (a .gathered)) (omega (arith, l .short, l .gathered-long))) (l .short)))
 
@@ -51,7 +51,7 @@ returns-2 c =
     let h = c .before .before .before .before .before .before .before .before .before .before .before .before .before .before .before .before .before .before .before .before .before .before .pre in
     let d = c .before .before .deal-line .ensures in
     let w = d .0 (now (a .gathered)) (h .formed .gathered-long) in
-    (end-dealt (resting (a .status) (a .source)) (now (a .gathered)) (now (a .cells)) (now (a .row)) (now (a .arena)) (now (a .ends)) (now (a .text-firsts)) (now (a .text-seconds)) (now (a .kinds)) (now (a .lengths)) (now (a .firsts)) (now (a .seconds)) (now (a .values)) (now (a .steps)) (now (a .store)) h (omega (arith, c .before .before .before .before .before .before .before .before .before .before .before .before .before .before .before .before .before .before .if1 .left)) _ _ (rw (c .before .before .before .before .before .before .before .before .before .before .before .before .before .before .before .before .before .before .before .before .emptied .ensures, c .before .before .before .before .before .before .before .before .before .before .before .before .before .before .before .before .slice .ensures ∙ part-front _ _) at w), d .1, d .2)
+    (end-dealt (resting (a .status) (a .source)) (now (a .gathered)) (now (a .cells)) (now (a .row)) (now (a .arena)) (now (a .ends)) (now (a .text-firsts)) (now (a .text-seconds)) (now (a .kinds)) (now (a .lengths)) (now (a .firsts)) (now (a .seconds)) (now (a .values)) (now (a .steps)) (now (a .store)) h (omega (arith, c .before .before .before .before .before .before .before .before .before .before .before .before .before .before .before .before .before .before .if1 .left)) _ _ (rw (c .before .before .before .before .before .before .before .before .before .before .before .before .before .before .before .before .before .before .before .before .emptied .ensures, c .before .before .before .before .before .before .before .before .before .before .before .before .before .before .before .before .slice .ensures ∙ part-zero _ _) at w), d .1, d .2)
 
 pub read-end-spec : {M : Type 1} → statement M
 read-end-spec =

@@ -1,7 +1,7 @@
 use native.Mathlib.Omega.{arith}
 use mathlib.Core.Path.{ap, _∙_}
 use denote.Ref.{now}
-use Rattle.fill.specs.Words.Parts.{part-front}
+use Rattle.fill.proofs.words.Parts.{part-zero}
 use Rattle.record.specs.Turns.{recordOf, resting, placeIn}
 use Rattle.record.proofs.Taking.{may-deal-ended, more-taken, refused-taken, ended-taken}
 use borrow.Author.Needs.{needs}
@@ -43,7 +43,7 @@ deal-line-requires : tie.Need-deal-line-requires
 deal-line-requires c κs =
     let a = c .before .before .before .before .before .before .before .before .before .before .before .before .before .before .before .before .before .before .before .before .before .before .before .before .before .args in
     let d = c .before .before .before .before .before .before .before .before .before .before .before .before .before .before .before .before .before .before .before .before .before .gather in
-    may-deal-ended (resting (a .status) (a .source)) (now (a .gathered)) (now (a .cells)) (now (a .row)) (now (a .arena)) (now (a .ends)) (now (a .text-firsts)) (now (a .text-seconds)) (now (a .kinds)) (now (a .lengths)) (now (a .firsts)) (now (a .seconds)) (now (a .values)) (now (a .steps)) (now (a .store)) (c .before .before .before .before .before .before .before .before .before .before .before .before .before .before .before .before .before .before .before .before .before .before .before .before .before .pre .0) (now (a .block)) (a .taken) (d .result) _ (d .ensures) (c .before .before .before .before .before .before .before .before .before .before .before .before .before .before .before .before .before .enum-told2 .given .1) _ (c .before .before .before .before .before .before .before .before .before .before .before .before .before .before .slice .ensures ∙ part-front _ _) (c .before .before .before .before .before .before .before .before .before .before .before .before .before .emptied .result) (c .before .before .before .before .before .before .before .before .before .before .before .before .before .emptied .ensures)
+    may-deal-ended (resting (a .status) (a .source)) (now (a .gathered)) (now (a .cells)) (now (a .row)) (now (a .arena)) (now (a .ends)) (now (a .text-firsts)) (now (a .text-seconds)) (now (a .kinds)) (now (a .lengths)) (now (a .firsts)) (now (a .seconds)) (now (a .values)) (now (a .steps)) (now (a .store)) (c .before .before .before .before .before .before .before .before .before .before .before .before .before .before .before .before .before .before .before .before .before .before .before .before .before .pre .0) (now (a .block)) (a .taken) (d .result) _ (d .ensures) (c .before .before .before .before .before .before .before .before .before .before .before .before .before .before .before .before .before .enum-told2 .given .1) _ (c .before .before .before .before .before .before .before .before .before .before .before .before .before .before .slice .ensures ∙ part-zero _ _) (c .before .before .before .before .before .before .before .before .before .before .before .before .before .emptied .result) (c .before .before .before .before .before .before .before .before .before .before .before .before .before .emptied .ensures)
 
 returns : tie.Need-returns
 returns c =
@@ -73,7 +73,7 @@ returns-3 c =
     let a = c .before .before .before .before .before .before .before .before .before .before .before .before .before .before .before .before .before .before .before .before .before .before .before .before .before .before .before .before .args in
     let d = c .before .before .before .before .before .before .before .before .before .before .before .before .before .before .before .before .before .before .before .before .before .before .before .before .gather in
     let y = c .before .before .deal-line in (
-      ended-taken (resting (a .status) (a .source)) (now (a .gathered)) (now (a .cells)) (now (a .row)) (now (a .arena)) (now (a .ends)) (now (a .text-firsts)) (now (a .text-seconds)) (now (a .kinds)) (now (a .lengths)) (now (a .firsts)) (now (a .seconds)) (now (a .values)) (now (a .steps)) (now (a .store)) (c .before .before .before .before .before .before .before .before .before .before .before .before .before .before .before .before .before .before .before .before .before .before .before .before .before .before .before .before .pre .0) (now (a .block)) (a .taken) (d .result) _ (d .ensures) (c .before .before .before .before .before .before .before .before .before .before .before .before .before .before .before .before .before .before .before .before .enum-told2 .given .1) _ (c .before .before .before .before .before .before .before .before .before .before .before .before .before .before .before .before .before .slice .ensures ∙ part-front _ _) (c .before .before .before .before .before .before .before .before .before .before .before .before .before .before .before .before .emptied .result) (c .before .before .before .before .before .before .before .before .before .before .before .before .before .before .before .before .emptied .ensures)
+      ended-taken (resting (a .status) (a .source)) (now (a .gathered)) (now (a .cells)) (now (a .row)) (now (a .arena)) (now (a .ends)) (now (a .text-firsts)) (now (a .text-seconds)) (now (a .kinds)) (now (a .lengths)) (now (a .firsts)) (now (a .seconds)) (now (a .values)) (now (a .steps)) (now (a .store)) (c .before .before .before .before .before .before .before .before .before .before .before .before .before .before .before .before .before .before .before .before .before .before .before .before .before .before .before .before .pre .0) (now (a .block)) (a .taken) (d .result) _ (d .ensures) (c .before .before .before .before .before .before .before .before .before .before .before .before .before .before .before .before .before .before .before .before .enum-told2 .given .1) _ (c .before .before .before .before .before .before .before .before .before .before .before .before .before .before .before .before .before .slice .ensures ∙ part-zero _ _) (c .before .before .before .before .before .before .before .before .before .before .before .before .before .before .before .before .emptied .result) (c .before .before .before .before .before .before .before .before .before .before .before .before .before .before .before .before .emptied .ensures)
           (λ k. recordOf (placeIn (y .result)) k _ _ _ _ _ _ _ _ _ _ _ _) _ (y .ensures .0) _ (y .ensures .2),
       y .ensures .1,
     )

@@ -2,7 +2,7 @@
 use mathlib.Core.Path.{ap, _∙_}
 use borrow.Author.Needs.{needs}
 use Prim.Native.Nat.{_-_}
-use Rattle.rules.specs.Settings.{withCentred}
+use Rattle.rules.specs.LayoutSetters.{withCentred}
 use Rattle.settings.specs.Layout.Layouts.{layoutOf}
 use Rattle.settings.specs.Layout.LayoutLaws.{counted-limits}
 use Rattle.settings.proofs.layout.Layouts.{laid, none-counted}

@@ -3,7 +3,6 @@ use mathlib.Core.Path.{_≡_, ap, _∙_}
 use native.Mathlib.Omega.{arith}
 use lib.IntN.{natAbs}
 use mir.Facts.{toZ-ofZ}
-use borrow.Author.Needs.{needs}
 use Rattle.rules.specs.Refusals.{value}
 use Rattle.settings.proofs.lengths.Ranges.{below-range, Plain, plain, too-low, too-high, in-range}
 use Rattle.settings.proofs.lengths.count_within.Statement.{statement}

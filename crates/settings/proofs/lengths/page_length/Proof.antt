@@ -1,17 +1,14 @@
 -- `settings::lengths::page_length` meets its contract. Assumes nothing.
-use mathlib.Core.Path.{_≡_, refl, sym, ap, _∙_}
+use mathlib.Core.Path.{_≡_, ap, _∙_}
 use Prim.Native.Nat.{ℕ}
-use native.Mathlib.Numerals.{add-one}
-use native.Mathlib.Omega.{arith}
 use lib.IntN.{ℤ}
 use mir.Facts.{toZ-ofZ}
 use borrow.Author.Needs.{needs, sfits-of}
-use Rattle.measure.specs.declared.Cells.{Cells}
 use Rattle.measure.specs.declared.Rows.{Rows}
-use Rattle.measure.specs.Counts.{acrossOf, downOf}
+use Rattle.measure.specs.Counts.{downOf}
 use Rattle.rules.specs.Refusals.{Judged, value, _>>=_}
 use Rattle.rules.specs.Numbers.{signed}
-use Rattle.rules.specs.Settings.{changed, inRange, indentRange, pageRange}
+use Rattle.rules.specs.Settings.{changed, pageRange}
 use Rattle.settings.proofs.lengths.page_length.Statement.{statement}
 use Rattle.settings.proofs.lengths.page_length.Tie as tie
 

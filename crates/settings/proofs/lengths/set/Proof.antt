@@ -1,5 +1,5 @@
 -- `settings::lengths::set` meets its contract: the cases of the rules' setting, by what the calls gave. Assumes nothing.
-use mathlib.Core.Path.{_≡_, refl, sym, ap, _∙_}
+use mathlib.Core.Path.{_≡_, ap, _∙_}
 use native.Mathlib.Omega.{arith}
 use Prim.Native.Nat.{ℕ}
 use borrow.Author.Needs.{needs, sfits-of}

@@ -6,7 +6,7 @@ use borrow.Author.Needs.{needs, sfits-of}
 use lib.IntN.{ℤ}
 use mir.Facts.{toZ-ofZ}
 use Rattle.rules.specs.Refusals.{Judged, value, _>>=_}
-use Rattle.rules.specs.Settings.{withCentred}
+use Rattle.rules.specs.LayoutSetters.{withCentred}
 use Rattle.rules.specs.Acts.{countOf}
 use Rattle.settings.specs.Layout.Layouts.{printerOf, layoutOf}
 use Rattle.settings.proofs.layout.Layouts.{centre-none, centre-some}

@@ -1,7 +1,6 @@
 -- `settings::line_settings::count_of` meets its contract. Assumes nothing.
 use mathlib.Core.Path.{_∙_}
 use native.Mathlib.Omega.{arith}
-use borrow.Author.Needs.{needs}
 use mir.Facts.{toZ-ofZ}
 use Rattle.measure.proofs.Signed.{below, Above, above}
 use Rattle.settings.proofs.layout.Layouts.{count-is}

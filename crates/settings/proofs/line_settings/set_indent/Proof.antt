@@ -1,6 +1,7 @@
 -- `settings::line_settings::set_indent` meets its contract. Assumes nothing.
 use borrow.Author.Needs.{needs}
-use Rattle.rules.specs.Settings.{indentRange, withIndent}
+use Rattle.rules.specs.Settings.{indentRange}
+use Rattle.rules.specs.LayoutSetters.{withIndent}
 use Rattle.settings.specs.Layout.Layouts.{printerOf, layoutOf}
 use Rattle.settings.proofs.layout.Layouts.{set-by}
 use Rattle.settings.proofs.line_settings.set_indent.Statement.{statement}

@@ -5,7 +5,7 @@ use Prim.Native.Nat.{ℕ}
 use native.Mathlib.Omega.{arith}
 use borrow.Author.Needs.{needs}
 use Rattle.rules.specs.Refusals.{Judged, value, _>>=_}
-use Rattle.rules.specs.Settings.{withTotal}
+use Rattle.rules.specs.LayoutSetters.{withTotal}
 use Rattle.settings.specs.Lengths.ViewLaws.{total-is}
 use Rattle.settings.specs.Layout.Layouts.{printerOf, layoutOf}
 use Rattle.settings.proofs.layout.Layouts.{total-none, total-at}

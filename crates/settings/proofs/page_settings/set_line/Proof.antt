@@ -1,6 +1,7 @@
 -- `settings::page_settings::set_line` meets its contract. Assumes nothing.
 use borrow.Author.Needs.{needs}
-use Rattle.rules.specs.Settings.{lineRange, withLine}
+use Rattle.rules.specs.Settings.{lineRange}
+use Rattle.rules.specs.LayoutSetters.{withLine}
 use Rattle.settings.specs.Layout.Layouts.{printerOf, layoutOf}
 use Rattle.settings.proofs.layout.Layouts.{set-by}
 use Rattle.settings.proofs.page_settings.set_line.Statement.{statement}

@@ -1,6 +1,7 @@
 -- `settings::page_settings::set_offset` meets its contract. Assumes nothing.
 use borrow.Author.Needs.{needs}
-use Rattle.rules.specs.Settings.{offsetRange, withOffset}
+use Rattle.rules.specs.Settings.{offsetRange}
+use Rattle.rules.specs.LayoutSetters.{withOffset}
 use Rattle.settings.specs.Layout.Layouts.{printerOf, layoutOf}
 use Rattle.settings.proofs.layout.Layouts.{set-by}
 use Rattle.settings.proofs.page_settings.set_offset.Statement.{statement}

@@ -3,7 +3,7 @@ use mathlib.Core.Path.{ap}
 use Prim.Native.Nat.{ℕ}
 use borrow.Author.Needs.{needs}
 use Rattle.rules.specs.Refusals.{Judged, value, _>>=_}
-use Rattle.rules.specs.Settings.{withPageLength}
+use Rattle.rules.specs.LayoutSetters.{withPageLength}
 use Rattle.settings.specs.Layout.Layouts.{layoutOf}
 use Rattle.settings.proofs.page_settings.set_page.Statement.{statement}
 use Rattle.settings.proofs.page_settings.set_page.Tie as tie

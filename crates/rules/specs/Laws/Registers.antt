@@ -8,15 +8,15 @@ use lib.Dec.{eqb, ltb, leb}
 use lib.ListN.{length}
 use lib.IntN.{ℤ, pos, natAbs, _+ℤ_, _-ℤ_}
 use native.Mathlib.Omega.{arith}
-use borrow.Author.Tests.{eqb-true, eqb-false, eq-eqb, ltb-true, ltb-false, leb-true}
+use borrow.Author.Tests.{eqb-true, eqb-false, ltb-true, ltb-false}
 use Rattle.rules.specs.declared.Name.{Name}
 use Rattle.rules.specs.Names.{sameName, Order, earlier, same, later, order, orderBy}
-use Rattle.rules.specs.NameLaws.{same-self, same-one}
+use Rattle.rules.specs.Laws.Names.{same-self, same-one}
 use Rattle.rules.specs.Bytes.{firstWhere, entryOf}
-use Rattle.rules.specs.TableLaws.{Each, OfSome, first-each, first-passes, some-map}
-use Rattle.rules.specs.RefusalLaws.{Every, here, refused, every, every-of, judge-every, tested-every, every-map}
+use Rattle.rules.specs.Laws.Tables.{Each, OfSome, first-each, first-passes, some-map}
+use Rattle.rules.specs.Laws.Refusals.{Every, here, refused, every, every-of, judge-every}
 use Rattle.rules.specs.Numbers.{within}
-use Rattle.rules.specs.NumberLaws.{Bounded, within-bounded}
+use Rattle.rules.specs.Laws.Numbers.{Bounded, within-bounded}
 use Rattle.rules.specs.Registers.{register, lookup, put, setValue, Seen, readOnly, shown, stepTo, referBy, stepRegister}
 use Rattle.rules.specs.declared.Register.{Register}
 use Rattle.rules.specs.declared.Turn.{Turn}
@@ -250,16 +250,6 @@ shown-bounded s n b = go (firstWhere (λ e. sameName n (e .0)) readOnly) (first-
     go none h = tt
     go (some e) h = h
 
--- "11: a 65th register"
-pub set-length : (n : Name) (v s : ℤ) (rs : List Register) → Every (λ new. length new ≤ 64) (setValue n v s rs)
-unfolding setValue
-set-length n v s rs = tested-every (leb (length (put (register n v s) rs)) 64) 11 (put (register n v s) rs) (leb-true (length (put (register n v s) rs)) 64)
-
--- nr keeps the order
-pub set-sorted : (n : Name) (v s : ℤ) (rs : List Register) → Sorted rs → Every Sorted (setValue n v s rs)
-unfolding setValue
-set-sorted n v s rs h = judge-every (leb (length (put (register n v s) rs)) 64) 11 (put (register n v s) rs) (put-sorted (register n v s) rs h)
-
 -- nr keeps the bounds
 pub set-bounded : (n : Name) (v s : ℤ) (rs : List Register) → Bounded v → Bounded s → BoundedTable rs → Every BoundedTable (setValue n v s rs)
 unfolding setValue
@@ -288,17 +278,9 @@ step-names s t n rs h = refer-names t (shown n) (lookup n rs) s rs h (lookup-sel
 pub names-sorted : (rs qs : List Register) → names qs ≡ names rs → Sorted rs → Sorted qs
 names-sorted rs qs e h = subst Ordered (sym e) h
 
--- a reference keeps the order of the registers
-pub step-sorted : (s : Seen) (t : Turn) (n : Name) (rs : List Register) → Sorted rs → Every (λ x. Sorted (x .1)) (stepRegister s t n rs)
-step-sorted s t n rs h = every-map (step-names s t n rs h) (λ x e. names-sorted rs (x .1) e h)
-
 -- and are as many
 pub same-length : (rs qs : List Register) → names qs ≡ names rs → length qs ≡ length rs
 same-length rs qs e = sym (names-length qs) ∙ ap length e ∙ names-length rs
-
--- a reference keeps the number of the registers
-pub step-length : (s : Seen) (t : Turn) (n : Name) (rs : List Register) → Sorted rs → Every (λ x. length (x .1) ≡ length rs) (stepRegister s t n rs)
-step-length s t n rs h = every-map (step-names s t n rs h) (λ x e. same-length rs (x .1) e)
 
 to-bounded : (r : Register) (z : ℤ) (rs : List Register) → BoundedRegister r → BoundedTable rs → Every (λ x. Bounded (x .0) × BoundedTable (x .1)) (stepTo r z rs)
 to-bounded r z rs h b = every-of _ (within-bounded z) (λ v i. here (i, put-bounded (register (r .name) v (r .step)) rs (i, h .1) b))

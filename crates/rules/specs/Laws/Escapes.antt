@@ -1,22 +1,22 @@
 -- A scan keeps the registers' names, order and bounds; how long what it writes can be. Assumes nothing.
-use mathlib.Core.Path.{_≡_, refl, _∙_}
+use mathlib.Core.Path.{_≡_, _∙_}
 use mathlib.Core.Bool.{Bool, true, false}
 use mathlib.Core.List.{List, [], _∷_}
 use mathlib.Core.Option.{Option, none, some}
 use Prim.Native.Nat.{ℕ, zero, suc, _+_, _-_, _*_, _/_, _%_, _^_, _≤_, _<_}
 use native.Mathlib.Omega.{arith}
 use lib.ListN.{length, length-append, getD}
-use lib.IntN.{ℤ, pos, negsuc, natAbs}
+use lib.IntN.{ℤ}
 use lib.Dec.{leb, ltb}
 use borrow.Author.Tests.{lt-ltb}
 use Rattle.rules.specs.declared.Name.{Name}
-use Rattle.rules.specs.RefusalLaws.{Every, here, refused as bare, every-map}
+use Rattle.rules.specs.Laws.Refusals.{Every, here, refused as bare, every-map}
 use Rattle.rules.specs.Bytes.{byte, bytes, backslash, mark, fixedBlank, entry}
-use Rattle.rules.specs.TableLaws.{entry-each}
+use Rattle.rules.specs.Laws.Tables.{entry-each}
 use Rattle.rules.specs.Registers.{stepRegister, Reference, decimalBy, decimal}
 use Rattle.rules.specs.declared.Register.{Register}
 use Rattle.rules.specs.declared.Turn.{Turn}
-use Rattle.rules.specs.RegisterLaws.{names, Sorted, names-sorted, same-length, step-names, BoundedSeen, BoundedTable, step-bounded}
+use Rattle.rules.specs.Laws.Registers.{BoundedSeen, BoundedTable, step-bounded}
 use Rattle.rules.specs.Texts.{Text, text, textOf}
 use Rattle.rules.specs.declared.Kind.{Kind}
 use Rattle.rules.specs.declared.Kind.the-variants.{Macro, String}
@@ -110,19 +110,6 @@ module _ (w : Surroundings) (m : Mode) (P : List Register → Type 0)
   scan-keeps rs prefix l h = run-keeps (8192 - prefix) _ (next-keeps (l ∷ []) (record { unread = l ∷ []; escape = outside; room = 512 - prefix; registers = rs }) h)
 
 module _ (w : Surroundings) (m : Mode) (rs : List Register) (prefix : ℕ) (l : List ℕ) where
-  -- a scan keeps the registers' names
-  pub scan-names : Sorted rs → names (registersAfter (scan w m rs prefix l)) ≡ names rs
-  scan-names h =
-      scan-keeps w m (λ qs. names qs ≡ names rs) (λ t n qs e. every-map (step-names (w .seen) t n qs (names-sorted rs qs e h)) (λ x f. f ∙ e)) rs prefix l refl
-
-  -- a scan keeps the registers' order
-  pub scan-sorted : Sorted rs → Sorted (registersAfter (scan w m rs prefix l))
-  scan-sorted h = names-sorted rs (registersAfter (scan w m rs prefix l)) (scan-names h) h
-
-  -- a scan keeps the registers' number
-  pub scan-length : Sorted rs → length (registersAfter (scan w m rs prefix l)) ≡ length rs
-  scan-length h = same-length rs (registersAfter (scan w m rs prefix l)) (scan-names h)
-
   -- a scan keeps the registers' bounds
   pub scan-bounded : BoundedSeen (w .seen) → BoundedTable rs → BoundedTable (registersAfter (scan w m rs prefix l))
   scan-bounded b h = scan-keeps w m BoundedTable (λ t n qs i. every-map (step-bounded (w .seen) t n qs b i) (λ x j. j .1)) rs prefix l h
@@ -137,12 +124,6 @@ decimalBy-short (suc k) (suc d) n l h = go (ltb n 10) (decimalBy-short k d (n / 
         → length {A = ℕ} (elim t [ true ↦ (byte "0" + n) ∷ l | false ↦ decimalBy k (n / 10) ((byte "0" + n % 10) ∷ l) ]) ≤ length l + suc (suc d)
     go true i = omega arith
     go false i = omega arith
-
--- a number within the bounds is shown in at most 11 bytes
-pub decimal-short : (z : ℤ) → natAbs z ≤ 1000000000 → length (decimal z) ≤ 11
-unfolding decimal
-decimal-short (pos n) h = omega (arith, decimalBy-short (suc n) 9 n [] (omega arith))
-decimal-short (negsuc n) h = omega (arith, decimalBy-short (suc (suc n)) 9 (suc n) [] (omega arith))
 
 -- a text with its escapes written back is at most twice as long
 pub escaped-short : (l : List ℕ) → length (escaped l) ≤ 2 * length l

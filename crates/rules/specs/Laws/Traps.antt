@@ -220,7 +220,7 @@ seen-plant pl r p n (t ∷ ts) h i = go (equalZ p (t .place .0)) (isRow r (rowOf
     go false true e f ih = let j = seen-first pl r t ts f in let z : _≡_ {A = ℕ} 0 1 = cc in absurd (omega arith)
     go false false e f ih = rw (plant-on p n t ts e, seen-later pl r t (plant p n ts) f) (ih (sym (seen-later pl r t ts f) ∙ i))
 
--- "of two at one row the earlier planted is seen": where a row has a trap, a new N changes nothing.
+-- Sanity: "of two at one row the earlier planted is seen": where a row has a trap, a new N changes nothing.
 pub seen-plant-second : (pl r : ℕ) (p : ℤ) (n m : Name) (ts : List Trap) → Lacks p ts → seenAt pl r ts ≡ some m → seenAt pl r (plant p n ts) ≡ some m
 seen-plant-second pl r p n m ts h i = rw (plant-new p n ts h) (seen-kept pl r ts (trap p n ∷ []) m i)
 

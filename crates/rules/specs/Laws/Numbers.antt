@@ -11,16 +11,16 @@ use lib.IntN.{ℤ, pos, natAbs, negℤ}
 use borrow.Author.Tests.{leb-true, ne-eqb}
 use Rattle.measure.specs.declared.Pitch.{Pitch}
 use Rattle.measure.specs.declared.Scale.{Scale}
-use Rattle.measure.specs.declared.Scale.the-variants.{Em, LineSpace, Unit as BasicUnit}
+use Rattle.measure.specs.declared.Scale.the-variants.{LineSpace, Unit as BasicUnit}
 use Rattle.measure.specs.declared.MaybeScale.{MaybeScale}
 use Rattle.measure.specs.declared.MaybeScale.the-variants.{Some, None}
 use Rattle.measure.specs.Scales.{scaleOf, literalOf}
 use Rattle.measure.specs.RoundingLaws.{abs-neg, no-larger}
 use Rattle.rules.specs.Bytes.{byte, firstWhere, inTable}
-use Rattle.rules.specs.TableLaws.{entry-each}
+use Rattle.rules.specs.Laws.Tables.{entry-each}
 use Rattle.rules.specs.Refusals.{value, bad, _>>=_}
-use Rattle.rules.specs.RefusalLaws.{Every, here, refused, every, every-of, judge-every, tested-every, every-map, of-value, same-after}
-use Rattle.rules.specs.Numbers.{Read, within, truth, divisor, operate, operators, operatorsBeforeEqual, Joint, joins, stops, joinsOr, oneByteJoint, operatorBefore, jointOf, isDigit, digits, scaled, scaledOr, scaledBy, literalAt, Start, literal, opens, plus, minus, noTerm, startBy, startOf, closed, expressionBy, whole, term, onward, evaluate, cells, rows, units}
+use Rattle.rules.specs.Laws.Refusals.{Every, here, refused, every, every-of, judge-every, tested-every, every-map, same-after}
+use Rattle.rules.specs.Numbers.{Read, within, truth, divisor, operate, operators, operatorsBeforeEqual, Joint, joins, stops, joinsOr, oneByteJoint, operatorBefore, jointOf, isDigit, digits, scaled, scaledOr, scaledBy, literalAt, Start, literal, opens, plus, minus, noTerm, startBy, startOf, closed, expressionBy, whole, term, onward, evaluate, rows, units}
 use Rattle.rules.specs.declared.Operator.{Operator}
 use Rattle.rules.specs.declared.Operator.the-variants.{Add, Subtract, Multiply, Divide, Remainder, Less, Greater, AtMost, AtLeast, Equal, And, Or}
 
@@ -114,15 +114,7 @@ module _ (p : Pitch) (d : Scale) where
       every-of _ (expression-bounded (term p d (suc (length l)) 8) (onward p d (suc (length l)) 8) l (term-bounded (suc (length l)) 8) (onward-bounded (suc (length l)) 8))
       (λ x h. whole-bounded (x .0) (x .1) h)
 
-  -- the value that an argument has is at most 1,000,000,000 either way
-  pub value-bounded : (l : List ℕ) (z : ℤ) → evaluate p d l ≡ value z → natAbs z ≤ 1000000000
-  value-bounded l z e = of-value (evaluate-bounded l) e
-
 module _ (p : Pitch) where
-  -- every count of cells is bounded
-  pub cells-bounded : (l : List ℕ) → Every Bounded (cells p l)
-  cells-bounded l = every-of _ (evaluate-bounded p Em l) (λ z h. here (omega (arith, no-larger (p .cell) z)))
-
   -- every count of rows is bounded
   pub rows-bounded : (l : List ℕ) → Every Bounded (rows p l)
   rows-bounded l = every-of _ (evaluate-bounded p LineSpace l) (λ z h. here (omega (arith, no-larger (p .row) z)))
@@ -350,14 +342,6 @@ module _ (p : Pitch) (d : Scale) where
     pub expression-any : (n left : ℕ) (l : List ℕ) → length l < n → expressionBy (t n left) (o n left) l ≡ expressionBy (term p d n left) (onward p d n left) l
     expression-any n left l h = expression-of n left l h (term-any n left) (onward-any n left)
 
-  -- every number of steps above the number of unread bytes gives the same term
-  pub term-fuel : (n k left : ℕ) (x : Start) → startSize x < k → k ≤ n → term p d n left x ≡ term p d k left x
-  term-fuel n k left x h i = let e : n ≡ (n - k) + k = omega arith in ap (λ m. term p d m left x) e ∙ term-any _ _ (readers (n - k)) k left x h
-
-  -- the same joined terms
-  pub onward-fuel : (n k left : ℕ) (v : ℤ) (j : Joint) → jointSize j < k → k ≤ n → onward p d n left v j ≡ onward p d k left v j
-  onward-fuel n k left v j h i = let e : n ≡ (n - k) + k = omega arith in ap (λ m. onward p d m left v j) e ∙ onward-any _ _ (readers (n - k)) k left v j h
-
   -- and the same expression
   pub expression-fuel : (n k left : ℕ) (l : List ℕ) → length l < k → k ≤ n
       → expressionBy (term p d n left) (onward p d n left) l ≡ expressionBy (term p d k left) (onward p d k left) l
@@ -371,7 +355,7 @@ module _ (p : Pitch) (d : Scale) where
   unfolding evaluate
   evaluate-any t o r n l h = ap (λ z. z >>= λ x. whole (x .0) (x .1)) (sym (expression-any t o r n 8 l h ∙ expression-fuel n (suc (length l)) 8 l (omega arith) h))
 
-  -- and so does not depend on the number of steps
+  -- Sanity: and so does not depend on the number of steps
   pub evaluate-fuel : (n : ℕ) (l : List ℕ) → length l < n → evaluate p d l ≡ (expressionBy (term p d n 8) (onward p d n 8) l >>= λ x. whole (x .0) (x .1))
   evaluate-fuel n l h = evaluate-any (term p d) (onward p d) (record { terms = term-step; onwards = onward-step }) n l h
 

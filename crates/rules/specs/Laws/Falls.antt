@@ -13,22 +13,23 @@ use Rattle.rules.specs.Printers.{Printer}
 use Rattle.rules.specs.declared.Name.{Name}
 use Rattle.rules.specs.Bytes.{isThere, byte, newline, space}
 use Rattle.rules.specs.Refusals.{Judged, value, bad, judge}
-use Rattle.rules.specs.RefusalLaws.{Every, here, refused, every, every-of, judge-every}
+use Rattle.rules.specs.Laws.Refusals.{Every, here, refused, every, every-of, judge-every}
 use Rattle.rules.specs.Numbers.{cells, rows, units, signed}
 use Rattle.rules.specs.Registers.{lookup, valueOr0, stepOr0, setValue, predefined}
 use Rattle.rules.specs.Texts.{Text, textOf, remove, defineString, openMacro, keepLine, closeMacro}
 use Rattle.rules.specs.declared.Mode.{Mode}
 use Rattle.rules.specs.declared.Mode.the-variants.{Plain, Copy}
 use Rattle.rules.specs.Escapes.{Scanned, scanned, refused as refusedScan}
-use Rattle.rules.specs.EscapesFit.{Fits, scan-fits}
+use Rattle.rules.specs.Laws.EscapesFit.{Fits, scan-fits}
 use Rattle.rules.specs.Names.{Named, one, tooLong, nameOf}
 use Rattle.rules.specs.Arguments.{Part, part, push, afterSpaces, Place, bare, byteOf, Fate, keeps, drops, ended, fate, upTo, word, condition, stringText, first, arguments}
 use Rattle.rules.specs.Lines.{named, lineBy, lineOf, isClosing, holds}
 use Rattle.stream.specs.Machine.{Below, Falls}
 use Rattle.rules.specs.Filling.{Word, joinWord, joinByte, words, leads, standing, after, gapAfter, Collected, withNext, joined, begin, begun as begunLayout, Placed, all, full, fits, place}
 use Rattle.rules.specs.Traps.{seenAt, plant, removeTrap}
-use Rattle.rules.specs.TrapLaws.{nearest-above}
-use Rattle.rules.specs.State.{State, Line, text, control, ignored, Item, reading, fresh, again, others, acts, ejects, refuse, close, withStack, withPage, withLayout, withCollected, withStored, withInput, withRegisters, withTexts, withOpened, withTraps, Definition, seen}
+use Rattle.rules.specs.Laws.Traps.{nearest-above}
+use Rattle.rules.specs.State.{State, Line, text, control, ignored, Item, reading, fresh, again, others, acts, ejects, refuse, close, Definition, seen}
+use Rattle.rules.specs.StateSetters.{withStack, withPage, withLayout, withCollected, withStored, withInput, withRegisters, withTexts, withOpened, withTraps}
 use Rattle.stream.specs.Answers.{Closing, done}
 use Rattle.rules.specs.Rows.{Next, linesOf, theEnd as endItem, pushIf, call, userText, springText, spring, startIf, startPage, endPage, withUsed, reach, down, break, rowsBelow, fewer, skip, heldIf, ejectIf, eject, lastPage, ejectLast, endFrom, beginEnd}
 use Rattle.rules.specs.TextLines.{breaksIf, wayOf, asItStands, counted, othersOf, nextGap, filled, fillFrom, fill, blankFrom, gapHere, textWay, textLine}
@@ -36,10 +37,10 @@ use Rattle.rules.specs.declared.Breaking.{Breaking}
 use Rattle.rules.specs.declared.Breaking.the-variants.{Br, Sp, Bp, Fi, Nf, Ce, In, Ti}
 use Rattle.rules.specs.declared.Unbreaking.{Unbreaking}
 use Rattle.rules.specs.declared.Unbreaking.the-variants.{Pl, Po, Ll, Ad, Na, Nr, De, Rm, Wh, If}
-use Rattle.rules.specs.declared.Request.{Request}
 use Rattle.rules.specs.declared.Request.the-variants.{Breaks, Keeps, Ds}
 use Rattle.rules.specs.Requests.{traits, startsPage, modeOf}
-use Rattle.rules.specs.Settings.{Layout, changed, inRange, lineRange, indentRange, offsetRange, withFilling, withAdjusting, withLine, withOffset, withPageLength}
+use Rattle.rules.specs.Settings.{Layout, changed, inRange, lineRange, indentRange, offsetRange}
+use Rattle.rules.specs.LayoutSetters.{withFilling, withAdjusting, withLine, withOffset, withPageLength}
 use Rattle.rules.specs.Acts.{given, settles, argument, onName, free, setting, pageLength, indentTotal, spacing, centring, laidOut, act, newValue, newStep, writeIf, writeRegister, writtenBack, defineText, defineFrom, openText, removeIf, removeText, plantAt, plantTrap, follows, ifLine, perform, defines}
 use Rattle.rules.specs.ControlLines.{Meaning, calls, requests, nothing, meaningOf, prefixOf, heldAfter, heldFirst, breakOrAct, startOrBreak, obey, onScan, expand, controlLine, freshLine, keepBody, bodyLine, dealFrom, deal, dealAgain}
 use Rattle.rules.specs.Session.{leave, readLine, work, withBegun, gather, takeBy, takeByte, lastLine, readEnd, workEnd, idle, stepFrom, step}

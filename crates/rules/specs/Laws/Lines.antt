@@ -8,8 +8,8 @@ use lib.Dec.{eqb}
 use lib.ListN.{replicate}
 use borrow.Author.Tests.{eqb-true}
 use Rattle.rules.specs.Bytes.{newline, space, fixedBlank}
-use Rattle.rules.specs.Filling.{Word, word, after, standing, joinWord, joinByte, words, width, span, spelled, unlessBlank, trimmed}
-use Rattle.rules.specs.Rows.{lineByte, lines}
+use Rattle.rules.specs.Filling.{Word, word, joinWord, joinByte, words, width, span, spelled, unlessBlank, trimmed}
+use Rattle.rules.specs.Rows.{lines}
 
 -- a run of bytes other than x, and what begins with x or is empty
 abbrev pub Without : ℕ → List ℕ → Type 0
@@ -126,23 +126,13 @@ pub formed-unspaced : (ws : List Word) → Formed ws → Unspaced ws
 formed-unspaced [] h = tt
 formed-unspaced (w ∷ ws) h = (solid-without (w .bytes) (h .0), formed-unspaced ws (h .2))
 
--- no word of a line holds a space
+-- Sanity: no word of a line holds a space
 pub words-unspaced : (l : List ℕ) → Unspaced (words l)
 words-unspaced l = formed-unspaced (words l) (words-formed l)
-
--- formed words stay so with another gap before the first
-pub after-formed : (g : ℕ) (ws : List Word) → Formed ws → Formed (after g ws)
-after-formed g [] h = tt
-after-formed g (w ∷ ws) h = h
 
 blanks-solid : (g : ℕ) (l : List ℕ) → Solid l → Solid (replicate g fixedBlank ++ l)
 blanks-solid zero l h = h
 blanks-solid (suc g) l h = (refl, solid-without (replicate g fixedBlank ++ l) (blanks-solid g l h))
-
--- formed words stay so with the first one's gap as fixed blanks
-pub standing-formed : (ws : List Word) → Formed ws → Formed (standing ws)
-standing-formed [] h = tt
-standing-formed (w ∷ ws) h = (blanks-solid (w .gap) (w .bytes) (h .0), h .1, h .2)
 
 -- formed words stay so behind others, if the first has a gap before it
 pub append-formed : (a b : List Word) → Formed a → Gapped b → Formed b → Formed (a ++ b)

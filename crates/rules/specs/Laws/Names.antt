@@ -5,7 +5,7 @@ use lib.Dec.{eqb}
 use borrow.Author.Tests.{eqb-true, eq-eqb}
 use Rattle.rules.specs.declared.Name.{Name}
 use Rattle.rules.specs.Names.{sameName}
-use Rattle.rules.specs.RefusalLaws.{both}
+use Rattle.rules.specs.Laws.Refusals.{both}
 
 -- A name is the same as itself.
 pub same-self : (n : Name) → sameName n n ≡ true

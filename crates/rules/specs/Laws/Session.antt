@@ -1,7 +1,7 @@
 -- Laws of a session's closing and of the bytes it takes. Assumes nothing.
 use mathlib.Core.Path.{_≡_, refl}
 use mathlib.Core.Bool.{false, _&&_}
-use mathlib.Core.Option.{none, some}
+use mathlib.Core.Option.{none}
 use mathlib.Core.List.{List, [], _∷_, _++_}
 use Prim.Native.Nat.{ℕ, suc, _<_, _≤_}
 use native.Mathlib.Omega.{arith}
@@ -12,7 +12,8 @@ use Rattle.stream.specs.Answers.{Closing, refused}
 use Rattle.stream.specs.Machine.{closed}
 use Rattle.rules.specs.Printers.{Printer}
 use Rattle.rules.specs.Bytes.{newline}
-use Rattle.rules.specs.State.{State, fresh, close, refuse, input, withInput}
+use Rattle.rules.specs.State.{State, fresh, close, refuse}
+use Rattle.rules.specs.StateSetters.{input, withInput}
 use Rattle.rules.specs.Session.{begunBy, withBegun, gather, takeByte, step}
 
 -- A closed state gives its answer.
@@ -20,21 +21,16 @@ pub step-close : (p : Printer) (a : Closing) (s : State) → step p (close a s) 
 unfolding step
 step-close p a s = refl
 
--- A refusal gives its number and the line.
+-- Sanity: a refusal gives its number and the line.
 pub step-refuse : (p : Printer) (n : ℕ) (s : State) → step p (refuse n s) ≡ closed (refused n (s .input .line))
 unfolding step
 step-refuse p n s = refl
 
--- A state that is closed in any way gives the answer that it holds.
-pub step-closed : (p : Printer) (a : Closing) (s : State) → s .closing ≡ some a → step p s ≡ closed a
-unfolding step
-step-closed p a s h = rw (step, h)
-
--- A closing drops the collected line.
+-- Sanity: a closing drops the collected line.
 pub close-drops : (a : Closing) (s : State) → close a s .collected ≡ none
 close-drops a s = refl
 
--- "A refusal drops the collected line".
+-- Sanity: "A refusal drops the collected line".
 pub refuse-drops : (n : ℕ) (s : State) → refuse n s .collected ≡ none
 refuse-drops n s = refl
 

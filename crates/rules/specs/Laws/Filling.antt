@@ -1,15 +1,15 @@
 -- Laws for code that fills a line, adjusts it and writes it forwards, byte by byte. Assumes nothing.
 use mathlib.Core.Path.{_≡_, refl, sym, ap, _∙_, subst}
 use mathlib.Core.Bool.{Bool, true, false}
-use mathlib.Core.List.{List, [], _∷_, _++_, map, append-assoc, append-nil}
+use mathlib.Core.List.{List, [], _∷_, _++_, append-assoc, append-nil}
 use Prim.Native.Nat.{ℕ, zero, suc, _+_, _-_, _*_, _/_, _%_, _≤_}
 use native.Mathlib.Nat.{mul-suc, mul-zero, mod-lt, div-add-mod'}
 use native.Mathlib.Omega.{arith}
 use lib.Dec.{eqb}
 use lib.ListN.{length, replicate, length-append, length-replicate}
 use borrow.Author.Tests.{leb-true}
-use Rattle.rules.specs.Bytes.{newline, space, mark, fixedBlank, gapStart}
-use Rattle.rules.specs.Filling.{Word, Collected, gapCells, countGap, gaps, moreIf, fewAfter, spreadCell, spread, share, level, adjusted, width, span, countIf, spelled, printedByte, printed, unlessBlank, trimmed, row, Placed, all, full, fits, joined, place}
+use Rattle.rules.specs.Bytes.{space, mark, fixedBlank, gapStart}
+use Rattle.rules.specs.Filling.{Word, Collected, gapCells, countGap, gaps, moreIf, fewAfter, spreadCell, spread, share, level, adjusted, width, span, countIf, spelled, printedByte, printed, unlessBlank, trimmed, Placed, all, full, fits, joined, place}
 
 printed-byte : (t f : Bool) (b : ℕ) (x y : List ℕ) → printedByte t f b (x ++ y) ≡ printedByte t f b x ++ y
 printed-byte true f b x y = refl
@@ -96,16 +96,6 @@ spelled-width [] = refl
 spelled-width (w ∷ ws) =
     omega (arith, width-append (replicate (w .gap) space) (w .bytes ++ spelled ws), width-append (w .bytes) (spelled ws), width-spaces (w .gap), spelled-width ws)
 
--- They are the length of what is printed of it.
-pub spelled-length : (ws : List Word) → length (printed (spelled ws)) ≡ span ws
-spelled-length ws = printed-length (spelled ws) ∙ spelled-width ws
-
--- A row has at most its blanks, its cells and a newline.
-pub row-length : (n : ℕ) (bs : List ℕ) → length (row n bs) ≤ n + length bs + 1
-row-length n bs =
-    let l = replicate n space ++ bs in
-    omega (arith, length-append (trimmed l) (newline ∷ []), trimmed-short l, length-append (replicate n space) bs, length-replicate n space)
-
 blanks-length : (n : ℕ) (l : List ℕ) → length (replicate (suc n) space ++ l) ≡ suc n + length l
 blanks-length n l = length-append (replicate (suc n) space) l ∙ ap (λ k. k + length l) (length-replicate (suc n) space)
 
@@ -157,7 +147,8 @@ adjusted-exact c h i = go (gaps (c .cells)) refl h
     go zero e j = absurd (omega arith)
     go (suc k) e j = omega (arith, share-length (c .room - length (c .cells)) k (c .cells) e)
 
-spread-none : (each few : ℕ) (bs : List ℕ) → gaps bs ≡ 0 → spread each few bs ≡ bs
+-- Nothing is widened where there is no gap.
+pub spread-none : (each few : ℕ) (bs : List ℕ) → gaps bs ≡ 0 → spread each few bs ≡ bs
 unfolding spread gaps
 spread-none each few [] h = refl
 spread-none each few (b ∷ bs) h = go (eqb b gapStart) h (λ i. spread-none each few bs i)
@@ -168,12 +159,8 @@ spread-none each few (b ∷ bs) h = go (eqb b gapStart) h (λ i. spread-none eac
 
 -- A line without gaps stays as it is.
 pub adjusted-alone : (t : Bool) (c : Collected) → gaps (c .cells) ≡ 0 → adjusted t c ≡ c .cells
-adjusted-alone true c h = rw h (spread-none 0 0 (c .cells) h)
+adjusted-alone true c h = rw h refl
 adjusted-alone false c h = spread-none 0 (length (c .cells)) (c .cells) h
-
--- With adjusting off the gaps are as they are.
-pub adjusted-off : (c : Collected) → adjusted false c ≡ level (c .cells)
-adjusted-off c = refl
 
 -- The cells that words, each behind its gap, put into a collected line.
 unfoldable pub laid : List Word → List ℕ
@@ -247,16 +234,16 @@ place-gives c (w ∷ ws) = go (fits c w) refl (place (joined w c) ws) (place-giv
     go true e (full d v rest) g = (g .0 ∙ onward c w (laid ws), more c d w e (g .1), g .2)
     go false e x g = (refl, stays c, e)
 
--- All words placed: they stand behind those collected.
+-- Sanity: all words placed: they stand behind those collected.
 pub place-all : (c d : Collected) (ws : List Word) → place c ws ≡ all d → d .cells ≡ c .cells ++ laid ws
 place-all c d ws h = subst (Gives c ws) h (place-gives c ws) .0
 
--- All words placed: the line goes on.
+-- Sanity: all words placed: the line goes on.
 pub place-all-continues : (c d : Collected) (ws : List Word) → place c ws ≡ all d → Continues c d
 place-all-continues c d ws h = subst (Gives c ws) h (place-gives c ws) .1
 
 module _ (c d : Collected) (w : Word) (rest ws : List Word) (h : place c ws ≡ full d w rest) where
-  -- A full line: its cells and those of the word that does not fit and of the other words are those collected and the new ones.
+  -- Sanity: a full line: its cells and those of the word that does not fit and of the other words are those collected and the new ones.
   pub place-full : d .cells ++ laid (w ∷ rest) ≡ c .cells ++ laid ws
   place-full = subst (Gives c ws) h (place-gives c ws) .0
 
@@ -264,10 +251,10 @@ module _ (c d : Collected) (w : Word) (rest ws : List Word) (h : place c ws ≡ 
   pub place-full-continues : Continues c d
   place-full-continues = subst (Gives c ws) h (place-gives c ws) .1
 
-  -- A full line: the word does not fit.
+  -- Sanity: a full line: the word does not fit.
   pub place-full-stops : fits d w ≡ false
   place-full-stops = subst (Gives c ws) h (place-gives c ws) .2
 
-  -- A full line with a gap is adjusted to exactly the room.
+  -- Sanity: a full line with a gap is adjusted to exactly the room.
   pub place-full-exact : Roomy c → 1 ≤ gaps (d .cells) → length (adjusted true d) ≡ c .room
   place-full-exact r i = adjusted-exact d i (place-full-continues .roomy r i) ∙ place-full-continues .room

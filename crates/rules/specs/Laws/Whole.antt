@@ -1,4 +1,4 @@
--- Worked facts, by computation: document 01's own ('One session whole'), and some of the manual's examples. Assumes nothing.
+-- Worked facts, by computation: document 01's own ('One session whole'), and examples after the manual. Assumes nothing.
 use mathlib.Core.Path.{_≡_, refl}
 use mathlib.Core.List.{List, [], _∷_}
 use Prim.Native.Nat.{ℕ}
@@ -71,7 +71,7 @@ pub worked : All table
 unfolding pagesHere
 worked = (refl, (refl, (refl, (refl, (refl, (refl, (refl, (refl, (refl, (refl, (refl, (refl, (refl, tt)))))))))))))
 
--- Examples of the manual, by edition and section
+-- Examples after the manual, by edition and section. Several are adapted: short pages and lines, other words, no request that is left out.
 abbrev pub manual : List Fact
 manual =
     -- 002, 1.4: evaluation of expressions is left to right

@@ -6,16 +6,15 @@ use mathlib.Core.Option.{Option, none, some}
 use Prim.Native.Nat.{ℕ, suc, _+_, _≤_}
 use native.Mathlib.Omega.{arith}
 use lib.Dec.{leb, ltb}
-use lib.ListN.{length, length-append}
-use borrow.Author.Tests.{leb-true, ltb-true}
+use lib.ListN.{length}
 use Rattle.rules.specs.declared.Name.{Name}
 use Rattle.rules.specs.declared.Kind.the-variants.{Macro, String}
-use Rattle.rules.specs.Bytes.{newline, firstWhere}
+use Rattle.rules.specs.Bytes.{firstWhere}
 use Rattle.rules.specs.Names.{sameName}
 use Rattle.rules.specs.Refusals.{value}
-use Rattle.rules.specs.RefusalLaws.{judge-value, both}
-use Rattle.rules.specs.NameLaws.{same-self, same-one, same-swap}
-use Rattle.rules.specs.Texts.{Text, text, textOf, remove, live, defineStringIn, openMacro, keepLineIn, closeMacro}
+use Rattle.rules.specs.Laws.Refusals.{judge-value}
+use Rattle.rules.specs.Laws.Names.{same-self, same-one, same-swap}
+use Rattle.rules.specs.Texts.{Text, text, textOf, remove, live, defineStringIn, openMacro, closeMacro}
 
 -- No two texts have one name.
 abbrev pub Distinct : List Text → Type 0
@@ -142,12 +141,7 @@ pub open-is : (n : Name) (ts us : List Text) → openMacro n ts ≡ value us →
 unfolding openMacro
 open-is n ts us h = sym (judge-value (ltb (length (remove n ts)) 64) 11 (remove n ts) us h .1)
 
--- A body line that is not refused stands behind those before it, with a newline.
-pub keep-is : (room : ℕ) (ts : List Text) (body line new : List ℕ) → keepLineIn room ts body line ≡ value new → new ≡ body ++ line ++ newline ∷ []
-unfolding keepLineIn
-keep-is room ts body line new h = sym (judge-value (leb (live ts + (length body + suc (length line))) room) 11 (body ++ line ++ newline ∷ []) new h .1)
-
--- After a ds its string is found under its name.
+-- Sanity: after a ds its string is found under its name.
 pub found-define : (room : ℕ) (n : Name) (l : List ℕ) (ts us : List Text) → Distinct ts → defineStringIn room n l ts ≡ value us → textOf n us ≡ some (text n String l)
 found-define room n l ts us d h = rw (define-is room n l ts us h) (found-end (text n String l) (remove n ts) (gone-remove n ts d))
 
@@ -171,7 +165,7 @@ kept-open m n ts us e h = rw (open-is n ts us h) (kept-remove m n ts e)
 pub distinct-open : (n : Name) (ts us : List Text) → Distinct ts → openMacro n ts ≡ value us → Distinct us
 distinct-open n ts us d h = rw (open-is n ts us h) (distinct-remove n ts d)
 
--- A closed macro is found under its name, if no other text has it.
+-- Sanity: a closed macro is found under its name, if no other text has it.
 pub found-close : (n : Name) (body : List ℕ) (ts : List Text) → textOf n ts ≡ none → textOf n (closeMacro n body ts) ≡ some (text n Macro body)
 found-close n body ts h = found-end (text n Macro body) ts h
 
@@ -221,46 +215,6 @@ remove-lighter n ts = go (textOf n ts) refl
 -- "11: .. 65th name .. or live text past 8,192 bytes": the limits of the table.
 abbrev pub Within : List Text → Type 0
 Within ts = (length ts ≤ 64) × (live ts ≤ 8192)
-
--- The limits of the table and the body of an open definition, which is to be one text more.
-abbrev pub WithinOpen : List Text → (body : List ℕ) → Type 0
-WithinOpen ts body = (length ts ≤ 63) × (live ts + length body ≤ 8192)
-
--- A text at the end adds one to the table.
-pub length-end : (t : Text) (ts : List Text) → length (ts ++ t ∷ []) ≡ suc (length ts)
-length-end t ts = rw (length-append ts (t ∷ [])) (omega arith)
-
--- A text at the end adds its bytes to the live text.
-pub live-end : (t : Text) (ts : List Text) → live (ts ++ t ∷ []) ≡ live ts + length (t .bytes)
-unfolding live
-live-end t ts = rw (live-append ts (t ∷ [])) (omega arith)
-
--- A ds that is not refused leaves a table within the limits.
-pub within-define : (room : ℕ) (n : Name) (l : List ℕ) (ts us : List Text) → room ≤ 8192 → defineStringIn room n l ts ≡ value us → Within us
-unfolding defineStringIn
-within-define room n l ts us k h =
-    let o = remove n ts in
-    let j = judge-value (ltb (length o) 64 && leb (live o + length l) room) 11 (o ++ text n String l ∷ []) us h in
-    let b = both (ltb (length o) 64) (leb (live o + length l) room) (j .0) in
-    rw (← j .1) (omega (arith, ltb-true (length o) 64 (b .0), length-end (text n String l) o), omega (arith, leb-true (live o + length l) room (b .1), live-end (text n String l) o))
-
--- A de that is not refused keeps the limits, with a body that is empty.
-pub within-open : (n : Name) (ts us : List Text) → Within ts → openMacro n ts ≡ value us → WithinOpen us []
-unfolding openMacro
-within-open n ts us w h =
-    let j = judge-value (ltb (length (remove n ts)) 64) 11 (remove n ts) us h in
-    rw (← j .1) (omega (arith, ltb-true (length (remove n ts)) 64 (j .0)), omega (arith, remove-lighter n ts))
-
--- A body line that is not refused keeps the limits.
-pub within-keep : (room : ℕ) (ts : List Text) (body line new : List ℕ) → room ≤ 8192 → WithinOpen ts body → keepLineIn room ts body line ≡ value new → WithinOpen ts new
-unfolding keepLineIn
-within-keep room ts body line new k w h =
-    let j = judge-value (leb (live ts + (length body + suc (length line))) room) 11 (body ++ line ++ newline ∷ []) new h in
-    rw (← j .1) (w .0, rw (length-append (body ++ line) (newline ∷ []), length-append body line) (omega (arith, leb-true (live ts + (length body + suc (length line))) room (j .0))))
-
--- The end of a definition keeps the limits.
-pub within-close : (n : Name) (body : List ℕ) (ts : List Text) → WithinOpen ts body → Within (closeMacro n body ts)
-within-close n body ts w = (omega (arith, length-end (text n Macro body) ts), omega (arith, live-end (text n Macro body) ts))
 
 -- `remove` keeps the limits.
 pub within-remove : (n : Name) (ts : List Text) → Within ts → Within (remove n ts)
