@@ -11,6 +11,12 @@ use page::springs::Held;
 use page::springs::Way;
 use rules::Breaking;
 use rules::Name;
+use rules::arrays::ARGUMENT_COUNT;
+use rules::arrays::ByteColumn;
+use rules::arrays::LineBytes;
+use rules::arrays::RowBytes;
+use rules::arrays::StackBytes;
+use rules::arrays::StackEnds;
 use settings::layout::Layout;
 use settings::layout::Printer;
 use traps::table::Planted;
@@ -20,7 +26,7 @@ ghost use mathlib.Core.List.{[]};
 ghost use lib.ListN.{length};
 ghost use Rattle.rules.specs.Acts as rule;
 ghost use Rattle.settings.specs.Layout.Layouts.{printerOf, SoundPrinter};
-ghost use Rattle.composition.specs.PageRows.Desk.{desk, Begins, Worked};
+ghost use Rattle.composition.specs.PageRows.Desk.{Desk, desk, Begins, Worked};
 ghost use Rattle.composition.specs.BreakRequests.Acting.{workOf, spaces, actBy};
 ghost use Rattle.composition.specs.BreakRequests.Obeying.{heldLine, heldRequest, startsFirst, obeyed};
 
@@ -55,17 +61,19 @@ fn space(
     page: Page,
     collected: Collected,
     planted: Planted,
-    cells: &[u8; 512],
-    row: &mut [u8; 872],
+    cells: &LineBytes,
+    row: &mut RowBytes,
     stack: Stack,
-    arena: &mut [u8; 8704],
-    ends: &mut [u16; 221],
-    firsts: &[u8; 64],
-    seconds: &[u8; 64],
+    arena: &mut StackBytes,
+    ends: &mut StackEnds,
+    firsts: &ByteColumn,
+    seconds: &ByteColumn,
     texts: usize,
 ) -> Outcome
-    requires { ⌜ Begins planted (desk layout page collected (now cells) stack (now arena) (now ends)) [] (now row) (now firsts) (now seconds) texts × SoundPrinter printer ⌝ }
-    ensures { λ r. ⌜ Worked (λ ts s. spaces (printerOf printer) (now (argument .entry)) s) (now (firsts .entry)) (now (seconds .entry)) texts planted (desk layout page collected (now (cells .entry)) stack (now (arena .entry)) (now (ends .entry))) (r .way) (r .written) (desk (r .layout) (r .page) (r .collected) (now (cells .entry)) (r .stack) (now (arena .exit)) (now (ends .exit))) (now (row .exit)) ⌝ }
+    ghost { Desk }
+    requires { λ q. ⌜ desk layout page collected (now cells) stack (now arena) (now ends) ≡ q ⌝ }
+    requires { λ q. ⌜ Begins planted q [] (now row) (now firsts) (now seconds) texts × SoundPrinter printer ⌝ }
+    ensures { λ q r. ⌜ Worked (λ ts s. spaces (printerOf printer) (now (argument .entry)) s) (now (firsts .entry)) (now (seconds .entry)) texts planted q (r .way) (r .written) (desk (r .layout) (r .page) (r .collected) (now (cells .entry)) (r .stack) (now (arena .exit)) (now (ends .exit))) (now (row .exit)) ⌝ }
 {
     match settings::layout::spacing(argument, printer) {
         Down::Are(count) => super::page_rows::skip(
@@ -96,17 +104,19 @@ fn act_on(
     page: Page,
     collected: Collected,
     planted: Planted,
-    cells: &[u8; 512],
-    row: &mut [u8; 872],
+    cells: &LineBytes,
+    row: &mut RowBytes,
     stack: Stack,
-    arena: &mut [u8; 8704],
-    ends: &mut [u16; 221],
-    firsts: &[u8; 64],
-    seconds: &[u8; 64],
+    arena: &mut StackBytes,
+    ends: &mut StackEnds,
+    firsts: &ByteColumn,
+    seconds: &ByteColumn,
     texts: usize,
 ) -> Outcome
-    requires { ⌜ Begins planted (desk layout page collected (now cells) stack (now arena) (now ends)) [] (now row) (now firsts) (now seconds) texts × SoundPrinter printer ⌝ }
-    ensures { λ r. ⌜ Worked (λ ts s. actBy (workOf request) (printerOf printer) request (now (argument .entry)) s) (now (firsts .entry)) (now (seconds .entry)) texts planted (desk layout page collected (now (cells .entry)) stack (now (arena .entry)) (now (ends .entry))) (r .way) (r .written) (desk (r .layout) (r .page) (r .collected) (now (cells .entry)) (r .stack) (now (arena .exit)) (now (ends .exit))) (now (row .exit)) ⌝ }
+    ghost { Desk }
+    requires { λ q. ⌜ desk layout page collected (now cells) stack (now arena) (now ends) ≡ q ⌝ }
+    requires { λ q. ⌜ Begins planted q [] (now row) (now firsts) (now seconds) texts × SoundPrinter printer ⌝ }
+    ensures { λ q r. ⌜ Worked (λ ts s. actBy (workOf request) (printerOf printer) request (now (argument .entry)) s) (now (firsts .entry)) (now (seconds .entry)) texts planted q (r .way) (r .written) (desk (r .layout) (r .page) (r .collected) (now (cells .entry)) (r .stack) (now (arena .exit)) (now (ends .exit))) (now (row .exit)) ⌝ }
 {
     match work_of(request) {
         Work::Spaces => space(
@@ -151,25 +161,27 @@ fn act_on(
 pub fn act(
     request: Breaking,
     line: &[u8],
-    parts: &mut [u8; 512],
+    parts: &mut LineBytes,
     printer: Printer,
     layout: Layout,
     page: Page,
     collected: Collected,
     planted: Planted,
-    cells: &[u8; 512],
-    row: &mut [u8; 872],
+    cells: &LineBytes,
+    row: &mut RowBytes,
     stack: Stack,
-    arena: &mut [u8; 8704],
-    ends: &mut [u16; 221],
-    firsts: &[u8; 64],
-    seconds: &[u8; 64],
+    arena: &mut StackBytes,
+    ends: &mut StackEnds,
+    firsts: &ByteColumn,
+    seconds: &ByteColumn,
     texts: usize,
 ) -> Outcome
-    requires { ⌜ Begins planted (desk layout page collected (now cells) stack (now arena) (now ends)) (now line) (now row) (now firsts) (now seconds) texts × SoundPrinter printer × (length (now parts) ≡ 512) ⌝ }
-    ensures { λ r. ⌜ Worked (λ ts s. rule.act (printerOf printer) request (now (line .entry)) s) (now (firsts .entry)) (now (seconds .entry)) texts planted (desk layout page collected (now (cells .entry)) stack (now (arena .entry)) (now (ends .entry))) (r .way) (r .written) (desk (r .layout) (r .page) (r .collected) (now (cells .entry)) (r .stack) (now (arena .exit)) (now (ends .exit))) (now (row .exit)) ⌝ }
+    ghost { Desk }
+    requires { λ q. ⌜ desk layout page collected (now cells) stack (now arena) (now ends) ≡ q ⌝ }
+    requires { λ q. ⌜ Begins planted q (now line) (now row) (now firsts) (now seconds) texts × SoundPrinter printer × (length (now parts) ≡ 512) ⌝ }
+    ensures { λ q r. ⌜ Worked (λ ts s. rule.act (printerOf printer) request (now (line .entry)) s) (now (firsts .entry)) (now (seconds .entry)) texts planted q (r .way) (r .written) (desk (r .layout) (r .page) (r .collected) (now (cells .entry)) (r .stack) (now (arena .exit)) (now (ends .exit))) (now (row .exit)) ⌝ }
 {
-    let mut places = [0u16; 9];
+    let mut places = [0u16; ARGUMENT_COUNT];
     let count = scan::arguments::arguments(line, 0, &mut *parts, &mut places);
     let argument = line_syntax::lines::argument(&*parts, &places, count, 0);
     act_on(
@@ -237,23 +249,25 @@ pub fn obey(
     request: Breaking,
     name: Name,
     line: &[u8],
-    parts: &mut [u8; 512],
+    parts: &mut LineBytes,
     printer: Printer,
     layout: Layout,
     page: Page,
     collected: Collected,
     planted: Planted,
-    cells: &[u8; 512],
-    row: &mut [u8; 872],
+    cells: &LineBytes,
+    row: &mut RowBytes,
     stack: Stack,
-    arena: &mut [u8; 8704],
-    ends: &mut [u16; 221],
-    firsts: &[u8; 64],
-    seconds: &[u8; 64],
+    arena: &mut StackBytes,
+    ends: &mut StackEnds,
+    firsts: &ByteColumn,
+    seconds: &ByteColumn,
     texts: usize,
 ) -> Outcome
-    requires { ⌜ Begins planted (desk layout page collected (now cells) stack (now arena) (now ends)) (now line) (now row) (now firsts) (now seconds) texts × SoundPrinter printer × (length (now parts) ≡ 512) ⌝ }
-    ensures { λ r. ⌜ Worked (λ ts s. obeyed (printerOf printer) period request name (now (line .entry)) s) (now (firsts .entry)) (now (seconds .entry)) texts planted (desk layout page collected (now (cells .entry)) stack (now (arena .entry)) (now (ends .entry))) (r .way) (r .written) (desk (r .layout) (r .page) (r .collected) (now (cells .entry)) (r .stack) (now (arena .exit)) (now (ends .exit))) (now (row .exit)) ⌝ }
+    ghost { Desk }
+    requires { λ q. ⌜ desk layout page collected (now cells) stack (now arena) (now ends) ≡ q ⌝ }
+    requires { λ q. ⌜ Begins planted q (now line) (now row) (now firsts) (now seconds) texts × SoundPrinter printer × (length (now parts) ≡ 512) ⌝ }
+    ensures { λ q r. ⌜ Worked (λ ts s. obeyed (printerOf printer) period request name (now (line .entry)) s) (now (firsts .entry)) (now (seconds .entry)) texts planted q (r .way) (r .written) (desk (r .layout) (r .page) (r .collected) (now (cells .entry)) (r .stack) (now (arena .exit)) (now (ends .exit))) (now (row .exit)) ⌝ }
 {
     if starts_first(page.number, period, request) {
         return super::page_rows::start(

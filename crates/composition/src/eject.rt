@@ -8,6 +8,11 @@ use page::position::Page;
 use page::springs::Held;
 use page::springs::Landed;
 use page::springs::Way;
+use rules::arrays::ByteColumn;
+use rules::arrays::LineBytes;
+use rules::arrays::RowBytes;
+use rules::arrays::StackBytes;
+use rules::arrays::StackEnds;
 use settings::layout::Layout;
 use traps::table::Planted;
 ghost use mathlib.Core.Path.{_≡_};
@@ -16,7 +21,7 @@ ghost use Prim.Native.Nat.{_+_, _≤_, _<_};
 ghost use lib.Dec.{ltb};
 ghost use Rattle.measure.specs.Counts.{downOf};
 ghost use Rattle.rules.specs.Rows as rule;
-ghost use Rattle.composition.specs.PageRows.Desk.{desk, leftIf, Begins, Worked};
+ghost use Rattle.composition.specs.PageRows.Desk.{Desk, desk, leftIf, Begins, Worked};
 
 // What is left of a bp after blank rows, if they end within the page.
 fn left_of(from: u32, page: Page, rows: Rows, length: Rows) -> Held
@@ -37,17 +42,19 @@ pub fn eject(
     page: Page,
     collected: Collected,
     planted: Planted,
-    cells: &[u8; 512],
-    row: &mut [u8; 872],
+    cells: &LineBytes,
+    row: &mut RowBytes,
     stack: Stack,
-    arena: &mut [u8; 8704],
-    ends: &mut [u16; 221],
-    firsts: &[u8; 64],
-    seconds: &[u8; 64],
+    arena: &mut StackBytes,
+    ends: &mut StackEnds,
+    firsts: &ByteColumn,
+    seconds: &ByteColumn,
     texts: usize,
 ) -> Outcome
-    requires { ⌜ Begins planted (desk layout page collected (now cells) stack (now arena) (now ends)) [] (now row) (now firsts) (now seconds) texts ⌝ }
-    ensures { λ r. ⌜ Worked (λ ts s. rule.eject from s) (now (firsts .entry)) (now (seconds .entry)) texts planted (desk layout page collected (now (cells .entry)) stack (now (arena .entry)) (now (ends .entry))) (r .way) (r .written) (desk (r .layout) (r .page) (r .collected) (now (cells .entry)) (r .stack) (now (arena .exit)) (now (ends .exit))) (now (row .exit)) ⌝ }
+    ghost { Desk }
+    requires { λ q. ⌜ desk layout page collected (now cells) stack (now arena) (now ends) ≡ q ⌝ }
+    requires { λ q. ⌜ Begins planted q [] (now row) (now firsts) (now seconds) texts ⌝ }
+    ensures { λ q r. ⌜ Worked (λ ts s. rule.eject from s) (now (firsts .entry)) (now (seconds .entry)) texts planted q (r .way) (r .written) (desk (r .layout) (r .page) (r .collected) (now (cells .entry)) (r .stack) (now (arena .exit)) (now (ends .exit))) (now (row .exit)) ⌝ }
 {
     if from != page.number {
         return super::page_rows::lead_to(
@@ -89,17 +96,19 @@ pub fn eject_last(
     page: Page,
     collected: Collected,
     planted: Planted,
-    cells: &[u8; 512],
-    row: &mut [u8; 872],
+    cells: &LineBytes,
+    row: &mut RowBytes,
     stack: Stack,
-    arena: &mut [u8; 8704],
-    ends: &mut [u16; 221],
-    firsts: &[u8; 64],
-    seconds: &[u8; 64],
+    arena: &mut StackBytes,
+    ends: &mut StackEnds,
+    firsts: &ByteColumn,
+    seconds: &ByteColumn,
     texts: usize,
 ) -> Outcome
-    requires { ⌜ Begins planted (desk layout page collected (now cells) stack (now arena) (now ends)) [] (now row) (now firsts) (now seconds) texts ⌝ }
-    ensures { λ r. ⌜ Worked (λ ts s. rule.ejectLast s) (now (firsts .entry)) (now (seconds .entry)) texts planted (desk layout page collected (now (cells .entry)) stack (now (arena .entry)) (now (ends .entry))) (r .way) (r .written) (desk (r .layout) (r .page) (r .collected) (now (cells .entry)) (r .stack) (now (arena .exit)) (now (ends .exit))) (now (row .exit)) ⌝ }
+    ghost { Desk }
+    requires { λ q. ⌜ desk layout page collected (now cells) stack (now arena) (now ends) ≡ q ⌝ }
+    requires { λ q. ⌜ Begins planted q [] (now row) (now firsts) (now seconds) texts ⌝ }
+    ensures { λ q r. ⌜ Worked (λ ts s. rule.ejectLast s) (now (firsts .entry)) (now (seconds .entry)) texts planted q (r .way) (r .written) (desk (r .layout) (r .page) (r .collected) (now (cells .entry)) (r .stack) (now (arena .exit)) (now (ends .exit))) (now (row .exit)) ⌝ }
 {
     let length = layout.page;
     let below = page::position::rows_below(page, length, planted);
@@ -128,17 +137,19 @@ pub fn begin_end(
     page: Page,
     collected: Collected,
     planted: Planted,
-    cells: &[u8; 512],
-    row: &mut [u8; 872],
+    cells: &LineBytes,
+    row: &mut RowBytes,
     stack: Stack,
-    arena: &mut [u8; 8704],
-    ends: &mut [u16; 221],
-    firsts: &[u8; 64],
-    seconds: &[u8; 64],
+    arena: &mut StackBytes,
+    ends: &mut StackEnds,
+    firsts: &ByteColumn,
+    seconds: &ByteColumn,
     texts: usize,
 ) -> Outcome
-    requires { ⌜ Begins planted (desk layout page collected (now cells) stack (now arena) (now ends)) [] (now row) (now firsts) (now seconds) texts ⌝ }
-    ensures { λ r. ⌜ Worked (λ ts s. rule.beginEnd s) (now (firsts .entry)) (now (seconds .entry)) texts planted (desk layout page collected (now (cells .entry)) stack (now (arena .entry)) (now (ends .entry))) (r .way) (r .written) (desk (r .layout) (r .page) (r .collected) (now (cells .entry)) (r .stack) (now (arena .exit)) (now (ends .exit))) (now (row .exit)) ⌝ }
+    ghost { Desk }
+    requires { λ q. ⌜ desk layout page collected (now cells) stack (now arena) (now ends) ≡ q ⌝ }
+    requires { λ q. ⌜ Begins planted q [] (now row) (now firsts) (now seconds) texts ⌝ }
+    ensures { λ q r. ⌜ Worked (λ ts s. rule.beginEnd s) (now (firsts .entry)) (now (seconds .entry)) texts planted q (r .way) (r .written) (desk (r .layout) (r .page) (r .collected) (now (cells .entry)) (r .stack) (now (arena .exit)) (now (ends .exit))) (now (row .exit)) ⌝ }
 {
     let used = page.used;
     let last = Page {

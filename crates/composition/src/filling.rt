@@ -12,6 +12,11 @@ use measure::Rows;
 use page::position::Page;
 use page::springs::Held;
 use page::springs::Way;
+use rules::arrays::ByteColumn;
+use rules::arrays::LineBytes;
+use rules::arrays::RowBytes;
+use rules::arrays::StackBytes;
+use rules::arrays::StackEnds;
 use settings::layout::Layout;
 use traps::table::Planted;
 ghost use mathlib.Core.Path.{_≡_};
@@ -26,11 +31,11 @@ ghost use Rattle.rules.specs.TextLines.{fills};
 ghost use Rattle.fill.specs.Words.Parts.{part, Places};
 ghost use Rattle.fill.specs.Collected.Filled.{placedOf};
 ghost use Rattle.fill.specs.declared.collected.Placed.the-variants.{Full};
-ghost use Rattle.composition.specs.PageRows.Desk.{desk, Begins, Worked};
+ghost use Rattle.composition.specs.PageRows.Desk.{Desk, desk, Begins, Worked};
 ghost use Rattle.composition.specs.Filling.Words.{othersHeld, gapBehind, collectedTo, leadingWord, Overflows, Filled, Starts, Follows};
 
 // "then the other words": they are held where some are left.
-fn others_held(line: &[u8; 512], at: usize, to: usize, gap: u8) -> Held
+fn others_held(line: &LineBytes, at: usize, to: usize, gap: u8) -> Held
     requires { ⌜ Places (now line) at to ⌝ }
     ensures { λ r. ⌜ r ≡ othersHeld (words (part (now (line .entry)) at to)) gap ⌝ }
 {
@@ -41,7 +46,7 @@ fn others_held(line: &[u8; 512], at: usize, to: usize, gap: u8) -> Held
 }
 
 // The gap to what a trap's macro puts next: the line has ended only if no words are left.
-fn gap_behind(line: &[u8; 512], at: usize, to: usize, gap: u8) -> usize
+fn gap_behind(line: &LineBytes, at: usize, to: usize, gap: u8) -> usize
     requires { ⌜ Places (now line) at to ⌝ }
     ensures { λ r. ⌜ r ≡ gapBehind (words (part (now (line .entry)) at to)) gap ⌝ }
 {
@@ -86,23 +91,25 @@ fn collect(
 fn overflow(
     o: Overflow,
     gap: u8,
-    line: &[u8; 512],
+    line: &LineBytes,
     to: usize,
     layout: Layout,
     page: Page,
     collected: Collected,
     planted: Planted,
-    cells: &mut [u8; 512],
-    row: &mut [u8; 872],
+    cells: &mut LineBytes,
+    row: &mut RowBytes,
     stack: Stack,
-    arena: &mut [u8; 8704],
-    ends: &mut [u16; 221],
-    firsts: &[u8; 64],
-    seconds: &[u8; 64],
+    arena: &mut StackBytes,
+    ends: &mut StackEnds,
+    firsts: &ByteColumn,
+    seconds: &ByteColumn,
     texts: usize,
 ) -> Outcome
-    requires { ⌜ Begins planted (desk layout page collected (now cells) stack (now arena) (now ends)) (now line) (now row) (now firsts) (now seconds) texts × Overflows (now line) to (now cells) (acrossOf (collected .room)) gap o ⌝ }
-    ensures { λ r. ⌜ Worked (λ ts s. rule.filled (placedOf (acrossOf (collected .indent)) (acrossOf (collected .room)) (now (cells .entry)) (collected .next) (now (line .entry)) to (Full o)) gap s) (now (firsts .entry)) (now (seconds .entry)) texts planted (desk layout page collected (now (cells .entry)) stack (now (arena .entry)) (now (ends .entry))) (r .way) (r .written) (desk (r .layout) (r .page) (r .collected) (now (cells .exit)) (r .stack) (now (arena .exit)) (now (ends .exit))) (now (row .exit)) ⌝ }
+    ghost { Desk }
+    requires { λ q. ⌜ desk layout page collected (now cells) stack (now arena) (now ends) ≡ q ⌝ }
+    requires { λ q. ⌜ Begins planted q (now line) (now row) (now firsts) (now seconds) texts × Overflows (now line) to (now cells) (acrossOf (collected .room)) gap o ⌝ }
+    ensures { λ q r. ⌜ Worked (λ ts s. rule.filled (placedOf (acrossOf (collected .indent)) (acrossOf (collected .room)) (now (cells .entry)) (collected .next) (now (line .entry)) to (Full o)) gap s) (now (firsts .entry)) (now (seconds .entry)) texts planted q (r .way) (r .written) (desk (r .layout) (r .page) (r .collected) (now (cells .exit)) (r .stack) (now (arena .exit)) (now (ends .exit))) (now (row .exit)) ⌝ }
 {
     let margin = layout.offset;
     let offset = margin.now;
@@ -152,23 +159,25 @@ fn overflow(
 fn fill_placed(
     placed: Placed,
     gap: u8,
-    line: &[u8; 512],
+    line: &LineBytes,
     to: usize,
     layout: Layout,
     page: Page,
     collected: Collected,
     planted: Planted,
-    cells: &mut [u8; 512],
-    row: &mut [u8; 872],
+    cells: &mut LineBytes,
+    row: &mut RowBytes,
     stack: Stack,
-    arena: &mut [u8; 8704],
-    ends: &mut [u16; 221],
-    firsts: &[u8; 64],
-    seconds: &[u8; 64],
+    arena: &mut StackBytes,
+    ends: &mut StackEnds,
+    firsts: &ByteColumn,
+    seconds: &ByteColumn,
     texts: usize,
 ) -> Outcome
-    requires { ⌜ Begins planted (desk layout page collected (now cells) stack (now arena) (now ends)) (now line) (now row) (now firsts) (now seconds) texts × Filled (now line) to (now cells) (acrossOf (collected .room)) gap placed ⌝ }
-    ensures { λ r. ⌜ Worked (λ ts s. rule.filled (placedOf (acrossOf (collected .indent)) (acrossOf (collected .room)) (now (cells .entry)) (collected .next) (now (line .entry)) to placed) gap s) (now (firsts .entry)) (now (seconds .entry)) texts planted (desk layout page collected (now (cells .entry)) stack (now (arena .entry)) (now (ends .entry))) (r .way) (r .written) (desk (r .layout) (r .page) (r .collected) (now (cells .exit)) (r .stack) (now (arena .exit)) (now (ends .exit))) (now (row .exit)) ⌝ }
+    ghost { Desk }
+    requires { λ q. ⌜ desk layout page collected (now cells) stack (now arena) (now ends) ≡ q ⌝ }
+    requires { λ q. ⌜ Begins planted q (now line) (now row) (now firsts) (now seconds) texts × Filled (now line) to (now cells) (acrossOf (collected .room)) gap placed ⌝ }
+    ensures { λ q r. ⌜ Worked (λ ts s. rule.filled (placedOf (acrossOf (collected .indent)) (acrossOf (collected .room)) (now (cells .entry)) (collected .next) (now (line .entry)) to placed) gap s) (now (firsts .entry)) (now (seconds .entry)) texts planted q (r .way) (r .written) (desk (r .layout) (r .page) (r .collected) (now (cells .exit)) (r .stack) (now (arena .exit)) (now (ends .exit))) (now (row .exit)) ⌝ }
 {
     match placed {
         Placed::All(length) => collect(length, gap, layout, page, collected, stack),
@@ -198,23 +207,25 @@ fn fill_new(
     lead: usize,
     found: WordAt,
     gap: u8,
-    line: &[u8; 512],
+    line: &LineBytes,
     to: usize,
     layout: Layout,
     page: Page,
     collected: Collected,
     planted: Planted,
-    cells: &mut [u8; 512],
-    row: &mut [u8; 872],
+    cells: &mut LineBytes,
+    row: &mut RowBytes,
     stack: Stack,
-    arena: &mut [u8; 8704],
-    ends: &mut [u16; 221],
-    firsts: &[u8; 64],
-    seconds: &[u8; 64],
+    arena: &mut StackBytes,
+    ends: &mut StackEnds,
+    firsts: &ByteColumn,
+    seconds: &ByteColumn,
     texts: usize,
 ) -> Outcome
-    requires { ⌜ Begins planted (desk layout page collected (now cells) stack (now arena) (now ends)) (now line) (now row) (now firsts) (now seconds) texts × Starts (now line) to lead gap found × (collected .there ≡ false) ⌝ }
-    ensures { λ r. ⌜ Worked (λ ts s. rule.fill (leadingWord lead (part (now (line .entry)) (found .from) (found .to)) ∷ words (part (now (line .entry)) (found .to) to)) gap s) (now (firsts .entry)) (now (seconds .entry)) texts planted (desk layout page collected (now (cells .entry)) stack (now (arena .entry)) (now (ends .entry))) (r .way) (r .written) (desk (r .layout) (r .page) (r .collected) (now (cells .exit)) (r .stack) (now (arena .exit)) (now (ends .exit))) (now (row .exit)) ⌝ }
+    ghost { Desk }
+    requires { λ q. ⌜ desk layout page collected (now cells) stack (now arena) (now ends) ≡ q ⌝ }
+    requires { λ q. ⌜ Begins planted q (now line) (now row) (now firsts) (now seconds) texts × Starts (now line) to lead gap found × (collected .there ≡ false) ⌝ }
+    ensures { λ q r. ⌜ Worked (λ ts s. rule.fill (leadingWord lead (part (now (line .entry)) (found .from) (found .to)) ∷ words (part (now (line .entry)) (found .to) to)) gap s) (now (firsts .entry)) (now (seconds .entry)) texts planted q (r .way) (r .written) (desk (r .layout) (r .page) (r .collected) (now (cells .exit)) (r .stack) (now (arena .exit)) (now (ends .exit))) (now (row .exit)) ⌝ }
 {
     let at = found.to;
     let indent = settings::layout::indent_now(layout);
@@ -252,23 +263,25 @@ fn fill_new(
 // The words of a line go on behind what is collected, after their own gaps.
 pub fn fill_rest(
     gap: u8,
-    line: &[u8; 512],
+    line: &LineBytes,
     to: usize,
     layout: Layout,
     page: Page,
     collected: Collected,
     planted: Planted,
-    cells: &mut [u8; 512],
-    row: &mut [u8; 872],
+    cells: &mut LineBytes,
+    row: &mut RowBytes,
     stack: Stack,
-    arena: &mut [u8; 8704],
-    ends: &mut [u16; 221],
-    firsts: &[u8; 64],
-    seconds: &[u8; 64],
+    arena: &mut StackBytes,
+    ends: &mut StackEnds,
+    firsts: &ByteColumn,
+    seconds: &ByteColumn,
     texts: usize,
 ) -> Outcome
-    requires { ⌜ Begins planted (desk layout page collected (now cells) stack (now arena) (now ends)) (now line) (now row) (now firsts) (now seconds) texts × Places (now line) 0 to × (gap ≤ 2) ⌝ }
-    ensures { λ r. ⌜ Worked (λ ts s. rule.fill (words (part (now (line .entry)) 0 to)) gap s) (now (firsts .entry)) (now (seconds .entry)) texts planted (desk layout page collected (now (cells .entry)) stack (now (arena .entry)) (now (ends .entry))) (r .way) (r .written) (desk (r .layout) (r .page) (r .collected) (now (cells .exit)) (r .stack) (now (arena .exit)) (now (ends .exit))) (now (row .exit)) ⌝ }
+    ghost { Desk }
+    requires { λ q. ⌜ desk layout page collected (now cells) stack (now arena) (now ends) ≡ q ⌝ }
+    requires { λ q. ⌜ Begins planted q (now line) (now row) (now firsts) (now seconds) texts × Places (now line) 0 to × (gap ≤ 2) ⌝ }
+    ensures { λ q r. ⌜ Worked (λ ts s. rule.fill (words (part (now (line .entry)) 0 to)) gap s) (now (firsts .entry)) (now (seconds .entry)) texts planted q (r .way) (r .written) (desk (r .layout) (r .page) (r .collected) (now (cells .exit)) (r .stack) (now (arena .exit)) (now (ends .exit))) (now (row .exit)) ⌝ }
 {
     let Next::Found(found) = fill::words::next_word(line, 0, to) else {
         return stay(Way::On, layout, page, collected, stack);
@@ -325,23 +338,25 @@ pub fn fill_rest(
 
 // The words of a text line are filled, the first after the gap to this line, or with its leading spaces as fixed blanks.
 pub fn fill_line(
-    line: &[u8; 512],
+    line: &LineBytes,
     to: usize,
     layout: Layout,
     page: Page,
     collected: Collected,
     planted: Planted,
-    cells: &mut [u8; 512],
-    row: &mut [u8; 872],
+    cells: &mut LineBytes,
+    row: &mut RowBytes,
     stack: Stack,
-    arena: &mut [u8; 8704],
-    ends: &mut [u16; 221],
-    firsts: &[u8; 64],
-    seconds: &[u8; 64],
+    arena: &mut StackBytes,
+    ends: &mut StackEnds,
+    firsts: &ByteColumn,
+    seconds: &ByteColumn,
     texts: usize,
 ) -> Outcome
-    requires { ⌜ Begins planted (desk layout page collected (now cells) stack (now arena) (now ends)) (now line) (now row) (now firsts) (now seconds) texts × Places (now line) 0 to × Follows (collected .there) (words (part (now line) 0 to)) ⌝ }
-    ensures { λ r. ⌜ Worked (λ ts s. rule.textWay fills (words (part (now (line .entry)) 0 to)) (part (now (line .entry)) 0 to) s) (now (firsts .entry)) (now (seconds .entry)) texts planted (desk layout page collected (now (cells .entry)) stack (now (arena .entry)) (now (ends .entry))) (r .way) (r .written) (desk (r .layout) (r .page) (r .collected) (now (cells .exit)) (r .stack) (now (arena .exit)) (now (ends .exit))) (now (row .exit)) ⌝ }
+    ghost { Desk }
+    requires { λ q. ⌜ desk layout page collected (now cells) stack (now arena) (now ends) ≡ q ⌝ }
+    requires { λ q. ⌜ Begins planted q (now line) (now row) (now firsts) (now seconds) texts × Places (now line) 0 to × Follows (collected .there) (words (part (now line) 0 to)) ⌝ }
+    ensures { λ q r. ⌜ Worked (λ ts s. rule.textWay fills (words (part (now (line .entry)) 0 to)) (part (now (line .entry)) 0 to) s) (now (firsts .entry)) (now (seconds .entry)) texts planted q (r .way) (r .written) (desk (r .layout) (r .page) (r .collected) (now (cells .exit)) (r .stack) (now (arena .exit)) (now (ends .exit))) (now (row .exit)) ⌝ }
 {
     let Next::Found(found) = fill::words::next_word(line, 0, to) else {
         return stay(Way::On, layout, page, collected, stack);

@@ -12,6 +12,12 @@ use page::position::Page;
 use page::springs::Held;
 use page::springs::Way;
 use rules::Unbreaking;
+use rules::arrays::ARGUMENT_COUNT;
+use rules::arrays::ByteColumn;
+use rules::arrays::LineBytes;
+use rules::arrays::RowBytes;
+use rules::arrays::StackBytes;
+use rules::arrays::StackEnds;
 use settings::layout::Layout;
 use settings::layout::NewLayout;
 use settings::layout::Printer;
@@ -25,14 +31,14 @@ ghost use Rattle.rules.specs.Acts.{settles, argument, perform};
 ghost use Rattle.rules.specs.declared.Unbreaking.the-variants.{If};
 ghost use Rattle.settings.specs.Layout.Layouts.{printerOf, SoundPrinter, Ready, Performed};
 ghost use Rattle.page.specs.Springs.Held as springs;
-ghost use Rattle.composition.specs.PageRows.Desk.{desk, Begins, Worked};
+ghost use Rattle.composition.specs.PageRows.Desk.{Desk, desk, Begins, Worked};
 ghost use Rattle.composition.specs.NoBreakRequests.Keeping.{isIf, isKept, Followed};
 
 // What a request makes of the layout, by its first argument.
 fn new_layout(
     request: Unbreaking,
     line: &[u8],
-    parts: &mut [u8; 512],
+    parts: &mut LineBytes,
     used: Rows,
     layout: Layout,
     printer: Printer,
@@ -40,14 +46,14 @@ fn new_layout(
     requires { ⌜ Ready printer layout × (length (now line) ≤ 512) × (length (now parts) ≡ 512) ⌝ }
     ensures { λ r. ⌜ Performed printer request layout (downOf used) (argument 0 (now (line .entry))) r ⌝ }
 {
-    let mut given = [0u16; 9];
+    let mut given = [0u16; ARGUMENT_COUNT];
     let count = scan::arguments::arguments(line, 0, &mut *parts, &mut given);
     let first = line_syntax::lines::argument(&*parts, &given, count, 0);
     settings::page_settings::perform(request, layout, used, first, printer)
 }
 
 // if: "What follows its spaces, if anything, is dealt with as a line without second expansion"
-fn follow(rest: &[u8], stack: Stack, arena: &mut [u8; 8704], ends: &mut [u16; 221]) -> Stack
+fn follow(rest: &[u8], stack: Stack, arena: &mut StackBytes, ends: &mut StackEnds) -> Stack
     requires { ⌜ springs.Ready stack (now arena) (now ends) (now rest) ⌝ }
     ensures { λ r. ⌜ Followed (now (rest .entry)) stack (now (arena .entry)) (now (ends .entry)) r (now (arena .exit)) (now (ends .exit)) ⌝ }
 {
@@ -75,17 +81,19 @@ fn keep_if(
     page: Page,
     collected: Collected,
     planted: Planted,
-    cells: &[u8; 512],
-    row: &[u8; 872],
+    cells: &LineBytes,
+    row: &RowBytes,
     stack: Stack,
-    arena: &mut [u8; 8704],
-    ends: &mut [u16; 221],
-    firsts: &[u8; 64],
-    seconds: &[u8; 64],
+    arena: &mut StackBytes,
+    ends: &mut StackEnds,
+    firsts: &ByteColumn,
+    seconds: &ByteColumn,
     texts: usize,
 ) -> Outcome
-    requires { ⌜ Begins planted (desk layout page collected (now cells) stack (now arena) (now ends)) (now line) (now row) (now firsts) (now seconds) texts × SoundPrinter printer ⌝ }
-    ensures { λ r. ⌜ Worked (λ ts s. settles (perform (printerOf printer) If (now (line .entry)) s) s) (now (firsts .entry)) (now (seconds .entry)) texts planted (desk layout page collected (now (cells .entry)) stack (now (arena .entry)) (now (ends .entry))) (r .way) (r .written) (desk (r .layout) (r .page) (r .collected) (now (cells .entry)) (r .stack) (now (arena .exit)) (now (ends .exit))) (now (row .entry)) ⌝ }
+    ghost { Desk }
+    requires { λ q. ⌜ desk layout page collected (now cells) stack (now arena) (now ends) ≡ q ⌝ }
+    requires { λ q. ⌜ Begins planted q (now line) (now row) (now firsts) (now seconds) texts × SoundPrinter printer ⌝ }
+    ensures { λ q r. ⌜ Worked (λ ts s. settles (perform (printerOf printer) If (now (line .entry)) s) s) (now (firsts .entry)) (now (seconds .entry)) texts planted q (r .way) (r .written) (desk (r .layout) (r .page) (r .collected) (now (cells .entry)) (r .stack) (now (arena .exit)) (now (ends .exit))) (now (row .entry)) ⌝ }
 {
     let places = line_syntax::lines::condition_at(line, 0);
     let from = places.from;
@@ -126,23 +134,25 @@ fn is_if(request: Unbreaking) -> bool
 pub fn keep(
     request: Unbreaking,
     line: &[u8],
-    parts: &mut [u8; 512],
+    parts: &mut LineBytes,
     printer: Printer,
     layout: Layout,
     page: Page,
     collected: Collected,
     planted: Planted,
-    cells: &[u8; 512],
-    row: &[u8; 872],
+    cells: &LineBytes,
+    row: &RowBytes,
     stack: Stack,
-    arena: &mut [u8; 8704],
-    ends: &mut [u16; 221],
-    firsts: &[u8; 64],
-    seconds: &[u8; 64],
+    arena: &mut StackBytes,
+    ends: &mut StackEnds,
+    firsts: &ByteColumn,
+    seconds: &ByteColumn,
     texts: usize,
 ) -> Outcome
-    requires { ⌜ Begins planted (desk layout page collected (now cells) stack (now arena) (now ends)) (now line) (now row) (now firsts) (now seconds) texts × SoundPrinter printer × (length (now parts) ≡ 512) × (isKept request ≡ true) ⌝ }
-    ensures { λ r. ⌜ Worked (λ ts s. settles (perform (printerOf printer) request (now (line .entry)) s) s) (now (firsts .entry)) (now (seconds .entry)) texts planted (desk layout page collected (now (cells .entry)) stack (now (arena .entry)) (now (ends .entry))) (r .way) (r .written) (desk (r .layout) (r .page) (r .collected) (now (cells .entry)) (r .stack) (now (arena .exit)) (now (ends .exit))) (now (row .entry)) ⌝ }
+    ghost { Desk }
+    requires { λ q. ⌜ desk layout page collected (now cells) stack (now arena) (now ends) ≡ q ⌝ }
+    requires { λ q. ⌜ Begins planted q (now line) (now row) (now firsts) (now seconds) texts × SoundPrinter printer × (length (now parts) ≡ 512) × (isKept request ≡ true) ⌝ }
+    ensures { λ q r. ⌜ Worked (λ ts s. settles (perform (printerOf printer) request (now (line .entry)) s) s) (now (firsts .entry)) (now (seconds .entry)) texts planted q (r .way) (r .written) (desk (r .layout) (r .page) (r .collected) (now (cells .entry)) (r .stack) (now (arena .exit)) (now (ends .exit))) (now (row .entry)) ⌝ }
 {
     if is_if(request) {
         return keep_if(

@@ -6,6 +6,11 @@ use page::position::Page;
 use page::springs::Held;
 use page::springs::Landed;
 use page::springs::Way;
+use rules::arrays::ByteColumn;
+use rules::arrays::LineBytes;
+use rules::arrays::RowBytes;
+use rules::arrays::StackBytes;
+use rules::arrays::StackEnds;
 use settings::layout::Layout;
 use settings::layout::NewLayout;
 use traps::table::Planted;
@@ -16,7 +21,7 @@ ghost use Rattle.measure.specs.Counts.{acrossOf, downOf};
 ghost use Rattle.rules.specs.Rows as rule;
 ghost use Rattle.fill.specs.Collected.Filled.{lineOf};
 ghost use Rattle.page.specs.Springs.Held.{heldOf, Plain};
-ghost use Rattle.composition.specs.PageRows.Desk.{desk, noLine, stayed, settledBy, outcomeOf, Begins, Worked};
+ghost use Rattle.composition.specs.PageRows.Desk.{Desk, desk, noLine, stayed, settledBy, outcomeOf, Begins, Worked};
 
 // The collected line, if there is one: its first `length` cells lie in an array of their own.
 pub struct Collected {
@@ -106,17 +111,19 @@ pub fn break_line(
     page: Page,
     collected: Collected,
     planted: Planted,
-    cells: &[u8; 512],
-    row: &mut [u8; 872],
+    cells: &LineBytes,
+    row: &mut RowBytes,
     stack: Stack,
-    arena: &mut [u8; 8704],
-    ends: &mut [u16; 221],
-    firsts: &[u8; 64],
-    seconds: &[u8; 64],
+    arena: &mut StackBytes,
+    ends: &mut StackEnds,
+    firsts: &ByteColumn,
+    seconds: &ByteColumn,
     texts: usize,
 ) -> Outcome
-    requires { ⌜ Begins planted (desk layout page collected (now cells) stack (now arena) (now ends)) (now bytes) (now row) (now firsts) (now seconds) texts × Plain held ⌝ }
-    ensures { λ r. ⌜ Worked (λ ts s. rule.break (lineOf (acrossOf (collected .indent)) (acrossOf (collected .room)) (now (cells .entry)) (collected .length) (collected .next)) (heldOf ts held (now (bytes .entry))) s) (now (firsts .entry)) (now (seconds .entry)) texts planted (desk layout page collected (now (cells .entry)) stack (now (arena .entry)) (now (ends .entry))) (r .way) (r .written) (desk (r .layout) (r .page) (r .collected) (now (cells .entry)) (r .stack) (now (arena .exit)) (now (ends .exit))) (now (row .exit)) ⌝ }
+    ghost { Desk }
+    requires { λ q. ⌜ desk layout page collected (now cells) stack (now arena) (now ends) ≡ q ⌝ }
+    requires { λ q. ⌜ Begins planted q (now bytes) (now row) (now firsts) (now seconds) texts × Plain held ⌝ }
+    ensures { λ q r. ⌜ Worked (λ ts s. rule.break (lineOf (acrossOf (collected .indent)) (acrossOf (collected .room)) (now (cells .entry)) (collected .length) (collected .next)) (heldOf ts held (now (bytes .entry))) s) (now (firsts .entry)) (now (seconds .entry)) texts planted q (r .way) (r .written) (desk (r .layout) (r .page) (r .collected) (now (cells .entry)) (r .stack) (now (arena .exit)) (now (ends .exit))) (now (row .exit)) ⌝ }
 {
     let offset = layout.offset.now;
     let length = layout.page;
@@ -153,17 +160,19 @@ pub fn blank(
     page: Page,
     collected: Collected,
     planted: Planted,
-    cells: &[u8; 512],
-    row: &mut [u8; 872],
+    cells: &LineBytes,
+    row: &mut RowBytes,
     stack: Stack,
-    arena: &mut [u8; 8704],
-    ends: &mut [u16; 221],
-    firsts: &[u8; 64],
-    seconds: &[u8; 64],
+    arena: &mut StackBytes,
+    ends: &mut StackEnds,
+    firsts: &ByteColumn,
+    seconds: &ByteColumn,
     texts: usize,
 ) -> Outcome
-    requires { ⌜ Begins planted (desk layout page collected (now cells) stack (now arena) (now ends)) (now bytes) (now row) (now firsts) (now seconds) texts × Plain held × (downOf rows ≤ 500) ⌝ }
-    ensures { λ r. ⌜ Worked (λ ts s. rule.blank (downOf rows) (heldOf ts held (now (bytes .entry))) s) (now (firsts .entry)) (now (seconds .entry)) texts planted (desk layout page collected (now (cells .entry)) stack (now (arena .entry)) (now (ends .entry))) (r .way) (r .written) (desk (r .layout) (r .page) (r .collected) (now (cells .entry)) (r .stack) (now (arena .exit)) (now (ends .exit))) (now (row .exit)) ⌝ }
+    ghost { Desk }
+    requires { λ q. ⌜ desk layout page collected (now cells) stack (now arena) (now ends) ≡ q ⌝ }
+    requires { λ q. ⌜ Begins planted q (now bytes) (now row) (now firsts) (now seconds) texts × Plain held × (downOf rows ≤ 500) ⌝ }
+    ensures { λ q r. ⌜ Worked (λ ts s. rule.blank (downOf rows) (heldOf ts held (now (bytes .entry))) s) (now (firsts .entry)) (now (seconds .entry)) texts planted q (r .way) (r .written) (desk (r .layout) (r .page) (r .collected) (now (cells .entry)) (r .stack) (now (arena .exit)) (now (ends .exit))) (now (row .exit)) ⌝ }
 {
     let length = layout.page;
     let written = fill::unfilled::blank_rows(rows, &mut *row);
@@ -191,17 +200,19 @@ pub fn skip(
     page: Page,
     collected: Collected,
     planted: Planted,
-    cells: &[u8; 512],
-    row: &mut [u8; 872],
+    cells: &LineBytes,
+    row: &mut RowBytes,
     stack: Stack,
-    arena: &mut [u8; 8704],
-    ends: &mut [u16; 221],
-    firsts: &[u8; 64],
-    seconds: &[u8; 64],
+    arena: &mut StackBytes,
+    ends: &mut StackEnds,
+    firsts: &ByteColumn,
+    seconds: &ByteColumn,
     texts: usize,
 ) -> Outcome
-    requires { ⌜ Begins planted (desk layout page collected (now cells) stack (now arena) (now ends)) [] (now row) (now firsts) (now seconds) texts ⌝ }
-    ensures { λ r. ⌜ Worked (λ ts s. rule.skip (count .0) s) (now (firsts .entry)) (now (seconds .entry)) texts planted (desk layout page collected (now (cells .entry)) stack (now (arena .entry)) (now (ends .entry))) (r .way) (r .written) (desk (r .layout) (r .page) (r .collected) (now (cells .entry)) (r .stack) (now (arena .exit)) (now (ends .exit))) (now (row .exit)) ⌝ }
+    ghost { Desk }
+    requires { λ q. ⌜ desk layout page collected (now cells) stack (now arena) (now ends) ≡ q ⌝ }
+    requires { λ q. ⌜ Begins planted q [] (now row) (now firsts) (now seconds) texts ⌝ }
+    ensures { λ q r. ⌜ Worked (λ ts s. rule.skip (count .0) s) (now (firsts .entry)) (now (seconds .entry)) texts planted q (r .way) (r .written) (desk (r .layout) (r .page) (r .collected) (now (cells .entry)) (r .stack) (now (arena .exit)) (now (ends .exit))) (now (row .exit)) ⌝ }
 {
     let length = layout.page;
     let rows = page::position::blanks(count, page, length, planted);
@@ -244,17 +255,19 @@ pub fn start(
     page: Page,
     collected: Collected,
     planted: Planted,
-    cells: &[u8; 512],
-    row: &mut [u8; 872],
+    cells: &LineBytes,
+    row: &mut RowBytes,
     stack: Stack,
-    arena: &mut [u8; 8704],
-    ends: &mut [u16; 221],
-    firsts: &[u8; 64],
-    seconds: &[u8; 64],
+    arena: &mut StackBytes,
+    ends: &mut StackEnds,
+    firsts: &ByteColumn,
+    seconds: &ByteColumn,
     texts: usize,
 ) -> Outcome
-    requires { ⌜ Begins planted (desk layout page collected (now cells) stack (now arena) (now ends)) (now bytes) (now row) (now firsts) (now seconds) texts × Plain held ⌝ }
-    ensures { λ r. ⌜ Worked (λ ts s. rule.goes (rule.startPage (heldOf ts held (now (bytes .entry))) s)) (now (firsts .entry)) (now (seconds .entry)) texts planted (desk layout page collected (now (cells .entry)) stack (now (arena .entry)) (now (ends .entry))) (r .way) (r .written) (desk (r .layout) (r .page) (r .collected) (now (cells .entry)) (r .stack) (now (arena .exit)) (now (ends .exit))) (now (row .exit)) ⌝ }
+    ghost { Desk }
+    requires { λ q. ⌜ desk layout page collected (now cells) stack (now arena) (now ends) ≡ q ⌝ }
+    requires { λ q. ⌜ Begins planted q (now bytes) (now row) (now firsts) (now seconds) texts × Plain held ⌝ }
+    ensures { λ q r. ⌜ Worked (λ ts s. rule.goes (rule.startPage (heldOf ts held (now (bytes .entry))) s)) (now (firsts .entry)) (now (seconds .entry)) texts planted q (r .way) (r .written) (desk (r .layout) (r .page) (r .collected) (now (cells .entry)) (r .stack) (now (arena .exit)) (now (ends .exit))) (now (row .exit)) ⌝ }
 {
     let length = layout.page;
     let landed = page::springs::start_page(

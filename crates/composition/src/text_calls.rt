@@ -8,13 +8,19 @@ use page::springs::Called;
 use page::springs::Held;
 use page::springs::Way;
 use rules::Name;
+use rules::arrays::ARGUMENT_COUNT;
+use rules::arrays::ByteColumn;
+use rules::arrays::LineBytes;
+use rules::arrays::RowBytes;
+use rules::arrays::StackBytes;
+use rules::arrays::StackEnds;
 use settings::layout::Layout;
 use traps::table::Planted;
 ghost use mathlib.Core.Path.{_≡_};
 ghost use lib.ListN.{length};
 ghost use Rattle.rules.specs.Texts.{textOf};
 ghost use Rattle.rules.specs.Rows.{goes};
-ghost use Rattle.composition.specs.PageRows.Desk.{desk, Begins, Worked};
+ghost use Rattle.composition.specs.PageRows.Desk.{Desk, desk, Begins, Worked};
 ghost use Rattle.composition.specs.TextCalls.Calls.{calledTo, calledText, Known};
 
 // A text that is called, or "10: input stack past 16 items".
@@ -32,24 +38,26 @@ fn land(called: Called, layout: Layout, page: Page, collected: Collected) -> Out
 pub fn call(
     name: Name,
     line: &[u8],
-    parts: &mut [u8; 512],
+    parts: &mut LineBytes,
     layout: Layout,
     page: Page,
     collected: Collected,
     planted: Planted,
-    cells: &[u8; 512],
-    row: &[u8; 872],
+    cells: &LineBytes,
+    row: &RowBytes,
     stack: Stack,
-    arena: &mut [u8; 8704],
-    ends: &mut [u16; 221],
-    firsts: &[u8; 64],
-    seconds: &[u8; 64],
+    arena: &mut StackBytes,
+    ends: &mut StackEnds,
+    firsts: &ByteColumn,
+    seconds: &ByteColumn,
     texts: usize,
 ) -> Outcome
-    requires { ⌜ Begins planted (desk layout page collected (now cells) stack (now arena) (now ends)) (now line) (now row) (now firsts) (now seconds) texts × (length (now parts) ≡ 512) × Known name (now firsts) (now seconds) texts ⌝ }
-    ensures { λ r. ⌜ Worked (λ ts s. goes (calledText (textOf name ts) (now (line .entry)) s)) (now (firsts .entry)) (now (seconds .entry)) texts planted (desk layout page collected (now (cells .entry)) stack (now (arena .entry)) (now (ends .entry))) (r .way) (r .written) (desk (r .layout) (r .page) (r .collected) (now (cells .entry)) (r .stack) (now (arena .exit)) (now (ends .exit))) (now (row .entry)) ⌝ }
+    ghost { Desk }
+    requires { λ q. ⌜ desk layout page collected (now cells) stack (now arena) (now ends) ≡ q ⌝ }
+    requires { λ q. ⌜ Begins planted q (now line) (now row) (now firsts) (now seconds) texts × (length (now parts) ≡ 512) × Known name (now firsts) (now seconds) texts ⌝ }
+    ensures { λ q r. ⌜ Worked (λ ts s. goes (calledText (textOf name ts) (now (line .entry)) s)) (now (firsts .entry)) (now (seconds .entry)) texts planted q (r .way) (r .written) (desk (r .layout) (r .page) (r .collected) (now (cells .entry)) (r .stack) (now (arena .exit)) (now (ends .exit))) (now (row .entry)) ⌝ }
 {
-    let mut given = [0u16; 9];
+    let mut given = [0u16; ARGUMENT_COUNT];
     let count = scan::arguments::arguments(line, 0, &mut *parts, &mut given);
     let called = page::springs::call(
         name,

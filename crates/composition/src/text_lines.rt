@@ -7,6 +7,11 @@ use measure::Rows;
 use page::position::Page;
 use page::springs::Held;
 use rules::Breaking;
+use rules::arrays::ByteColumn;
+use rules::arrays::LineBytes;
+use rules::arrays::RowBytes;
+use rules::arrays::StackBytes;
+use rules::arrays::StackEnds;
 use settings::layout::Layout;
 use traps::table::Planted;
 ghost use Prim.Native.Nat.{_-_};
@@ -18,28 +23,31 @@ ghost use Rattle.rules.specs.TextLines.{stands, breaks};
 ghost use Rattle.fill.specs.Words.Parts.{part, Places};
 ghost use Rattle.fill.specs.Collected.Filled.{lineOf};
 ghost use Rattle.settings.specs.Layout.Layouts.{layoutOf};
-ghost use Rattle.composition.specs.PageRows.Desk.{desk, Begins, Worked};
+ghost use Rattle.composition.specs.PageRows.Desk.{Desk, desk, Begins, Worked};
 ghost use Rattle.composition.specs.Filling.Words.{wordWay};
+ghost use mathlib.Core.Path.{_≡_};
 
 // "With nf each line is written as it stands; ce centres".
 fn stand(
-    line: &[u8; 512],
+    line: &LineBytes,
     to: usize,
     layout: Layout,
     page: Page,
     collected: Collected,
     planted: Planted,
-    cells: &[u8; 512],
-    row: &mut [u8; 872],
+    cells: &LineBytes,
+    row: &mut RowBytes,
     stack: Stack,
-    arena: &mut [u8; 8704],
-    ends: &mut [u16; 221],
-    firsts: &[u8; 64],
-    seconds: &[u8; 64],
+    arena: &mut StackBytes,
+    ends: &mut StackEnds,
+    firsts: &ByteColumn,
+    seconds: &ByteColumn,
     texts: usize,
 ) -> Outcome
-    requires { ⌜ Begins planted (desk layout page collected (now cells) stack (now arena) (now ends)) (now line) (now row) (now firsts) (now seconds) texts × Places (now line) 0 to ⌝ }
-    ensures { λ r. ⌜ Worked (λ ts s. rule.textWay stands (words (part (now (line .entry)) 0 to)) (part (now (line .entry)) 0 to) s) (now (firsts .entry)) (now (seconds .entry)) texts planted (desk layout page collected (now (cells .entry)) stack (now (arena .entry)) (now (ends .entry))) (r .way) (r .written) (desk (r .layout) (r .page) (r .collected) (now (cells .entry)) (r .stack) (now (arena .exit)) (now (ends .exit))) (now (row .exit)) ⌝ }
+    ghost { Desk }
+    requires { λ q. ⌜ desk layout page collected (now cells) stack (now arena) (now ends) ≡ q ⌝ }
+    requires { λ q. ⌜ Begins planted q (now line) (now row) (now firsts) (now seconds) texts × Places (now line) 0 to ⌝ }
+    ensures { λ q r. ⌜ Worked (λ ts s. rule.textWay stands (words (part (now (line .entry)) 0 to)) (part (now (line .entry)) 0 to) s) (now (firsts .entry)) (now (seconds .entry)) texts planted q (r .way) (r .written) (desk (r .layout) (r .page) (r .collected) (now (cells .entry)) (r .stack) (now (arena .exit)) (now (ends .exit))) (now (row .exit)) ⌝ }
 {
     let margin = layout.offset;
     let offset = margin.now;
@@ -82,17 +90,19 @@ fn blank_line(
     page: Page,
     collected: Collected,
     planted: Planted,
-    cells: &[u8; 512],
-    row: &mut [u8; 872],
+    cells: &LineBytes,
+    row: &mut RowBytes,
     stack: Stack,
-    arena: &mut [u8; 8704],
-    ends: &mut [u16; 221],
-    firsts: &[u8; 64],
-    seconds: &[u8; 64],
+    arena: &mut StackBytes,
+    ends: &mut StackEnds,
+    firsts: &ByteColumn,
+    seconds: &ByteColumn,
     texts: usize,
 ) -> Outcome
-    requires { ⌜ Begins planted (desk layout page collected (now cells) stack (now arena) (now ends)) (now cells) (now row) (now firsts) (now seconds) texts ⌝ }
-    ensures { λ r. ⌜ Worked (λ ts s. rule.blankFrom (s .collected) s) (now (firsts .entry)) (now (seconds .entry)) texts planted (desk layout page collected (now (cells .entry)) stack (now (arena .entry)) (now (ends .entry))) (r .way) (r .written) (desk (r .layout) (r .page) (r .collected) (now (cells .entry)) (r .stack) (now (arena .exit)) (now (ends .exit))) (now (row .exit)) ⌝ }
+    ghost { Desk }
+    requires { λ q. ⌜ desk layout page collected (now cells) stack (now arena) (now ends) ≡ q ⌝ }
+    requires { λ q. ⌜ Begins planted q (now cells) (now row) (now firsts) (now seconds) texts ⌝ }
+    ensures { λ q r. ⌜ Worked (λ ts s. rule.blankFrom (s .collected) s) (now (firsts .entry)) (now (seconds .entry)) texts planted q (r .way) (r .written) (desk (r .layout) (r .page) (r .collected) (now (cells .entry)) (r .stack) (now (arena .exit)) (now (ends .exit))) (now (row .exit)) ⌝ }
 {
     if collected.there {
         let none = fill::words::slice(cells, 0, 0);
@@ -132,23 +142,25 @@ fn blank_line(
 
 // A text line breaks first where nf, ce or leading spaces ask for it, and is dealt with afresh.
 fn break_first(
-    line: &[u8; 512],
+    line: &LineBytes,
     to: usize,
     layout: Layout,
     page: Page,
     collected: Collected,
     planted: Planted,
-    cells: &[u8; 512],
-    row: &mut [u8; 872],
+    cells: &LineBytes,
+    row: &mut RowBytes,
     stack: Stack,
-    arena: &mut [u8; 8704],
-    ends: &mut [u16; 221],
-    firsts: &[u8; 64],
-    seconds: &[u8; 64],
+    arena: &mut StackBytes,
+    ends: &mut StackEnds,
+    firsts: &ByteColumn,
+    seconds: &ByteColumn,
     texts: usize,
 ) -> Outcome
-    requires { ⌜ Begins planted (desk layout page collected (now cells) stack (now arena) (now ends)) (now line) (now row) (now firsts) (now seconds) texts × Places (now line) 0 to ⌝ }
-    ensures { λ r. ⌜ Worked (λ ts s. rule.textWay (breaks (lineOf (acrossOf (collected .indent)) (acrossOf (collected .room)) (now (cells .entry)) (collected .length) (collected .next))) (words (part (now (line .entry)) 0 to)) (part (now (line .entry)) 0 to) s) (now (firsts .entry)) (now (seconds .entry)) texts planted (desk layout page collected (now (cells .entry)) stack (now (arena .entry)) (now (ends .entry))) (r .way) (r .written) (desk (r .layout) (r .page) (r .collected) (now (cells .entry)) (r .stack) (now (arena .exit)) (now (ends .exit))) (now (row .exit)) ⌝ }
+    ghost { Desk }
+    requires { λ q. ⌜ desk layout page collected (now cells) stack (now arena) (now ends) ≡ q ⌝ }
+    requires { λ q. ⌜ Begins planted q (now line) (now row) (now firsts) (now seconds) texts × Places (now line) 0 to ⌝ }
+    ensures { λ q r. ⌜ Worked (λ ts s. rule.textWay (breaks (lineOf (acrossOf (collected .indent)) (acrossOf (collected .room)) (now (cells .entry)) (collected .length) (collected .next))) (words (part (now (line .entry)) 0 to)) (part (now (line .entry)) 0 to) s) (now (firsts .entry)) (now (seconds .entry)) texts planted q (r .way) (r .written) (desk (r .layout) (r .page) (r .collected) (now (cells .entry)) (r .stack) (now (arena .exit)) (now (ends .exit))) (now (row .exit)) ⌝ }
 {
     let bytes = fill::words::slice(line, 0, to);
     super::page_rows::break_line(
@@ -171,23 +183,25 @@ fn break_first(
 
 // A text line with words, on a page that has started.
 fn word_line(
-    line: &[u8; 512],
+    line: &LineBytes,
     to: usize,
     layout: Layout,
     page: Page,
     collected: Collected,
     planted: Planted,
-    cells: &mut [u8; 512],
-    row: &mut [u8; 872],
+    cells: &mut LineBytes,
+    row: &mut RowBytes,
     stack: Stack,
-    arena: &mut [u8; 8704],
-    ends: &mut [u16; 221],
-    firsts: &[u8; 64],
-    seconds: &[u8; 64],
+    arena: &mut StackBytes,
+    ends: &mut StackEnds,
+    firsts: &ByteColumn,
+    seconds: &ByteColumn,
     texts: usize,
 ) -> Outcome
-    requires { ⌜ Begins planted (desk layout page collected (now cells) stack (now arena) (now ends)) (now line) (now row) (now firsts) (now seconds) texts × Places (now line) 0 to ⌝ }
-    ensures { λ r. ⌜ Worked (λ ts s. rule.textWay (wordWay (collected .there) (rule.asItStands (layoutOf layout)) (leads (words (part (now (line .entry)) 0 to))) (lineOf (acrossOf (collected .indent)) (acrossOf (collected .room)) (now (cells .entry)) (collected .length) (collected .next))) (words (part (now (line .entry)) 0 to)) (part (now (line .entry)) 0 to) s) (now (firsts .entry)) (now (seconds .entry)) texts planted (desk layout page collected (now (cells .entry)) stack (now (arena .entry)) (now (ends .entry))) (r .way) (r .written) (desk (r .layout) (r .page) (r .collected) (now (cells .exit)) (r .stack) (now (arena .exit)) (now (ends .exit))) (now (row .exit)) ⌝ }
+    ghost { Desk }
+    requires { λ q. ⌜ desk layout page collected (now cells) stack (now arena) (now ends) ≡ q ⌝ }
+    requires { λ q. ⌜ Begins planted q (now line) (now row) (now firsts) (now seconds) texts × Places (now line) 0 to ⌝ }
+    ensures { λ q r. ⌜ Worked (λ ts s. rule.textWay (wordWay (collected .there) (rule.asItStands (layoutOf layout)) (leads (words (part (now (line .entry)) 0 to))) (lineOf (acrossOf (collected .indent)) (acrossOf (collected .room)) (now (cells .entry)) (collected .length) (collected .next))) (words (part (now (line .entry)) 0 to)) (part (now (line .entry)) 0 to) s) (now (firsts .entry)) (now (seconds .entry)) texts planted q (r .way) (r .written) (desk (r .layout) (r .page) (r .collected) (now (cells .exit)) (r .stack) (now (arena .exit)) (now (ends .exit))) (now (row .exit)) ⌝ }
 {
     if settings::layout::stands(layout) {
         if collected.there {
@@ -281,23 +295,25 @@ fn word_line(
 
 // A text line, as expanded.
 pub fn text_line(
-    line: &[u8; 512],
+    line: &LineBytes,
     to: usize,
     layout: Layout,
     page: Page,
     collected: Collected,
     planted: Planted,
-    cells: &mut [u8; 512],
-    row: &mut [u8; 872],
+    cells: &mut LineBytes,
+    row: &mut RowBytes,
     stack: Stack,
-    arena: &mut [u8; 8704],
-    ends: &mut [u16; 221],
-    firsts: &[u8; 64],
-    seconds: &[u8; 64],
+    arena: &mut StackBytes,
+    ends: &mut StackEnds,
+    firsts: &ByteColumn,
+    seconds: &ByteColumn,
     texts: usize,
 ) -> Outcome
-    requires { ⌜ Begins planted (desk layout page collected (now cells) stack (now arena) (now ends)) (now line) (now row) (now firsts) (now seconds) texts × Places (now line) 0 to ⌝ }
-    ensures { λ r. ⌜ Worked (λ ts s. rule.textLine (part (now (line .entry)) 0 to) s) (now (firsts .entry)) (now (seconds .entry)) texts planted (desk layout page collected (now (cells .entry)) stack (now (arena .entry)) (now (ends .entry))) (r .way) (r .written) (desk (r .layout) (r .page) (r .collected) (now (cells .exit)) (r .stack) (now (arena .exit)) (now (ends .exit))) (now (row .exit)) ⌝ }
+    ghost { Desk }
+    requires { λ q. ⌜ desk layout page collected (now cells) stack (now arena) (now ends) ≡ q ⌝ }
+    requires { λ q. ⌜ Begins planted q (now line) (now row) (now firsts) (now seconds) texts × Places (now line) 0 to ⌝ }
+    ensures { λ q r. ⌜ Worked (λ ts s. rule.textLine (part (now (line .entry)) 0 to) s) (now (firsts .entry)) (now (seconds .entry)) texts planted q (r .way) (r .written) (desk (r .layout) (r .page) (r .collected) (now (cells .exit)) (r .stack) (now (arena .exit)) (now (ends .exit))) (now (row .exit)) ⌝ }
 {
     if page.number == 0 {
         let bytes = fill::words::slice(line, 0, to);

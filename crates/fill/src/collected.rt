@@ -3,6 +3,7 @@ use measure::Cells;
 use rules::FIXED_BLANK;
 use rules::GAP_START;
 use rules::MARK;
+use rules::arrays::LineBytes;
 ghost use mathlib.Core.Path.{_≡_};
 ghost use mathlib.Core.List.{_++_};
 ghost use lib.ListN.{length, replicate};
@@ -52,7 +53,7 @@ pub fn put_run(buffer: &mut [u8], at: usize, n: usize, byte: u8)
 }
 
 // Puts what is printed of a part of a line at a place: marks are not, fixed blanks are spaces.
-pub fn put_word(line: &[u8; 512], from: usize, to: usize, buffer: &mut [u8], at: usize) -> usize
+pub fn put_word(line: &LineBytes, from: usize, to: usize, buffer: &mut [u8], at: usize) -> usize
     requires { ⌜ Places (now line) from to × (at + width (part (now line) from to) ≤ length (now buffer)) ⌝ }
     ensures { λ r. ⌜ Written (now (buffer .entry)) at (printed (part (now (line .entry)) from to)) (now (buffer .exit)) r ⌝ }
 {
@@ -71,7 +72,7 @@ pub fn put_word(line: &[u8; 512], from: usize, to: usize, buffer: &mut [u8], at:
 }
 
 // Puts a gap behind the cells collected; the first of its cells is marked as such.
-fn put_gap(cells: &mut [u8; 512], count: usize, gap: usize) -> usize
+fn put_gap(cells: &mut LineBytes, count: usize, gap: usize) -> usize
     requires { ⌜ (length (now cells) ≡ 512) × (count + gap ≤ 512) ⌝ }
     ensures { λ r. ⌜ Written (now (cells .entry)) count (gapCells gap) (now (cells .exit)) r ⌝ }
 {
@@ -85,11 +86,11 @@ fn put_gap(cells: &mut [u8; 512], count: usize, gap: usize) -> usize
 
 // The first word of a collected line. "Leading spaces .. stand as fixed blanks."
 pub fn begin_line(
-    line: &[u8; 512],
+    line: &LineBytes,
     lead: usize,
     from: usize,
     to: usize,
-    cells: &mut [u8; 512],
+    cells: &mut LineBytes,
 ) -> usize
     requires { ⌜ Places (now line) from to × (lead ≤ from) × (length (now cells) ≡ 512) ⌝ }
     ensures { λ r. ⌜ Written (now (cells .entry)) 0 (printed (replicate lead fixedBlank ++ part (now (line .entry)) from to)) (now (cells .exit)) r ⌝ }
@@ -101,11 +102,11 @@ pub fn begin_line(
 
 // Words join the collected line until one does not fit. The first one's gap is given, the others have their own.
 pub fn place(
-    line: &[u8; 512],
+    line: &LineBytes,
     at: usize,
     to: usize,
     gap: usize,
-    cells: &mut [u8; 512],
+    cells: &mut LineBytes,
     length: usize,
     room: Cells,
 ) -> Placed
@@ -138,10 +139,10 @@ pub fn place(
 
 // The same for words that all have their own gaps, as those behind a word that did not fit.
 pub fn place_others(
-    line: &[u8; 512],
+    line: &LineBytes,
     at: usize,
     to: usize,
-    cells: &mut [u8; 512],
+    cells: &mut LineBytes,
     length: usize,
     room: Cells,
 ) -> Placed

@@ -1,6 +1,8 @@
 // Collected lines as they are printed.
 use measure::Cells;
 use rules::GAP_START;
+use rules::arrays::LineBytes;
+use rules::arrays::RowBytes;
 ghost use mathlib.Core.Path.{_≡_};
 ghost use mathlib.Core.List.{[]};
 ghost use lib.ListN.{length, take};
@@ -15,7 +17,7 @@ ghost use Rattle.fill.specs.Collected.Filled.{lineOf, Line};
 ghost use Rattle.fill.specs.Unfilled.Lines.{isBlankCell, CellsEnd, RowRoom, Margins};
 
 // The gaps of a collected line.
-fn count_gaps(cells: &[u8; 512], length: usize) -> usize
+fn count_gaps(cells: &LineBytes, length: usize) -> usize
     requires { ⌜ Places (now cells) 0 length ⌝ }
     ensures { λ r. ⌜ r ≡ gaps (part (now (cells .entry)) 0 length) ⌝ }
 {
@@ -39,7 +41,7 @@ struct Share {
 }
 
 // "Lines written for overflow, with adjusting on, share the missing e cells over k gaps."
-fn share_of(cells: &[u8; 512], length: usize, room: usize, adjusting: bool) -> Share
+fn share_of(cells: &LineBytes, length: usize, room: usize, adjusting: bool) -> Share
     requires { ⌜ Places (now cells) 0 length ⌝ }
     ensures { λ r. ⌜ spread (r .each) (r .few) (part (now (cells .entry)) 0 length) ≡ adjusted adjusting (lineOf 0 room (now (cells .entry)) length 1) ⌝ }
 {
@@ -71,7 +73,7 @@ fn is_blank_cell(byte: u8) -> bool
 }
 
 // The place behind the last cell that is not printed as a blank.
-fn cells_end(cells: &[u8; 512], length: usize) -> usize
+fn cells_end(cells: &LineBytes, length: usize) -> usize
     requires { ⌜ Places (now cells) 0 length ⌝ }
     ensures { λ r. ⌜ CellsEnd (now (cells .entry)) length r ⌝ }
 {
@@ -104,7 +106,7 @@ fn few_after(byte: u8, few: usize) -> usize
 }
 
 // Puts a cell of a collected line into a row: the first of a gap is widened.
-fn put_cell(row: &mut [u8; 872], at: usize, byte: u8, each: usize, few: usize) -> usize
+fn put_cell(row: &mut RowBytes, at: usize, byte: u8, each: usize, few: usize) -> usize
     requires { ⌜ (length (now row) ≡ 872) × (at + length (spreadCell (eqb byte gapStart) (each + moreIf few) byte []) ≤ 872) ⌝ }
     ensures { λ r. ⌜ Written (now (row .entry)) at (spreadCell (eqb byte gapStart) (each + moreIf few) byte []) (now (row .exit)) r ⌝ }
 {
@@ -119,11 +121,11 @@ fn put_cell(row: &mut [u8; 872], at: usize, byte: u8, each: usize, few: usize) -
 
 // Puts a collected line into a row, its gaps widened.
 fn spread_cells(
-    cells: &[u8; 512],
+    cells: &LineBytes,
     length: usize,
     each: usize,
     few: usize,
-    row: &mut [u8; 872],
+    row: &mut RowBytes,
     at: usize,
 ) -> usize
     requires { ⌜ Places (now cells) 0 length × RowRoom (now row) at (spread each few (part (now cells) 0 length)) ⌝ }
@@ -143,12 +145,12 @@ fn spread_cells(
 
 // Puts a collected line as a row: "po, indent, text, newline; blanks at a line's end are not written".
 fn put_row(
-    cells: &[u8; 512],
+    cells: &LineBytes,
     length: usize,
     each: usize,
     few: usize,
     blanks: usize,
-    row: &mut [u8; 872],
+    row: &mut RowBytes,
 ) -> usize
     requires { ⌜ Places (now cells) 0 length × RowRoom (now row) (blanks + 1) (spread each few (part (now cells) 0 length)) ⌝ }
     ensures { λ r. ⌜ Written (now (row .entry)) 0 (rowOf blanks (spread each few (part (now (cells .entry)) 0 length))) (now (row .exit)) r ⌝ }
@@ -167,11 +169,11 @@ fn put_row(
 
 // A collected line that a break writes.
 pub fn broken_row(
-    cells: &[u8; 512],
+    cells: &LineBytes,
     length: usize,
     offset: Cells,
     indent: Cells,
-    row: &mut [u8; 872],
+    row: &mut RowBytes,
 ) -> usize
     requires { ⌜ Places (now cells) 0 length × Margins (now row) offset indent ⌝ }
     ensures { λ r. ⌜ Written (now (row .entry)) 0 (rowOf (acrossOf offset + acrossOf indent) (level (take length (now (cells .entry))))) (now (row .exit)) r ⌝ }
@@ -183,13 +185,13 @@ pub fn broken_row(
 
 // A collected line that is written for overflow.
 pub fn full_row(
-    cells: &[u8; 512],
+    cells: &LineBytes,
     length: usize,
     room: Cells,
     adjusting: bool,
     offset: Cells,
     indent: Cells,
-    row: &mut [u8; 872],
+    row: &mut RowBytes,
 ) -> usize
     requires { ⌜ Line (now cells) length (acrossOf room) × Margins (now row) offset indent ⌝ }
     ensures { λ r. ⌜ Written (now (row .entry)) 0 (rowOf (acrossOf offset + acrossOf indent) (adjusted adjusting (lineOf (acrossOf indent) (acrossOf room) (now (cells .entry)) length 1))) (now (row .exit)) r ⌝ }

@@ -3,6 +3,8 @@ use measure::Cells;
 use measure::Rows;
 use rules::FIXED_BLANK;
 use rules::MARK;
+use rules::arrays::LineBytes;
+use rules::arrays::RowBytes;
 ghost use mathlib.Core.Path.{_≡_};
 ghost use lib.ListN.{length};
 ghost use Rattle.measure.specs.Counts.{acrossOf, downOf};
@@ -31,7 +33,7 @@ pub fn spare(room: usize, taken: usize) -> usize
 }
 
 // The width of a part of a line.
-fn width_of(line: &[u8; 512], at: usize, to: usize) -> usize
+fn width_of(line: &LineBytes, at: usize, to: usize) -> usize
     requires { ⌜ Places (now line) at to ⌝ }
     ensures { λ r. ⌜ r ≡ width (part (now (line .entry)) at to) ⌝ }
 {
@@ -45,7 +47,7 @@ fn width_of(line: &[u8; 512], at: usize, to: usize) -> usize
 }
 
 // "left blanks half the spare room, cut down, none if the line is wider"
-fn left_blanks(line: &[u8; 512], at: usize, to: usize, centred: bool, room: usize) -> usize
+fn left_blanks(line: &LineBytes, at: usize, to: usize, centred: bool, room: usize) -> usize
     requires { ⌜ Places (now line) at to ⌝ }
     ensures { λ r. ⌜ r ≡ left (oneIf centred) (room - width (part (now (line .entry)) at to)) ⌝ }
 {
@@ -69,7 +71,7 @@ fn is_blank_byte(byte: u8) -> bool
 }
 
 // The place behind the last byte of which more than a blank is printed.
-fn text_end(line: &[u8; 512], at: usize, to: usize) -> usize
+fn text_end(line: &LineBytes, at: usize, to: usize) -> usize
     requires { ⌜ Places (now line) at to ⌝ }
     ensures { λ r. ⌜ TextEnd (now (line .entry)) at to r ⌝ }
 {
@@ -84,7 +86,7 @@ fn text_end(line: &[u8; 512], at: usize, to: usize) -> usize
 }
 
 // Puts a part of a line as a row.
-fn put_text(line: &[u8; 512], at: usize, to: usize, blanks: usize, row: &mut [u8; 872]) -> usize
+fn put_text(line: &LineBytes, at: usize, to: usize, blanks: usize, row: &mut RowBytes) -> usize
     requires { ⌜ Places (now line) at to × RowRoom (now row) (blanks + 1) (printed (part (now line) at to)) ⌝ }
     ensures { λ r. ⌜ Written (now (row .entry)) 0 (rowOf blanks (printed (part (now (line .entry)) at to))) (now (row .exit)) r ⌝ }
     ensures { λ r. ⌜ r ≤ 872 ⌝ }
@@ -102,14 +104,14 @@ fn put_text(line: &[u8; 512], at: usize, to: usize, blanks: usize, row: &mut [u8
 
 // A line that is written as it stands, or centred.
 pub fn standing_row(
-    line: &[u8; 512],
+    line: &LineBytes,
     at: usize,
     to: usize,
     centred: bool,
     room: Cells,
     offset: Cells,
     indent: Cells,
-    row: &mut [u8; 872],
+    row: &mut RowBytes,
 ) -> usize
     requires { ⌜ Places (now line) at to × (acrossOf room ≤ 512) × Margins (now row) offset indent ⌝ }
     ensures { λ r. ⌜ Written (now (row .entry)) 0 (standingOf (acrossOf offset) (acrossOf indent) (acrossOf room) centred (words (part (now (line .entry)) at to))) (now (row .exit)) r ⌝ }
@@ -122,7 +124,7 @@ pub fn standing_row(
 }
 
 // Blank rows.
-pub fn blank_rows(rows: Rows, row: &mut [u8; 872]) -> usize
+pub fn blank_rows(rows: Rows, row: &mut RowBytes) -> usize
     requires { ⌜ (length (now row) ≡ 872) × (downOf rows ≤ 500) ⌝ }
     ensures { λ r. ⌜ Written (now (row .entry)) 0 (blankRows (downOf rows)) (now (row .exit)) r ⌝ }
     ensures { λ r. ⌜ r ≤ 872 ⌝ }

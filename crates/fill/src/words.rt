@@ -1,6 +1,7 @@
 // The words of an expanded line and the gaps between them.
 use measure::Cells;
 use rules::MARK;
+use rules::arrays::LineBytes;
 ghost use mathlib.Core.Path.{_≡_};
 ghost use Rattle.measure.specs.Counts.{acrossOf};
 ghost use Prim.Native.Nat.{_+_, _-_, _≤_};
@@ -40,7 +41,7 @@ pub fn slice(bytes: &[u8], at: usize, to: usize) -> &[u8]
 }
 
 // The place behind the spaces that lead.
-pub fn skip_spaces(line: &[u8; 512], at: usize, to: usize) -> usize
+pub fn skip_spaces(line: &LineBytes, at: usize, to: usize) -> usize
     requires { ⌜ Places (now line) at to ⌝ }
     ensures { λ r. ⌜ r ≡ at + spaces (part (now (line .entry)) at to) ⌝ }
     ensures { λ r. ⌜ (at ≤ r) × (r ≤ to) ⌝ }
@@ -64,7 +65,7 @@ pub fn cell_of(byte: u8) -> usize
 }
 
 // The end of the word that begins at a place, and its width.
-pub fn word_end(line: &[u8; 512], at: usize, to: usize) -> WordEnd
+pub fn word_end(line: &LineBytes, at: usize, to: usize) -> WordEnd
     requires { ⌜ Places (now line) at to ⌝ }
     ensures { λ r. ⌜ WordEndIs (now (line .entry)) at to r ⌝ }
 {
@@ -82,7 +83,7 @@ pub fn word_end(line: &[u8; 512], at: usize, to: usize) -> WordEnd
 }
 
 // The first word of a part of a line.
-pub fn next_word(line: &[u8; 512], at: usize, to: usize) -> Next
+pub fn next_word(line: &LineBytes, at: usize, to: usize) -> Next
     requires { ⌜ Places (now line) at to ⌝ }
     ensures { λ r. ⌜ nextOf (now (line .entry)) to r ≡ words (part (now (line .entry)) at to) ⌝ }
     ensures { λ r. ⌜ GoodNext (now (line .entry)) at to r ⌝ }
@@ -101,7 +102,7 @@ pub fn next_word(line: &[u8; 512], at: usize, to: usize) -> Next
 }
 
 // "A line that, as expanded, has no bytes or only spaces"
-pub fn is_blank(line: &[u8; 512], at: usize, to: usize) -> bool
+pub fn is_blank(line: &LineBytes, at: usize, to: usize) -> bool
     requires { ⌜ Places (now line) at to ⌝ }
     ensures { λ r. ⌜ r ≡ isNone (words (part (now (line .entry)) at to)) ⌝ }
 {
@@ -109,7 +110,7 @@ pub fn is_blank(line: &[u8; 512], at: usize, to: usize) -> bool
 }
 
 // "Leading spaces break": whether there are any before a word.
-pub fn leads(line: &[u8; 512], at: usize, to: usize) -> bool
+pub fn leads(line: &LineBytes, at: usize, to: usize) -> bool
     requires { ⌜ Places (now line) at to ⌝ }
     ensures { λ r. ⌜ r ≡ leadsOf (words (part (now (line .entry)) at to)) ⌝ }
 {
@@ -121,7 +122,7 @@ pub fn leads(line: &[u8; 512], at: usize, to: usize) -> bool
 }
 
 // The place behind the last byte that is no space: "trailing spaces are dropped".
-pub fn trim_end(line: &[u8; 512], at: usize, to: usize) -> usize
+pub fn trim_end(line: &LineBytes, at: usize, to: usize) -> usize
     requires { ⌜ Places (now line) at to ⌝ }
     ensures { λ r. ⌜ part (now (line .entry)) at r ≡ trimmed (part (now (line .entry)) at to) ⌝ }
     ensures { λ r. ⌜ (at ≤ r) × (r ≤ to) ⌝ }
@@ -154,7 +155,7 @@ fn gap_behind(byte: u8) -> usize
 }
 
 // The gap that a line's ending asks for.
-pub fn gap_after(line: &[u8; 512], at: usize, to: usize) -> usize
+pub fn gap_after(line: &LineBytes, at: usize, to: usize) -> usize
     requires { ⌜ Places (now line) at to ⌝ }
     ensures { λ r. ⌜ r ≡ gapAfter (words (part (now (line .entry)) at to)) ⌝ }
     ensures { λ r. ⌜ r ≤ 2 ⌝ }

@@ -2,6 +2,14 @@
 use super::stored_lines::Performed;
 use input_stack::frames::What;
 use page::springs::Way;
+use rules::arrays::ByteColumn;
+use rules::arrays::LINE_SIZE;
+use rules::arrays::LengthColumn;
+use rules::arrays::LineBytes;
+use rules::arrays::NumberColumn;
+use rules::arrays::RowBytes;
+use rules::arrays::StackBytes;
+use rules::arrays::StackEnds;
 use settings::layout::Printer;
 use state::Status;
 use state::Step;
@@ -10,33 +18,36 @@ use state::stay;
 ghost use mathlib.Core.Bool.{true};
 ghost use lib.ListN.{take};
 ghost use Rattle.settings.specs.Layout.Layouts.{printerOf};
-ghost use Rattle.state.specs.Whole.{Did};
+ghost use Rattle.state.specs.Whole.{Whole, Did};
 ghost use Rattle.state.specs.Statuses.{wholeOf, Begins};
 ghost use Rattle.formatter.specs.StoredLines.Works.{resumed, ReadyItem, ReadyTaken, WorkedTo};
+ghost use mathlib.Core.Path.{_≡_};
 
 // An item that is no text, taken off the stack: an expanded line, words, a request after its break, or a bp.
 fn resume(
     what: What,
-    line: &[u8; 512],
+    line: &LineBytes,
     size: usize,
     printer: Printer,
     status: Status,
-    cells: &mut [u8; 512],
-    row: &mut [u8; 872],
-    arena: &mut [u8; 8704],
-    ends: &mut [u16; 221],
+    cells: &mut LineBytes,
+    row: &mut RowBytes,
+    arena: &mut StackBytes,
+    ends: &mut StackEnds,
     store: &mut [u8],
-    text_firsts: &mut [u8; 64],
-    text_seconds: &mut [u8; 64],
-    kinds: &mut [u8; 64],
-    lengths: &mut [u16; 64],
-    firsts: &mut [u8; 64],
-    seconds: &mut [u8; 64],
-    values: &mut [i32; 64],
-    steps: &mut [i32; 64],
+    text_firsts: &mut ByteColumn,
+    text_seconds: &mut ByteColumn,
+    kinds: &mut ByteColumn,
+    lengths: &mut LengthColumn,
+    firsts: &mut ByteColumn,
+    seconds: &mut ByteColumn,
+    values: &mut NumberColumn,
+    steps: &mut NumberColumn,
 ) -> Step
-    requires { ⌜ Begins (wholeOf status (now cells) (now arena) (now ends) (now store) (now «text_firsts») (now «text_seconds») (now kinds) (now lengths) (now firsts) (now seconds) (now values) (now steps)) (now line) (now row) printer × ReadyItem what (now line) size (status .opening .there) ⌝ }
-    ensures { λ r. ⌜ Did (resumed (printerOf printer) what (take size (now (line .entry)))) (wholeOf status (now (cells .entry)) (now (arena .entry)) (now (ends .entry)) (now (store .entry)) (now («text_firsts» .entry)) (now («text_seconds» .entry)) (now (kinds .entry)) (now (lengths .entry)) (now (firsts .entry)) (now (seconds .entry)) (now (values .entry)) (now (steps .entry))) (r .way) (r .written) (wholeOf (r .status) (now (cells .exit)) (now (arena .exit)) (now (ends .exit)) (now (store .exit)) (now («text_firsts» .exit)) (now («text_seconds» .exit)) (now (kinds .exit)) (now (lengths .exit)) (now (firsts .exit)) (now (seconds .exit)) (now (values .exit)) (now (steps .exit))) (now (row .exit)) ⌝ }
+    ghost { Whole }
+    requires { λ q. ⌜ wholeOf status (now cells) (now arena) (now ends) (now store) (now «text_firsts») (now «text_seconds») (now kinds) (now lengths) (now firsts) (now seconds) (now values) (now steps) ≡ q ⌝ }
+    requires { λ q. ⌜ Begins q (now line) (now row) printer × ReadyItem what (now line) size (status .opening .there) ⌝ }
+    ensures { λ q r. ⌜ Did (resumed (printerOf printer) what (take size (now (line .entry)))) q (r .way) (r .written) (wholeOf (r .status) (now (cells .exit)) (now (arena .exit)) (now (ends .exit)) (now (store .exit)) (now («text_firsts» .exit)) (now («text_seconds» .exit)) (now (kinds .exit)) (now (lengths .exit)) (now (firsts .exit)) (now (seconds .exit)) (now (values .exit)) (now (steps .exit))) (now (row .exit)) ⌝ }
 {
     let layout = status.layout;
     let page = status.page;
@@ -120,7 +131,7 @@ fn resume(
             moved(outcome, status)
         }
         What::Acts(request) => {
-            let mut parts = [0u8; 512];
+            let mut parts = [0u8; LINE_SIZE];
             let rest = fill::words::slice(line, 0, size);
             let outcome = composition::break_requests::act(
                 request,
@@ -169,25 +180,27 @@ pub fn take_item(
     stored: u16,
     printer: Printer,
     status: Status,
-    cells: &mut [u8; 512],
-    row: &mut [u8; 872],
-    arena: &mut [u8; 8704],
-    ends: &mut [u16; 221],
+    cells: &mut LineBytes,
+    row: &mut RowBytes,
+    arena: &mut StackBytes,
+    ends: &mut StackEnds,
     store: &mut [u8],
-    text_firsts: &mut [u8; 64],
-    text_seconds: &mut [u8; 64],
-    kinds: &mut [u8; 64],
-    lengths: &mut [u16; 64],
-    firsts: &mut [u8; 64],
-    seconds: &mut [u8; 64],
-    values: &mut [i32; 64],
-    steps: &mut [i32; 64],
+    text_firsts: &mut ByteColumn,
+    text_seconds: &mut ByteColumn,
+    kinds: &mut ByteColumn,
+    lengths: &mut LengthColumn,
+    firsts: &mut ByteColumn,
+    seconds: &mut ByteColumn,
+    values: &mut NumberColumn,
+    steps: &mut NumberColumn,
 ) -> Performed
-    requires { ⌜ ReadyTaken (wholeOf status (now cells) (now arena) (now ends) (now store) (now «text_firsts») (now «text_seconds») (now kinds) (now lengths) (now firsts) (now seconds) (now values) (now steps)) stored (now row) printer what ⌝ }
-    ensures { λ r. ⌜ WorkedTo (printerOf printer) (wholeOf status (now (cells .entry)) (now (arena .entry)) (now (ends .entry)) (now (store .entry)) (now («text_firsts» .entry)) (now («text_seconds» .entry)) (now (kinds .entry)) (now (lengths .entry)) (now (firsts .entry)) (now (seconds .entry)) (now (values .entry)) (now (steps .entry))) stored (r .way) (r .written) (wholeOf (r .status) (now (cells .exit)) (now (arena .exit)) (now (ends .exit)) (now (store .exit)) (now («text_firsts» .exit)) (now («text_seconds» .exit)) (now (kinds .exit)) (now (lengths .exit)) (now (firsts .exit)) (now (seconds .exit)) (now (values .exit)) (now (steps .exit))) (r .stored) (now (row .exit)) ⌝ }
+    ghost { Whole }
+    requires { λ q. ⌜ wholeOf status (now cells) (now arena) (now ends) (now store) (now «text_firsts») (now «text_seconds») (now kinds) (now lengths) (now firsts) (now seconds) (now values) (now steps) ≡ q ⌝ }
+    requires { λ q. ⌜ ReadyTaken q stored (now row) printer what ⌝ }
+    ensures { λ q r. ⌜ WorkedTo (printerOf printer) q stored (r .way) (r .written) (wholeOf (r .status) (now (cells .exit)) (now (arena .exit)) (now (ends .exit)) (now (store .exit)) (now («text_firsts» .exit)) (now («text_seconds» .exit)) (now (kinds .exit)) (now (lengths .exit)) (now (firsts .exit)) (now (seconds .exit)) (now (values .exit)) (now (steps .exit))) (r .stored) (now (row .exit)) ⌝ }
 {
     let stack = status.stack;
-    let mut line = [0u8; 512];
+    let mut line = [0u8; LINE_SIZE];
     let size = input_stack::stack::load(stack, &*arena, &*ends, &mut line);
     let after = state::with_stack(status, input_stack::stack::pop(stack));
     let step = resume(

@@ -6,6 +6,15 @@ pub mod stored_text;
 use composition::page_rows::Outcome;
 use input_stack::frames::What;
 use page::springs::Way;
+use rules::arrays::ARGUMENT_COUNT;
+use rules::arrays::ByteColumn;
+use rules::arrays::LINE_SIZE;
+use rules::arrays::LengthColumn;
+use rules::arrays::LineBytes;
+use rules::arrays::NumberColumn;
+use rules::arrays::RowBytes;
+use rules::arrays::StackBytes;
+use rules::arrays::StackEnds;
 use settings::layout::Printer;
 use state::Status;
 use state::Step;
@@ -18,38 +27,41 @@ ghost use Rattle.rules.specs.ControlLines as rules;
 ghost use Rattle.rules.specs.Session.{workEnd};
 ghost use Rattle.settings.specs.Layout.Layouts.{printerOf};
 ghost use Rattle.composition.specs.PageRows.Desk as sheet;
-ghost use Rattle.composition.specs.PageRows.Desk.{desk, Worked};
-ghost use Rattle.state.specs.Whole.{Did};
+ghost use Rattle.composition.specs.PageRows.Desk.{Desk, desk, Worked};
+ghost use Rattle.state.specs.Whole.{Whole, Did};
 ghost use Rattle.state.specs.Statuses.{wholeOf, Begins};
 ghost use Rattle.formatter.specs.StoredLines.Works.{ReadyWork, WorkedTo};
+ghost use mathlib.Core.Path.{_≡_};
 
 // A source line, as it was taken.
 pub fn deal(
     line: &[u8],
     printer: Printer,
     status: Status,
-    cells: &mut [u8; 512],
-    row: &mut [u8; 872],
-    arena: &mut [u8; 8704],
-    ends: &mut [u16; 221],
+    cells: &mut LineBytes,
+    row: &mut RowBytes,
+    arena: &mut StackBytes,
+    ends: &mut StackEnds,
     store: &mut [u8],
-    text_firsts: &mut [u8; 64],
-    text_seconds: &mut [u8; 64],
-    kinds: &mut [u8; 64],
-    lengths: &mut [u16; 64],
-    firsts: &mut [u8; 64],
-    seconds: &mut [u8; 64],
-    values: &mut [i32; 64],
-    steps: &mut [i32; 64],
+    text_firsts: &mut ByteColumn,
+    text_seconds: &mut ByteColumn,
+    kinds: &mut ByteColumn,
+    lengths: &mut LengthColumn,
+    firsts: &mut ByteColumn,
+    seconds: &mut ByteColumn,
+    values: &mut NumberColumn,
+    steps: &mut NumberColumn,
 ) -> Step
-    requires { ⌜ Begins (wholeOf status (now cells) (now arena) (now ends) (now store) (now «text_firsts») (now «text_seconds») (now kinds) (now lengths) (now firsts) (now seconds) (now values) (now steps)) (now line) (now row) printer ⌝ }
-    ensures { λ r. ⌜ Did (λ s. rules.deal (printerOf printer) [] (now (line .entry)) s) (wholeOf status (now (cells .entry)) (now (arena .entry)) (now (ends .entry)) (now (store .entry)) (now («text_firsts» .entry)) (now («text_seconds» .entry)) (now (kinds .entry)) (now (lengths .entry)) (now (firsts .entry)) (now (seconds .entry)) (now (values .entry)) (now (steps .entry))) (r .way) (r .written) (wholeOf (r .status) (now (cells .exit)) (now (arena .exit)) (now (ends .exit)) (now (store .exit)) (now («text_firsts» .exit)) (now («text_seconds» .exit)) (now (kinds .exit)) (now (lengths .exit)) (now (firsts .exit)) (now (seconds .exit)) (now (values .exit)) (now (steps .exit))) (now (row .exit)) ⌝ }
+    ghost { Whole }
+    requires { λ q. ⌜ wholeOf status (now cells) (now arena) (now ends) (now store) (now «text_firsts») (now «text_seconds») (now kinds) (now lengths) (now firsts) (now seconds) (now values) (now steps) ≡ q ⌝ }
+    requires { λ q. ⌜ Begins q (now line) (now row) printer ⌝ }
+    ensures { λ q r. ⌜ Did (λ s. rules.deal (printerOf printer) [] (now (line .entry)) s) q (r .way) (r .written) (wholeOf (r .status) (now (cells .exit)) (now (arena .exit)) (now (ends .exit)) (now (store .exit)) (now («text_firsts» .exit)) (now («text_seconds» .exit)) (now (kinds .exit)) (now (lengths .exit)) (now (firsts .exit)) (now (seconds .exit)) (now (values .exit)) (now (steps .exit))) (now (row .exit)) ⌝ }
 {
     let layout = status.layout;
     let page = status.page;
     let opening = status.opening;
-    let none = [0u16; 9];
-    let mut out = [0u8; 512];
+    let none = [0u16; ARGUMENT_COUNT];
+    let mut out = [0u8; LINE_SIZE];
     let dealt = line_expansion::read(
         line,
         Top::Source(line.len()),
@@ -97,15 +109,17 @@ pub fn deal(
 // The end begins, or goes on after a trap.
 fn work_end(
     status: Status,
-    cells: &[u8; 512],
-    row: &mut [u8; 872],
-    arena: &mut [u8; 8704],
-    ends: &mut [u16; 221],
-    text_firsts: &[u8; 64],
-    text_seconds: &[u8; 64],
+    cells: &LineBytes,
+    row: &mut RowBytes,
+    arena: &mut StackBytes,
+    ends: &mut StackEnds,
+    text_firsts: &ByteColumn,
+    text_seconds: &ByteColumn,
 ) -> Outcome
-    requires { ⌜ sheet.Begins (status .planted) (desk (status .layout) (status .page) (status .collected) (now cells) (status .stack) (now arena) (now ends)) [] (now row) (now «text_firsts») (now «text_seconds») (status .texts) ⌝ }
-    ensures { λ r. ⌜ Worked (λ ts s. workEnd (s .page .last) s) (now («text_firsts» .entry)) (now («text_seconds» .entry)) (status .texts) (status .planted) (desk (status .layout) (status .page) (status .collected) (now (cells .entry)) (status .stack) (now (arena .entry)) (now (ends .entry))) (r .way) (r .written) (desk (r .layout) (r .page) (r .collected) (now (cells .entry)) (r .stack) (now (arena .exit)) (now (ends .exit))) (now (row .exit)) ⌝ }
+    ghost { Desk }
+    requires { λ q. ⌜ desk (status .layout) (status .page) (status .collected) (now cells) (status .stack) (now arena) (now ends) ≡ q ⌝ }
+    requires { λ q. ⌜ sheet.Begins (status .planted) q [] (now row) (now «text_firsts») (now «text_seconds») (status .texts) ⌝ }
+    ensures { λ q r. ⌜ Worked (λ ts s. workEnd (s .page .last) s) (now («text_firsts» .entry)) (now («text_seconds» .entry)) (status .texts) (status .planted) q (r .way) (r .written) (desk (r .layout) (r .page) (r .collected) (now (cells .entry)) (r .stack) (now (arena .exit)) (now (ends .exit))) (now (row .exit)) ⌝ }
 {
     let layout = status.layout;
     let page = status.page;
@@ -149,22 +163,24 @@ pub fn work(
     stored: u16,
     printer: Printer,
     status: Status,
-    cells: &mut [u8; 512],
-    row: &mut [u8; 872],
-    arena: &mut [u8; 8704],
-    ends: &mut [u16; 221],
+    cells: &mut LineBytes,
+    row: &mut RowBytes,
+    arena: &mut StackBytes,
+    ends: &mut StackEnds,
     store: &mut [u8],
-    text_firsts: &mut [u8; 64],
-    text_seconds: &mut [u8; 64],
-    kinds: &mut [u8; 64],
-    lengths: &mut [u16; 64],
-    firsts: &mut [u8; 64],
-    seconds: &mut [u8; 64],
-    values: &mut [i32; 64],
-    steps: &mut [i32; 64],
+    text_firsts: &mut ByteColumn,
+    text_seconds: &mut ByteColumn,
+    kinds: &mut ByteColumn,
+    lengths: &mut LengthColumn,
+    firsts: &mut ByteColumn,
+    seconds: &mut ByteColumn,
+    values: &mut NumberColumn,
+    steps: &mut NumberColumn,
 ) -> Performed
-    requires { ⌜ ReadyWork (wholeOf status (now cells) (now arena) (now ends) (now store) (now «text_firsts») (now «text_seconds») (now kinds) (now lengths) (now firsts) (now seconds) (now values) (now steps)) stored (now row) printer ⌝ }
-    ensures { λ r. ⌜ WorkedTo (printerOf printer) (wholeOf status (now (cells .entry)) (now (arena .entry)) (now (ends .entry)) (now (store .entry)) (now («text_firsts» .entry)) (now («text_seconds» .entry)) (now (kinds .entry)) (now (lengths .entry)) (now (firsts .entry)) (now (seconds .entry)) (now (values .entry)) (now (steps .entry))) stored (r .way) (r .written) (wholeOf (r .status) (now (cells .exit)) (now (arena .exit)) (now (ends .exit)) (now (store .exit)) (now («text_firsts» .exit)) (now («text_seconds» .exit)) (now (kinds .exit)) (now (lengths .exit)) (now (firsts .exit)) (now (seconds .exit)) (now (values .exit)) (now (steps .exit))) (r .stored) (now (row .exit)) ⌝ }
+    ghost { Whole }
+    requires { λ q. ⌜ wholeOf status (now cells) (now arena) (now ends) (now store) (now «text_firsts») (now «text_seconds») (now kinds) (now lengths) (now firsts) (now seconds) (now values) (now steps) ≡ q ⌝ }
+    requires { λ q. ⌜ ReadyWork q stored (now row) printer ⌝ }
+    ensures { λ q r. ⌜ WorkedTo (printerOf printer) q stored (r .way) (r .written) (wholeOf (r .status) (now (cells .exit)) (now (arena .exit)) (now (ends .exit)) (now (store .exit)) (now («text_firsts» .exit)) (now («text_seconds» .exit)) (now (kinds .exit)) (now (lengths .exit)) (now (firsts .exit)) (now (seconds .exit)) (now (values .exit)) (now (steps .exit))) (r .stored) (now (row .exit)) ⌝ }
 {
     let stack = status.stack;
     let opening = status.opening;

@@ -3,6 +3,15 @@ use super::stored_lines::Performed;
 use super::stored_lines::Unread;
 use page::springs::Way;
 use rules::Name;
+use rules::arrays::ARGUMENT_COUNT;
+use rules::arrays::ByteColumn;
+use rules::arrays::LINE_SIZE;
+use rules::arrays::LengthColumn;
+use rules::arrays::LineBytes;
+use rules::arrays::NumberColumn;
+use rules::arrays::RowBytes;
+use rules::arrays::StackBytes;
+use rules::arrays::StackEnds;
 use settings::layout::Printer;
 use state::Status;
 use state::Step;
@@ -15,9 +24,10 @@ ghost use Rattle.scan.specs.Arguments.Around.{argumentsOf, Arguments};
 ghost use Rattle.texts.specs.Lines.Lines.{nextLine, TopInside};
 ghost use Rattle.settings.specs.Layout.Layouts.{printerOf};
 ghost use Rattle.input_stack.specs.Stack.Frames.{topBytes, topEnds, Topped};
-ghost use Rattle.state.specs.Whole.{Did};
+ghost use Rattle.state.specs.Whole.{Whole, Did};
 ghost use Rattle.state.specs.Statuses.{wholeOf, Begins};
 ghost use Rattle.formatter.specs.StoredLines.Works.{ReadyText, WorkedTo};
+ghost use mathlib.Core.Path.{_≡_};
 
 // A line of the text on top of the stack, with the arguments of its call.
 fn deal_stored(
@@ -25,30 +35,32 @@ fn deal_stored(
     count: u8,
     printer: Printer,
     status: Status,
-    cells: &mut [u8; 512],
-    row: &mut [u8; 872],
-    arena: &mut [u8; 8704],
-    ends: &mut [u16; 221],
+    cells: &mut LineBytes,
+    row: &mut RowBytes,
+    arena: &mut StackBytes,
+    ends: &mut StackEnds,
     store: &mut [u8],
-    text_firsts: &mut [u8; 64],
-    text_seconds: &mut [u8; 64],
-    kinds: &mut [u8; 64],
-    lengths: &mut [u16; 64],
-    firsts: &mut [u8; 64],
-    seconds: &mut [u8; 64],
-    values: &mut [i32; 64],
-    steps: &mut [i32; 64],
+    text_firsts: &mut ByteColumn,
+    text_seconds: &mut ByteColumn,
+    kinds: &mut ByteColumn,
+    lengths: &mut LengthColumn,
+    firsts: &mut ByteColumn,
+    seconds: &mut ByteColumn,
+    values: &mut NumberColumn,
+    steps: &mut NumberColumn,
 ) -> Step
-    requires { ⌜ Begins (wholeOf status (now cells) (now arena) (now ends) (now store) (now «text_firsts») (now «text_seconds») (now kinds) (now lengths) (now firsts) (now seconds) (now values) (now steps)) [] (now row) printer × TopInside [] (now store) top × Topped (status .stack) (now ends) × Arguments (topBytes (status .stack) (now arena) (now ends)) (topEnds (status .stack) (now ends)) count ⌝ }
-    ensures { λ r. ⌜ Did (λ s. rules.deal (printerOf printer) (argumentsOf (topBytes (status .stack) (now (arena .entry)) (now (ends .entry))) (topEnds (status .stack) (now (ends .entry))) count) (nextLine [] (now (store .entry)) top) s) (wholeOf status (now (cells .entry)) (now (arena .entry)) (now (ends .entry)) (now (store .entry)) (now («text_firsts» .entry)) (now («text_seconds» .entry)) (now (kinds .entry)) (now (lengths .entry)) (now (firsts .entry)) (now (seconds .entry)) (now (values .entry)) (now (steps .entry))) (r .way) (r .written) (wholeOf (r .status) (now (cells .exit)) (now (arena .exit)) (now (ends .exit)) (now (store .exit)) (now («text_firsts» .exit)) (now («text_seconds» .exit)) (now (kinds .exit)) (now (lengths .exit)) (now (firsts .exit)) (now (seconds .exit)) (now (values .exit)) (now (steps .exit))) (now (row .exit)) ⌝ }
+    ghost { Whole }
+    requires { λ q. ⌜ wholeOf status (now cells) (now arena) (now ends) (now store) (now «text_firsts») (now «text_seconds») (now kinds) (now lengths) (now firsts) (now seconds) (now values) (now steps) ≡ q ⌝ }
+    requires { λ q. ⌜ Begins q [] (now row) printer × TopInside [] (now store) top × Topped (status .stack) (now ends) × Arguments (topBytes (status .stack) (now arena) (now ends)) (topEnds (status .stack) (now ends)) count ⌝ }
+    ensures { λ q r. ⌜ Did (λ s. rules.deal (printerOf printer) (argumentsOf (topBytes (status .stack) (now (arena .entry)) (now (ends .entry))) (topEnds (status .stack) (now (ends .entry))) count) (nextLine [] (now (store .entry)) top) s) q (r .way) (r .written) (wholeOf (r .status) (now (cells .exit)) (now (arena .exit)) (now (ends .exit)) (now (store .exit)) (now («text_firsts» .exit)) (now («text_seconds» .exit)) (now (kinds .exit)) (now (lengths .exit)) (now (firsts .exit)) (now (seconds .exit)) (now (values .exit)) (now (steps .exit))) (now (row .exit)) ⌝ }
 {
     let layout = status.layout;
     let page = status.page;
     let opening = status.opening;
     let stack = status.stack;
-    let mut given = [0u16; 9];
+    let mut given = [0u16; ARGUMENT_COUNT];
     input_stack::stack::load_ends(stack, &*ends, &mut given);
-    let mut out = [0u8; 512];
+    let mut out = [0u8; LINE_SIZE];
     let arguments = input_stack::stack::top_bytes(stack, &*arena, &*ends);
     let dealt = line_expansion::read(
         b"",
@@ -102,22 +114,24 @@ pub fn read_text(
     stored: u16,
     printer: Printer,
     status: Status,
-    cells: &mut [u8; 512],
-    row: &mut [u8; 872],
-    arena: &mut [u8; 8704],
-    ends: &mut [u16; 221],
+    cells: &mut LineBytes,
+    row: &mut RowBytes,
+    arena: &mut StackBytes,
+    ends: &mut StackEnds,
     store: &mut [u8],
-    text_firsts: &mut [u8; 64],
-    text_seconds: &mut [u8; 64],
-    kinds: &mut [u8; 64],
-    lengths: &mut [u16; 64],
-    firsts: &mut [u8; 64],
-    seconds: &mut [u8; 64],
-    values: &mut [i32; 64],
-    steps: &mut [i32; 64],
+    text_firsts: &mut ByteColumn,
+    text_seconds: &mut ByteColumn,
+    kinds: &mut ByteColumn,
+    lengths: &mut LengthColumn,
+    firsts: &mut ByteColumn,
+    seconds: &mut ByteColumn,
+    values: &mut NumberColumn,
+    steps: &mut NumberColumn,
 ) -> Performed
-    requires { ⌜ ReadyText (wholeOf status (now cells) (now arena) (now ends) (now store) (now «text_firsts») (now «text_seconds») (now kinds) (now lengths) (now firsts) (now seconds) (now values) (now steps)) stored (now row) printer name place count ⌝ }
-    ensures { λ r. ⌜ WorkedTo (printerOf printer) (wholeOf status (now (cells .entry)) (now (arena .entry)) (now (ends .entry)) (now (store .entry)) (now («text_firsts» .entry)) (now («text_seconds» .entry)) (now (kinds .entry)) (now (lengths .entry)) (now (firsts .entry)) (now (seconds .entry)) (now (values .entry)) (now (steps .entry))) stored (r .way) (r .written) (wholeOf (r .status) (now (cells .exit)) (now (arena .exit)) (now (ends .exit)) (now (store .exit)) (now («text_firsts» .exit)) (now («text_seconds» .exit)) (now (kinds .exit)) (now (lengths .exit)) (now (firsts .exit)) (now (seconds .exit)) (now (values .exit)) (now (steps .exit))) (r .stored) (now (row .exit)) ⌝ }
+    ghost { Whole }
+    requires { λ q. ⌜ wholeOf status (now cells) (now arena) (now ends) (now store) (now «text_firsts») (now «text_seconds») (now kinds) (now lengths) (now firsts) (now seconds) (now values) (now steps) ≡ q ⌝ }
+    requires { λ q. ⌜ ReadyText q stored (now row) printer name place count ⌝ }
+    ensures { λ q r. ⌜ WorkedTo (printerOf printer) q stored (r .way) (r .written) (wholeOf (r .status) (now (cells .exit)) (now (arena .exit)) (now (ends .exit)) (now (store .exit)) (now («text_firsts» .exit)) (now («text_seconds» .exit)) (now (kinds .exit)) (now (lengths .exit)) (now (firsts .exit)) (now (seconds .exit)) (now (values .exit)) (now (steps .exit))) (r .stored) (now (row .exit)) ⌝ }
 {
     let stack = status.stack;
     let found = texts::table::look_up(

@@ -1,6 +1,13 @@
 // The input stack: frames, each four words that say what it is, some bytes, and the places where arguments among the bytes end.
 use super::frames::What;
 use rules::Name;
+use rules::arrays::ArgumentEnds;
+use rules::arrays::ITEM_HEAD;
+use rules::arrays::ITEM_WORDS;
+use rules::arrays::LINE_SIZE;
+use rules::arrays::LineBytes;
+use rules::arrays::StackBytes;
+use rules::arrays::StackEnds;
 ghost use mathlib.Core.Path.{_≡_};
 ghost use Prim.Native.Nat.{_+_, _-_, _*_, _≤_, _<_};
 ghost use lib.ListN.{length};
@@ -26,7 +33,7 @@ pub fn empty() -> Stack
     Stack { depth: 0 }
 }
 
-fn put_bytes(arena: &mut [u8; 8704], at: usize, bytes: &[u8])
+fn put_bytes(arena: &mut StackBytes, at: usize, bytes: &[u8])
     requires { ⌜ (at + length (now bytes) ≤ 8704) × (length (now arena) ≡ 8704) ⌝ }
     ensures { λ _. ⌜ now (arena .exit) ≡ paste (now (arena .entry)) at (now (bytes .entry)) (length (now (bytes .entry))) ⌝ }
 {
@@ -38,7 +45,7 @@ fn put_bytes(arena: &mut [u8; 8704], at: usize, bytes: &[u8])
     }
 }
 
-fn put_ends(all: &mut [u16; 221], at: usize, ends: &[u16; 9])
+fn put_ends(all: &mut StackEnds, at: usize, ends: &ArgumentEnds)
     requires { ⌜ (at + 9 ≤ 221) × (length (now all) ≡ 221) × (length (now ends) ≡ 9) ⌝ }
     ensures { λ _. ⌜ now (all .exit) ≡ paste (now (all .entry)) at (now (ends .entry)) 9 ⌝ }
 {
@@ -51,7 +58,7 @@ fn put_ends(all: &mut [u16; 221], at: usize, ends: &[u16; 9])
 }
 
 // What a frame is, and how many bytes it has, in its first four words.
-fn put_entry(all: &mut [u16; 221], at: usize, what: What, size: u16)
+fn put_entry(all: &mut StackEnds, at: usize, what: What, size: u16)
     requires { ⌜ at + 4 ≤ 221 ⌝ }
     ensures { λ _. ⌜ (now (all .exit) ≡ entered (now (all .entry)) at (wordsOf what) size) × (whatIn (wordsOf what) ≡ what) ⌝ }
 {
@@ -65,28 +72,28 @@ fn put_entry(all: &mut [u16; 221], at: usize, what: What, size: u16)
 // A frame goes on top of the stack; the callers count the items.
 pub fn push(
     stack: Stack,
-    arena: &mut [u8; 8704],
-    ends: &mut [u16; 221],
+    arena: &mut StackBytes,
+    ends: &mut StackEnds,
     what: What,
     bytes: &[u8],
-    given: &[u16; 9],
+    given: &ArgumentEnds,
 ) -> Stack
     requires { ⌜ Columns stack (now arena) (now ends) × (stack .depth < 17) × (length (now bytes) ≤ 512) × (length (now given) ≡ 9) ⌝ }
     ensures { λ r. ⌜ PushedTo stack (now (arena .entry)) (now (ends .entry)) what (now (bytes .entry)) (now (given .entry)) r (now (arena .exit)) (now (ends .exit)) ⌝ }
 {
     let depth = stack.depth;
-    put_bytes(&mut *arena, depth * 512, bytes);
-    put_entry(&mut *ends, depth * 13, what, bytes.len() as u16);
-    put_ends(&mut *ends, depth * 13 + 4, given);
+    put_bytes(&mut *arena, depth * LINE_SIZE, bytes);
+    put_entry(&mut *ends, depth * ITEM_WORDS, what, bytes.len() as u16);
+    put_ends(&mut *ends, depth * ITEM_WORDS + ITEM_HEAD, given);
     Stack { depth: depth + 1 }
 }
 
 // The entry of a frame.
-pub fn entry_at(ends: &[u16; 221], frame: usize) -> Entry
+pub fn entry_at(ends: &StackEnds, frame: usize) -> Entry
     requires { ⌜ frame < 17 ⌝ }
     ensures { λ r. ⌜ r ≡ entryAt (now (ends .entry)) frame ⌝ }
 {
-    let at = frame * 13;
+    let at = frame * ITEM_WORDS;
     let first = ends[at];
     let second = ends[at + 1];
     let third = ends[at + 2];
@@ -96,7 +103,7 @@ pub fn entry_at(ends: &[u16; 221], frame: usize) -> Entry
 }
 
 // The entry of the frame on top.
-pub fn top(stack: Stack, ends: &[u16; 221]) -> Entry
+pub fn top(stack: Stack, ends: &StackEnds) -> Entry
     requires { ⌜ (0 < stack .depth) × (stack .depth ≤ 17) ⌝ }
     ensures { λ r. ⌜ r ≡ topEntry stack (now (ends .entry)) ⌝ }
 {
@@ -104,24 +111,24 @@ pub fn top(stack: Stack, ends: &[u16; 221]) -> Entry
 }
 
 // The bytes of the frame on top, where they lie.
-pub fn top_bytes<'a>(stack: Stack, arena: &'a [u8], ends: &[u16; 221]) -> &'a [u8]
+pub fn top_bytes<'a>(stack: Stack, arena: &'a [u8], ends: &StackEnds) -> &'a [u8]
     requires { ⌜ Topped stack (now ends) × (length (now arena) ≡ 8704) ⌝ }
     ensures { λ r. ⌜ now r ≡ topBytes stack (now (arena .entry)) (now (ends .entry)) ⌝ }
 {
     let entry = top(stack, ends);
-    let from = (stack.depth - 1) * 512;
+    let from = (stack.depth - 1) * LINE_SIZE;
     let to = from + entry.size as usize;
     &arena[from..to]
 }
 
 // The bytes of the frame on top are copied to the front of `out`; how many there are.
-pub fn load(stack: Stack, arena: &[u8; 8704], ends: &[u16; 221], out: &mut [u8; 512]) -> usize
+pub fn load(stack: Stack, arena: &StackBytes, ends: &StackEnds, out: &mut LineBytes) -> usize
     requires { ⌜ Topped stack (now ends) × (length (now arena) ≡ 8704) × (length (now out) ≡ 512) ⌝ }
     ensures { λ r. ⌜ LoadedTo stack (now (arena .entry)) (now (ends .entry)) r (now (out .exit)) ⌝ }
 {
     let entry = top(stack, ends);
     let size = entry.size as usize;
-    let at = (stack.depth - 1) * 512;
+    let at = (stack.depth - 1) * LINE_SIZE;
     let mut j: usize = 0;
     while j < size {
         let byte = arena[at + j];
@@ -132,11 +139,11 @@ pub fn load(stack: Stack, arena: &[u8; 8704], ends: &[u16; 221], out: &mut [u8; 
 }
 
 // The places where the arguments of the frame on top end.
-pub fn load_ends(stack: Stack, ends: &[u16; 221], out: &mut [u16; 9])
+pub fn load_ends(stack: Stack, ends: &StackEnds, out: &mut ArgumentEnds)
     requires { ⌜ (0 < stack .depth) × (stack .depth ≤ 17) × (length (now ends) ≡ 221) × (length (now out) ≡ 9) ⌝ }
     ensures { λ _. ⌜ now (out .exit) ≡ topEnds stack (now (ends .entry)) ⌝ }
 {
-    let from = (stack.depth - 1) * 13 + 4;
+    let from = (stack.depth - 1) * ITEM_WORDS + ITEM_HEAD;
     let mut j: usize = 0;
     while j < 9 {
         let end = ends[from + j];
@@ -156,11 +163,11 @@ pub fn pop(stack: Stack) -> Stack
 }
 
 // Another place in the frame on top, if that is a text.
-pub fn set_place(stack: Stack, ends: &mut [u16; 221], place: u16)
+pub fn set_place(stack: Stack, ends: &mut StackEnds, place: u16)
     requires { ⌜ (0 < stack .depth) × (stack .depth ≤ 17) ⌝ }
     ensures { λ _. ⌜ now (ends .exit) ≡ placedAt stack (now (ends .entry)) place ⌝ }
 {
-    let at = (stack.depth - 1) * 13;
+    let at = (stack.depth - 1) * ITEM_WORDS;
     let first = ends[at];
     if first % 256 == 0 {
         ends[at + 2] = place;
@@ -183,7 +190,7 @@ fn is_called(what: What, name: Name) -> bool
 }
 
 // Whether a text of this name lies on the stack.
-pub fn is_on_stack(stack: Stack, ends: &[u16; 221], name: Name) -> bool
+pub fn is_on_stack(stack: Stack, ends: &StackEnds, name: Name) -> bool
     requires { ⌜ stack .depth ≤ 17 ⌝ }
     ensures { λ r. ⌜ r ≡ calledTo name (now (ends .entry)) (stack .depth) ⌝ }
 {

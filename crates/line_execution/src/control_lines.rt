@@ -3,6 +3,14 @@ use line_syntax::lines::Meaning;
 use page::springs::Way;
 use rules::Name;
 use rules::Request;
+use rules::arrays::ByteColumn;
+use rules::arrays::LINE_SIZE;
+use rules::arrays::LengthColumn;
+use rules::arrays::LineBytes;
+use rules::arrays::NumberColumn;
+use rules::arrays::RowBytes;
+use rules::arrays::StackBytes;
+use rules::arrays::StackEnds;
 use settings::layout::Printer;
 use state::Status;
 use state::Step;
@@ -12,7 +20,7 @@ ghost use Rattle.rules.specs.ControlLines as rules;
 ghost use Rattle.rules.specs.ControlLines.{requests, meaningOf};
 ghost use Rattle.settings.specs.Layout.Layouts.{printerOf};
 ghost use Rattle.line_syntax.specs.Lines.Meanings.{MeaningIs};
-ghost use Rattle.state.specs.Whole.{textsIn, Did};
+ghost use Rattle.state.specs.Whole.{Whole, textsIn, Did};
 ghost use Rattle.state.specs.Statuses.{wholeOf, Begins};
 
 // A request, whose line is expanded behind its name.
@@ -24,29 +32,31 @@ fn request(
     line: &[u8],
     printer: Printer,
     status: Status,
-    cells: &[u8; 512],
-    row: &mut [u8; 872],
-    arena: &mut [u8; 8704],
-    ends: &mut [u16; 221],
+    cells: &LineBytes,
+    row: &mut RowBytes,
+    arena: &mut StackBytes,
+    ends: &mut StackEnds,
     store: &mut [u8],
-    text_firsts: &mut [u8; 64],
-    text_seconds: &mut [u8; 64],
-    kinds: &mut [u8; 64],
-    lengths: &mut [u16; 64],
-    firsts: &mut [u8; 64],
-    seconds: &mut [u8; 64],
-    values: &mut [i32; 64],
-    steps: &mut [i32; 64],
+    text_firsts: &mut ByteColumn,
+    text_seconds: &mut ByteColumn,
+    kinds: &mut ByteColumn,
+    lengths: &mut LengthColumn,
+    firsts: &mut ByteColumn,
+    seconds: &mut ByteColumn,
+    values: &mut NumberColumn,
+    steps: &mut NumberColumn,
 ) -> Step
-    requires { ⌜ Begins (wholeOf status (now cells) (now arena) (now ends) (now store) (now «text_firsts») (now «text_seconds») (now kinds) (now lengths) (now firsts) (now seconds) (now values) (now steps)) (now line) (now row) printer × (status .opening .there ≡ false) ⌝ }
-    ensures { λ r. ⌜ Did (λ s. rules.obey (printerOf printer) (requests request) «after_if» period name (now (line .entry)) s) (wholeOf status (now (cells .entry)) (now (arena .entry)) (now (ends .entry)) (now (store .entry)) (now («text_firsts» .entry)) (now («text_seconds» .entry)) (now (kinds .entry)) (now (lengths .entry)) (now (firsts .entry)) (now (seconds .entry)) (now (values .entry)) (now (steps .entry))) (r .way) (r .written) (wholeOf (r .status) (now (cells .entry)) (now (arena .exit)) (now (ends .exit)) (now (store .exit)) (now («text_firsts» .exit)) (now («text_seconds» .exit)) (now (kinds .exit)) (now (lengths .exit)) (now (firsts .exit)) (now (seconds .exit)) (now (values .exit)) (now (steps .exit))) (now (row .exit)) ⌝ }
+    ghost { Whole }
+    requires { λ q. ⌜ wholeOf status (now cells) (now arena) (now ends) (now store) (now «text_firsts») (now «text_seconds») (now kinds) (now lengths) (now firsts) (now seconds) (now values) (now steps) ≡ q ⌝ }
+    requires { λ q. ⌜ Begins q (now line) (now row) printer × (status .opening .there ≡ false) ⌝ }
+    ensures { λ q r. ⌜ Did (λ s. rules.obey (printerOf printer) (requests request) «after_if» period name (now (line .entry)) s) q (r .way) (r .written) (wholeOf (r .status) (now (cells .entry)) (now (arena .exit)) (now (ends .exit)) (now (store .exit)) (now («text_firsts» .exit)) (now («text_seconds» .exit)) (now (kinds .exit)) (now (lengths .exit)) (now (firsts .exit)) (now (seconds .exit)) (now (values .exit)) (now (steps .exit))) (now (row .exit)) ⌝ }
 {
     let layout = status.layout;
     let page = status.page;
     let collected = status.collected;
     let planted = status.planted;
     let stack = status.stack;
-    let mut parts = [0u8; 512];
+    let mut parts = [0u8; LINE_SIZE];
     match request {
         Request::Breaks(breaking) => {
             let outcome = composition::break_requests::obey(
@@ -118,22 +128,24 @@ pub fn obey(
     line: &[u8],
     printer: Printer,
     status: Status,
-    cells: &[u8; 512],
-    row: &mut [u8; 872],
-    arena: &mut [u8; 8704],
-    ends: &mut [u16; 221],
+    cells: &LineBytes,
+    row: &mut RowBytes,
+    arena: &mut StackBytes,
+    ends: &mut StackEnds,
     store: &mut [u8],
-    text_firsts: &mut [u8; 64],
-    text_seconds: &mut [u8; 64],
-    kinds: &mut [u8; 64],
-    lengths: &mut [u16; 64],
-    firsts: &mut [u8; 64],
-    seconds: &mut [u8; 64],
-    values: &mut [i32; 64],
-    steps: &mut [i32; 64],
+    text_firsts: &mut ByteColumn,
+    text_seconds: &mut ByteColumn,
+    kinds: &mut ByteColumn,
+    lengths: &mut LengthColumn,
+    firsts: &mut ByteColumn,
+    seconds: &mut ByteColumn,
+    values: &mut NumberColumn,
+    steps: &mut NumberColumn,
 ) -> Step
-    requires { ⌜ Begins (wholeOf status (now cells) (now arena) (now ends) (now store) (now «text_firsts») (now «text_seconds») (now kinds) (now lengths) (now firsts) (now seconds) (now values) (now steps)) (now line) (now row) printer × (status .opening .there ≡ false) × MeaningIs (textsIn ((wholeOf status (now cells) (now arena) (now ends) (now store) (now «text_firsts») (now «text_seconds») (now kinds) (now lengths) (now firsts) (now seconds) (now values) (now steps)) .texts)) name meaning ⌝ }
-    ensures { λ r. ⌜ Did (λ s. rules.obey (printerOf printer) (meaningOf name s) «after_if» period name (now (line .entry)) s) (wholeOf status (now (cells .entry)) (now (arena .entry)) (now (ends .entry)) (now (store .entry)) (now («text_firsts» .entry)) (now («text_seconds» .entry)) (now (kinds .entry)) (now (lengths .entry)) (now (firsts .entry)) (now (seconds .entry)) (now (values .entry)) (now (steps .entry))) (r .way) (r .written) (wholeOf (r .status) (now (cells .entry)) (now (arena .exit)) (now (ends .exit)) (now (store .exit)) (now («text_firsts» .exit)) (now («text_seconds» .exit)) (now (kinds .exit)) (now (lengths .exit)) (now (firsts .exit)) (now (seconds .exit)) (now (values .exit)) (now (steps .exit))) (now (row .exit)) ⌝ }
+    ghost { Whole }
+    requires { λ q. ⌜ wholeOf status (now cells) (now arena) (now ends) (now store) (now «text_firsts») (now «text_seconds») (now kinds) (now lengths) (now firsts) (now seconds) (now values) (now steps) ≡ q ⌝ }
+    requires { λ q. ⌜ Begins q (now line) (now row) printer × (status .opening .there ≡ false) × MeaningIs (textsIn (q .texts)) name meaning ⌝ }
+    ensures { λ q r. ⌜ Did (λ s. rules.obey (printerOf printer) (meaningOf name s) «after_if» period name (now (line .entry)) s) q (r .way) (r .written) (wholeOf (r .status) (now (cells .entry)) (now (arena .exit)) (now (ends .exit)) (now (store .exit)) (now («text_firsts» .exit)) (now («text_seconds» .exit)) (now (kinds .exit)) (now (lengths .exit)) (now (firsts .exit)) (now (seconds .exit)) (now (values .exit)) (now (steps .exit))) (now (row .exit)) ⌝ }
 {
     let layout = status.layout;
     let page = status.page;
@@ -142,7 +154,7 @@ pub fn obey(
     let stack = status.stack;
     match meaning {
         Meaning::Calls(_) => {
-            let mut parts = [0u8; 512];
+            let mut parts = [0u8; LINE_SIZE];
             let outcome = composition::text_calls::call(
                 name,
                 line,

@@ -4,9 +4,16 @@ use requests::definitions::Changed;
 use requests::nr::Assigned;
 use requests::wh::Plants;
 use rules::Unbreaking;
+use rules::arrays::ByteColumn;
+use rules::arrays::LINE_SIZE;
+use rules::arrays::LengthColumn;
+use rules::arrays::LineBytes;
+use rules::arrays::NumberColumn;
+use rules::arrays::RowBytes;
+use rules::arrays::StackBytes;
+use rules::arrays::StackEnds;
 use settings::layout::Printer;
 use state::Opened;
-use state::Opening;
 use state::Status;
 use state::Step;
 use state::moved;
@@ -14,13 +21,12 @@ use state::stay;
 use state::with_planted;
 use state::with_registers;
 use state::with_texts;
-use traps::table::Planted;
 ghost use mathlib.Core.Path.{_≡_};
 ghost use mathlib.Core.Bool.{false};
 ghost use Rattle.rules.specs.Acts as rule;
 ghost use Rattle.rules.specs.Acts.{settles};
 ghost use Rattle.settings.specs.Layout.Layouts.{printerOf};
-ghost use Rattle.state.specs.Whole.{Did};
+ghost use Rattle.state.specs.Whole.{Whole, Did};
 ghost use Rattle.state.specs.Statuses.{wholeOf, Begins};
 ghost use Rattle.line_execution.specs.NoBreakRequests.Steps.{groupOf, assignedTo, plantedTo, changedTo, openedTo};
 
@@ -106,22 +112,24 @@ pub fn perform(
     line: &[u8],
     printer: Printer,
     status: Status,
-    cells: &[u8; 512],
-    row: &[u8; 872],
-    arena: &mut [u8; 8704],
-    ends: &mut [u16; 221],
+    cells: &LineBytes,
+    row: &RowBytes,
+    arena: &mut StackBytes,
+    ends: &mut StackEnds,
     store: &mut [u8],
-    text_firsts: &mut [u8; 64],
-    text_seconds: &mut [u8; 64],
-    kinds: &mut [u8; 64],
-    lengths: &mut [u16; 64],
-    firsts: &mut [u8; 64],
-    seconds: &mut [u8; 64],
-    values: &mut [i32; 64],
-    steps: &mut [i32; 64],
+    text_firsts: &mut ByteColumn,
+    text_seconds: &mut ByteColumn,
+    kinds: &mut ByteColumn,
+    lengths: &mut LengthColumn,
+    firsts: &mut ByteColumn,
+    seconds: &mut ByteColumn,
+    values: &mut NumberColumn,
+    steps: &mut NumberColumn,
 ) -> Step
-    requires { ⌜ Begins (wholeOf status (now cells) (now arena) (now ends) (now store) (now «text_firsts») (now «text_seconds») (now kinds) (now lengths) (now firsts) (now seconds) (now values) (now steps)) (now line) (now row) printer × (status .opening .there ≡ false) ⌝ }
-    ensures { λ r. ⌜ Did (λ s. settles (rule.perform (printerOf printer) request (now (line .entry)) s) s) (wholeOf status (now (cells .entry)) (now (arena .entry)) (now (ends .entry)) (now (store .entry)) (now («text_firsts» .entry)) (now («text_seconds» .entry)) (now (kinds .entry)) (now (lengths .entry)) (now (firsts .entry)) (now (seconds .entry)) (now (values .entry)) (now (steps .entry))) (r .way) (r .written) (wholeOf (r .status) (now (cells .entry)) (now (arena .exit)) (now (ends .exit)) (now (store .exit)) (now («text_firsts» .exit)) (now («text_seconds» .exit)) (now (kinds .exit)) (now (lengths .exit)) (now (firsts .exit)) (now (seconds .exit)) (now (values .exit)) (now (steps .exit))) (now (row .entry)) ⌝ }
+    ghost { Whole }
+    requires { λ q. ⌜ wholeOf status (now cells) (now arena) (now ends) (now store) (now «text_firsts») (now «text_seconds») (now kinds) (now lengths) (now firsts) (now seconds) (now values) (now steps) ≡ q ⌝ }
+    requires { λ q. ⌜ Begins q (now line) (now row) printer × (status .opening .there ≡ false) ⌝ }
+    ensures { λ q r. ⌜ Did (λ s. settles (rule.perform (printerOf printer) request (now (line .entry)) s) s) q (r .way) (r .written) (wholeOf (r .status) (now (cells .entry)) (now (arena .exit)) (now (ends .exit)) (now (store .exit)) (now («text_firsts» .exit)) (now («text_seconds» .exit)) (now (kinds .exit)) (now (lengths .exit)) (now (firsts .exit)) (now (seconds .exit)) (now (values .exit)) (now (steps .exit))) (now (row .entry)) ⌝ }
 {
     let layout = status.layout;
     let page = status.page;
@@ -129,7 +137,7 @@ pub fn perform(
     let planted = status.planted;
     let stack = status.stack;
     let opening = status.opening;
-    let mut parts = [0u8; 512];
+    let mut parts = [0u8; LINE_SIZE];
     match group_of(request) {
         Group::Lays => {
             let outcome = composition::no_break_requests::keep(

@@ -5,6 +5,13 @@ use requests::definitions::Changed;
 use requests::nr::Assigned;
 use requests::wh::Plants;
 use rules::Name;
+use rules::arrays::ARGUMENT_COUNT;
+use rules::arrays::ArgumentEnds;
+use rules::arrays::ByteColumn;
+use rules::arrays::LengthColumn;
+use rules::arrays::LineBytes;
+use rules::arrays::NumberColumn;
+use rules::arrays::StackEnds;
 use settings::layout::Printer;
 use state::Opened;
 use state::Opening;
@@ -31,13 +38,13 @@ ghost use Rattle.scan.specs.Arguments.Around.{argumentsOf, Arguments};
 // nr, by its arguments.
 fn assign_parted(
     parts: &[u8],
-    ends: &[u16; 9],
+    ends: &ArgumentEnds,
     given: usize,
     printer: Printer,
-    firsts: &mut [u8; 64],
-    seconds: &mut [u8; 64],
-    values: &mut [i32; 64],
-    steps: &mut [i32; 64],
+    firsts: &mut ByteColumn,
+    seconds: &mut ByteColumn,
+    values: &mut NumberColumn,
+    steps: &mut NumberColumn,
     count: usize,
 ) -> Assigned
     requires { ⌜ registers.Ready (now firsts) (now seconds) (now values) (now steps) count printer × Arguments (now parts) (now ends) given ⌝ }
@@ -62,18 +69,18 @@ fn assign_parted(
 // nr, by what follows its name.
 pub fn assign(
     line: &[u8],
-    parts: &mut [u8; 512],
+    parts: &mut LineBytes,
     printer: Printer,
-    firsts: &mut [u8; 64],
-    seconds: &mut [u8; 64],
-    values: &mut [i32; 64],
-    steps: &mut [i32; 64],
+    firsts: &mut ByteColumn,
+    seconds: &mut ByteColumn,
+    values: &mut NumberColumn,
+    steps: &mut NumberColumn,
     count: usize,
 ) -> Assigned
     requires { ⌜ registers.Ready (now firsts) (now seconds) (now values) (now steps) count printer × Unread (now line) 0 (now parts) 0 ⌝ }
     ensures { λ r. ⌜ AssignsAs (now (firsts .entry)) (now (seconds .entry)) (now (values .entry)) (now (steps .entry)) count (λ s. perform (printerOf printer) Nr (now (line .entry)) s) r (now (firsts .exit)) (now (seconds .exit)) (now (values .exit)) (now (steps .exit)) ⌝ }
 {
-    let mut ends = [0u16; 9];
+    let mut ends = [0u16; ARGUMENT_COUNT];
     let given = scan::arguments::arguments(line, 0, &mut *parts, &mut ends);
     assign_parted(
         &*parts,
@@ -91,7 +98,7 @@ pub fn assign(
 // wh, by its arguments.
 fn plant_parted(
     parts: &[u8],
-    ends: &[u16; 9],
+    ends: &ArgumentEnds,
     given: usize,
     printer: Printer,
     planted: Planted,
@@ -105,11 +112,11 @@ fn plant_parted(
 }
 
 // wh, by what follows its name.
-pub fn plant(line: &[u8], parts: &mut [u8; 512], printer: Printer, planted: Planted) -> Plants
+pub fn plant(line: &[u8], parts: &mut LineBytes, printer: Printer, planted: Planted) -> Plants
     requires { ⌜ traps.Ready planted printer × Unread (now line) 0 (now parts) 0 ⌝ }
     ensures { λ r. ⌜ PlantsAs planted (λ s. perform (printerOf printer) Wh (now (line .entry)) s) r ⌝ }
 {
-    let mut ends = [0u16; 9];
+    let mut ends = [0u16; ARGUMENT_COUNT];
     let given = scan::arguments::arguments(line, 0, &mut *parts, &mut ends);
     plant_parted(&*parts, &ends, given, printer, planted)
 }
@@ -117,21 +124,21 @@ pub fn plant(line: &[u8], parts: &mut [u8; 512], printer: Printer, planted: Plan
 // rm, by what follows its name.
 pub fn remove(
     line: &[u8],
-    parts: &mut [u8; 512],
+    parts: &mut LineBytes,
     printer: Printer,
     stack: Stack,
-    frames: &[u16; 221],
+    frames: &StackEnds,
     store: &mut [u8],
-    firsts: &mut [u8; 64],
-    seconds: &mut [u8; 64],
-    kinds: &mut [u8; 64],
-    lengths: &mut [u16; 64],
+    firsts: &mut ByteColumn,
+    seconds: &mut ByteColumn,
+    kinds: &mut ByteColumn,
+    lengths: &mut LengthColumn,
     count: usize,
 ) -> Changed
     requires { ⌜ texts.Ready (now store) (now firsts) (now seconds) (now kinds) (now lengths) count stack × Unread (now line) 0 (now parts) 0 ⌝ }
     ensures { λ r. ⌜ ChangesAs (now (store .entry)) (now (firsts .entry)) (now (seconds .entry)) (now (kinds .entry)) (now (lengths .entry)) count stack (now (frames .entry)) alone (λ s. perform (printerOf printer) Rm (now (line .entry)) s) r (now (store .exit)) (now (firsts .exit)) (now (seconds .exit)) (now (kinds .exit)) (now (lengths .exit)) ⌝ }
 {
-    let mut ends = [0u16; 9];
+    let mut ends = [0u16; ARGUMENT_COUNT];
     let given = scan::arguments::arguments(line, 0, &mut *parts, &mut ends);
     let name = line_syntax::lines::argument(&*parts, &ends, given, 0);
     requests::definitions::remove(
@@ -173,12 +180,12 @@ fn open_named(
     name: &[u8],
     opening: Opening,
     stack: Stack,
-    frames: &[u16; 221],
+    frames: &StackEnds,
     store: &mut [u8],
-    firsts: &mut [u8; 64],
-    seconds: &mut [u8; 64],
-    kinds: &mut [u8; 64],
-    lengths: &mut [u16; 64],
+    firsts: &mut ByteColumn,
+    seconds: &mut ByteColumn,
+    kinds: &mut ByteColumn,
+    lengths: &mut LengthColumn,
     count: usize,
 ) -> Opened
     requires { ⌜ texts.Ready (now store) (now firsts) (now seconds) (now kinds) (now lengths) count stack ⌝ }
@@ -213,22 +220,22 @@ fn open_named(
 // de, by what follows its name.
 pub fn open(
     line: &[u8],
-    parts: &mut [u8; 512],
+    parts: &mut LineBytes,
     printer: Printer,
     opening: Opening,
     stack: Stack,
-    frames: &[u16; 221],
+    frames: &StackEnds,
     store: &mut [u8],
-    firsts: &mut [u8; 64],
-    seconds: &mut [u8; 64],
-    kinds: &mut [u8; 64],
-    lengths: &mut [u16; 64],
+    firsts: &mut ByteColumn,
+    seconds: &mut ByteColumn,
+    kinds: &mut ByteColumn,
+    lengths: &mut LengthColumn,
     count: usize,
 ) -> Opened
     requires { ⌜ texts.Ready (now store) (now firsts) (now seconds) (now kinds) (now lengths) count stack × Unread (now line) 0 (now parts) 0 ⌝ }
     ensures { λ r. ⌜ OpensAs (now (store .entry)) (now (firsts .entry)) (now (seconds .entry)) (now (kinds .entry)) (now (lengths .entry)) count stack (now (frames .entry)) (nameOf (argument 0 (now (line .entry)))) (λ s. perform (printerOf printer) De (now (line .entry)) s) (r .changed) (now (store .exit)) (now (firsts .exit)) (now (seconds .exit)) (now (kinds .exit)) (now (lengths .exit)) × OpeningIs (nameOf (argument 0 (now (line .entry)))) (r .changed) opening (r .opening) ⌝ }
 {
-    let mut ends = [0u16; 9];
+    let mut ends = [0u16; ARGUMENT_COUNT];
     let given = scan::arguments::arguments(line, 0, &mut *parts, &mut ends);
     let name = line_syntax::lines::argument(&*parts, &ends, given, 0);
     open_named(

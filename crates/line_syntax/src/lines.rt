@@ -6,6 +6,9 @@ use rules::MARK;
 use rules::Mode;
 use rules::Name;
 use rules::Request;
+use rules::arrays::ArgumentEnds;
+use rules::arrays::ByteColumn;
+use rules::arrays::LengthColumn;
 use texts::table::Found;
 ghost use mathlib.Core.Path.{_≡_};
 ghost use mathlib.Core.List.{[]};
@@ -102,7 +105,7 @@ pub fn line_of(line: &[u8]) -> Line
 }
 
 // An argument, counted from 0; a missing one is empty.
-pub fn argument<'a>(bytes: &'a [u8], ends: &[u16; 9], count: usize, k: usize) -> &'a [u8]
+pub fn argument<'a>(bytes: &'a [u8], ends: &ArgumentEnds, count: usize, k: usize) -> &'a [u8]
     requires { ⌜ Arguments (now bytes) (now ends) count ⌝ }
     ensures { λ r. ⌜ now r ≡ getD (argumentsOf (now (bytes .entry)) (now (ends .entry)) count) k [] ⌝ }
 {
@@ -147,10 +150,10 @@ pub fn condition_at(line: &[u8], at: usize) -> Condition
 // What a name stands for: "User names hide requests".
 pub fn meaning_of(
     store: &[u8],
-    firsts: &[u8; 64],
-    seconds: &[u8; 64],
-    kinds: &[u8; 64],
-    lengths: &[u16; 64],
+    firsts: &ByteColumn,
+    seconds: &ByteColumn,
+    kinds: &ByteColumn,
+    lengths: &LengthColumn,
     count: usize,
     name: Name,
 ) -> Meaning

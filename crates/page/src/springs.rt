@@ -5,6 +5,11 @@ use input_stack::frames::What;
 use input_stack::stack::Stack;
 use measure::Rows;
 use rules::Name;
+use rules::arrays::ARGUMENT_COUNT;
+use rules::arrays::ArgumentEnds;
+use rules::arrays::ByteColumn;
+use rules::arrays::StackBytes;
+use rules::arrays::StackEnds;
 use texts::table::Place;
 use traps::table::Found;
 use traps::table::Planted;
@@ -68,8 +73,8 @@ pub fn hold(
     held: Held,
     bytes: &[u8],
     stack: Stack,
-    arena: &mut [u8; 8704],
-    ends: &mut [u16; 221],
+    arena: &mut StackBytes,
+    ends: &mut StackEnds,
 ) -> Stack
     requires { ⌜ Ready stack (now arena) (now ends) (now bytes) ⌝ }
     ensures { λ r. ⌜ HeldTo held (now (bytes .entry)) stack (now (arena .entry)) (now (ends .entry)) r (now (arena .exit)) (now (ends .exit)) ⌝ }
@@ -77,7 +82,7 @@ pub fn hold(
     let Held::Item(what) = held else {
         return stack;
     };
-    let none = [0u16; 9];
+    let none = [0u16; ARGUMENT_COUNT];
     input_stack::stack::push(stack, arena, ends, what, bytes, &none)
 }
 
@@ -86,13 +91,13 @@ pub fn call(
     name: Name,
     count: u8,
     arguments: &[u8],
-    given: &[u16; 9],
+    given: &ArgumentEnds,
     held: Held,
     bytes: &[u8],
     last: bool,
     stack: Stack,
-    arena: &mut [u8; 8704],
-    ends: &mut [u16; 221],
+    arena: &mut StackBytes,
+    ends: &mut StackEnds,
 ) -> Called
     requires { ⌜ Ready stack (now arena) (now ends) (now bytes) × Plain held × (length (now arguments) ≤ 512) × Arguments (now arguments) (now given) count ⌝ }
     ensures { λ r. ⌜ CalledTo name count (now (arguments .entry)) (now (given .entry)) held (now (bytes .entry)) last stack (now (arena .entry)) (now (ends .entry)) r (now (arena .exit)) (now (ends .exit)) ⌝ }
@@ -120,8 +125,8 @@ fn held_alone(
     held: Held,
     bytes: &[u8],
     stack: Stack,
-    arena: &mut [u8; 8704],
-    ends: &mut [u16; 221],
+    arena: &mut StackBytes,
+    ends: &mut StackEnds,
 ) -> Called
     requires { ⌜ Ready stack (now arena) (now ends) (now bytes) ⌝ }
     ensures { λ r. ⌜ (r .full ≡ false) × HeldTo held (now (bytes .entry)) stack (now (arena .entry)) (now (ends .entry)) (r .stack) (now (arena .exit)) (now (ends .exit)) ⌝ }
@@ -140,10 +145,10 @@ pub fn spring(
     held: Held,
     bytes: &[u8],
     stack: Stack,
-    arena: &mut [u8; 8704],
-    ends: &mut [u16; 221],
-    firsts: &[u8; 64],
-    seconds: &[u8; 64],
+    arena: &mut StackBytes,
+    ends: &mut StackEnds,
+    firsts: &ByteColumn,
+    seconds: &ByteColumn,
     texts: usize,
 ) -> Called
     requires { ⌜ Ready stack (now arena) (now ends) (now bytes) × Plain held × Names (now firsts) (now seconds) texts ⌝ }
@@ -154,7 +159,7 @@ pub fn spring(
     };
     match texts::table::find(firsts, seconds, texts, name) {
         Place::At(_) => {
-            let none = [0u16; 9];
+            let none = [0u16; ARGUMENT_COUNT];
             call(
                 name,
                 0,
@@ -198,10 +203,10 @@ fn land(
     held: Held,
     bytes: &[u8],
     stack: Stack,
-    arena: &mut [u8; 8704],
-    ends: &mut [u16; 221],
-    firsts: &[u8; 64],
-    seconds: &[u8; 64],
+    arena: &mut StackBytes,
+    ends: &mut StackEnds,
+    firsts: &ByteColumn,
+    seconds: &ByteColumn,
     texts: usize,
 ) -> Landed
     requires { ⌜ Ready stack (now arena) (now ends) (now bytes) × Plain held × Names (now firsts) (now seconds) texts ⌝ }
@@ -245,10 +250,10 @@ pub fn down(
     held: Held,
     bytes: &[u8],
     stack: Stack,
-    arena: &mut [u8; 8704],
-    ends: &mut [u16; 221],
-    firsts: &[u8; 64],
-    seconds: &[u8; 64],
+    arena: &mut StackBytes,
+    ends: &mut StackEnds,
+    firsts: &ByteColumn,
+    seconds: &ByteColumn,
     texts: usize,
 ) -> Landed
     requires { ⌜ Sound page length planted × Ready stack (now arena) (now ends) (now bytes) × Plain held × Names (now firsts) (now seconds) texts ⌝ }
@@ -277,10 +282,10 @@ pub fn start_page(
     held: Held,
     bytes: &[u8],
     stack: Stack,
-    arena: &mut [u8; 8704],
-    ends: &mut [u16; 221],
-    firsts: &[u8; 64],
-    seconds: &[u8; 64],
+    arena: &mut StackBytes,
+    ends: &mut StackEnds,
+    firsts: &ByteColumn,
+    seconds: &ByteColumn,
     texts: usize,
 ) -> Landed
     requires { ⌜ Sound page length planted × Ready stack (now arena) (now ends) (now bytes) × Plain held × Names (now firsts) (now seconds) texts ⌝ }

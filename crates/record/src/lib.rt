@@ -1,5 +1,12 @@
 // The record of a session, and what a turn of a call leads to.
 use page::springs::Way;
+use rules::arrays::ByteColumn;
+use rules::arrays::LengthColumn;
+use rules::arrays::LineBytes;
+use rules::arrays::NumberColumn;
+use rules::arrays::RowBytes;
+use rules::arrays::StackBytes;
+use rules::arrays::StackEnds;
 use source_line::Source;
 use state::Status;
 use stream::Answer;
@@ -29,19 +36,19 @@ pub struct Record {
     pub source: Source,
     pub waiting: Waiting,
     pub closing: Closing,
-    pub gathered: [u8; 512],
-    pub cells: [u8; 512],
-    pub row: [u8; 872],
-    pub arena: [u8; 8704],
-    pub ends: [u16; 221],
-    pub text_firsts: [u8; 64],
-    pub text_seconds: [u8; 64],
-    pub kinds: [u8; 64],
-    pub lengths: [u16; 64],
-    pub firsts: [u8; 64],
-    pub seconds: [u8; 64],
-    pub values: [i32; 64],
-    pub steps: [i32; 64],
+    pub gathered: LineBytes,
+    pub cells: LineBytes,
+    pub row: RowBytes,
+    pub arena: StackBytes,
+    pub ends: StackEnds,
+    pub text_firsts: ByteColumn,
+    pub text_seconds: ByteColumn,
+    pub kinds: ByteColumn,
+    pub lengths: LengthColumn,
+    pub firsts: ByteColumn,
+    pub seconds: ByteColumn,
+    pub values: NumberColumn,
+    pub steps: NumberColumn,
 }
 
 // What a call answers, and the record for the next one.
@@ -152,7 +159,7 @@ pub fn closed(closing: Closing) -> Stop
 }
 
 // As many of the waiting bytes as fit are written.
-pub fn write_out(waiting: Waiting, row: &[u8; 872], out: &mut [u8], written: usize) -> Wrote
+pub fn write_out(waiting: Waiting, row: &RowBytes, out: &mut [u8], written: usize) -> Wrote
     requires { ⌜ Writes (now row) (waiting .at) (waiting .end) (now out) written ⌝ }
     ensures { λ r. ⌜ WroteTo waiting (now (row .entry)) (now (out .entry)) written r (now (out .exit)) ⌝ }
 {

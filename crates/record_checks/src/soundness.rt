@@ -6,6 +6,15 @@ use input_stack::stack::Stack;
 use measure::Rows;
 use page::position::Page;
 use rules::Name;
+use rules::arrays::ByteColumn;
+use rules::arrays::ITEM_HEAD;
+use rules::arrays::ITEM_WORDS;
+use rules::arrays::LINE_SIZE;
+use rules::arrays::LengthColumn;
+use rules::arrays::STACK_ITEMS;
+use rules::arrays::STORE_SIZE;
+use rules::arrays::StackEnds;
+use rules::arrays::TABLE_SIZE;
 use settings::layout::Layout;
 use settings::layout::Total;
 use settings::lengths::Setting;
@@ -92,7 +101,7 @@ fn is_page(page: Page, length: Rows) -> bool
 fn is_collected(collected: Collected) -> bool
     ensures { λ r. ⌜ r ≡ isCollected collected ⌝ }
 {
-    if 512 < collected.length {
+    if LINE_SIZE < collected.length {
         return false;
     }
     let room = collected.room;
@@ -127,7 +136,7 @@ fn is_sheet(status: Status) -> bool
 }
 
 // Whether there are at most nine arguments in a frame, each within so many bytes and not before it begins.
-fn are_arguments(ends: &[u16; 221], frame: usize, count: u8, size: u16) -> bool
+fn are_arguments(ends: &StackEnds, frame: usize, count: u8, size: u16) -> bool
     requires { ⌜ (length (now ends) ≡ 221) × (frame < 17) ⌝ }
     ensures { λ r. ⌜ r ≡ areArguments (take 9 (drop (frame * 13 + 4) (now (ends .entry)))) count size ⌝ }
 {
@@ -135,7 +144,7 @@ fn are_arguments(ends: &[u16; 221], frame: usize, count: u8, size: u16) -> bool
         return false;
     }
     let given = count as usize;
-    let at = frame * 13 + 4;
+    let at = frame * ITEM_WORDS + ITEM_HEAD;
     let mut from: u16 = 0;
     let mut i: usize = 0;
     while i < given {
@@ -153,7 +162,7 @@ fn are_arguments(ends: &[u16; 221], frame: usize, count: u8, size: u16) -> bool
 }
 
 // Whether there is a text of a name.
-pub fn is_there(firsts: &[u8; 64], seconds: &[u8; 64], count: usize, name: Name) -> bool
+pub fn is_there(firsts: &ByteColumn, seconds: &ByteColumn, count: usize, name: Name) -> bool
     requires { ⌜ Names (now firsts) (now seconds) count ⌝ }
     ensures { λ r. ⌜ r ≡ isAt (placeOf name (namesOf (now (firsts .entry)) (now (seconds .entry)) count)) ⌝ }
 {
@@ -168,9 +177,9 @@ fn is_item(
     what: What,
     size: u16,
     frame: usize,
-    ends: &[u16; 221],
-    firsts: &[u8; 64],
-    seconds: &[u8; 64],
+    ends: &StackEnds,
+    firsts: &ByteColumn,
+    seconds: &ByteColumn,
     count: usize,
 ) -> bool
     requires { ⌜ Names (now firsts) (now seconds) count × (length (now ends) ≡ 221) × (frame < 17) ⌝ }
@@ -192,9 +201,9 @@ fn is_item(
 fn is_frame(
     entry: Entry,
     frame: usize,
-    ends: &[u16; 221],
-    firsts: &[u8; 64],
-    seconds: &[u8; 64],
+    ends: &StackEnds,
+    firsts: &ByteColumn,
+    seconds: &ByteColumn,
     count: usize,
 ) -> bool
     requires { ⌜ Names (now firsts) (now seconds) count × (length (now ends) ≡ 221) × (frame < 17) ⌝ }
@@ -218,14 +227,14 @@ pub fn is_text(what: What) -> bool
 }
 
 // "input stack past 16 items": 16, and one that is no text for a moment over them.
-fn is_depth(stack: Stack, ends: &[u16; 221]) -> bool
+fn is_depth(stack: Stack, ends: &StackEnds) -> bool
     ensures { λ r. ⌜ r ≡ isDepth stack (now (ends .entry)) ⌝ }
 {
     let depth = stack.depth;
     if depth <= 16 {
         return true;
     }
-    if 17 < depth {
+    if STACK_ITEMS < depth {
         return false;
     }
     let entry = input_stack::stack::top(stack, ends);
@@ -236,9 +245,9 @@ fn is_depth(stack: Stack, ends: &[u16; 221]) -> bool
 // The input stack, over texts of these names.
 fn is_stack(
     stack: Stack,
-    ends: &[u16; 221],
-    firsts: &[u8; 64],
-    seconds: &[u8; 64],
+    ends: &StackEnds,
+    firsts: &ByteColumn,
+    seconds: &ByteColumn,
     count: usize,
 ) -> bool
     requires { ⌜ Names (now firsts) (now seconds) count × (length (now ends) ≡ 221) ⌝ }
@@ -259,28 +268,28 @@ fn is_stack(
 }
 
 // An open definition: its body lies behind the texts, within the store, and a row is left for it.
-fn is_opening(opening: Opening, lengths: &[u16; 64], count: usize, store: usize) -> bool
+fn is_opening(opening: Opening, lengths: &LengthColumn, count: usize, store: usize) -> bool
     requires { ⌜ sum (take count (now lengths)) ≤ 8192 ⌝ }
     ensures { λ r. ⌜ r ≡ isOpening opening (now (lengths .entry)) count store ⌝ }
 {
     if !opening.there {
         return true;
     }
-    if 64 <= count {
+    if TABLE_SIZE <= count {
         return false;
     }
     let length = opening.length;
-    if 8192 < length {
+    if STORE_SIZE < length {
         return false;
     }
     texts::table::start_of(lengths, count) + length <= store
 }
 
 // The texts lie within a store of 8,192 bytes, and an open definition behind them.
-fn are_texts(status: Status, store: usize, lengths: &[u16; 64]) -> bool
+fn are_texts(status: Status, store: usize, lengths: &LengthColumn) -> bool
     ensures { λ r. ⌜ r ≡ areTexts status store (now (lengths .entry)) ⌝ }
 {
-    if store != 8192 {
+    if store != STORE_SIZE {
         return false;
     }
     let count = status.texts;
@@ -295,12 +304,12 @@ fn are_texts(status: Status, store: usize, lengths: &[u16; 64]) -> bool
 pub fn is_sound(
     status: Status,
     store: usize,
-    ends: &[u16; 221],
-    text_firsts: &[u8; 64],
-    text_seconds: &[u8; 64],
-    lengths: &[u16; 64],
-    firsts: &[u8; 64],
-    seconds: &[u8; 64],
+    ends: &StackEnds,
+    text_firsts: &ByteColumn,
+    text_seconds: &ByteColumn,
+    lengths: &LengthColumn,
+    firsts: &ByteColumn,
+    seconds: &ByteColumn,
 ) -> bool
     requires { ⌜ Lent (now ends) (now «text_firsts») (now «text_seconds») (now lengths) (now firsts) (now seconds) ⌝ }
     ensures { λ r. ⌜ r ≡ isSound status store (now (ends .entry)) (now («text_firsts» .entry)) (now («text_seconds» .entry)) (now (lengths .entry)) (now (firsts .entry)) (now (seconds .entry)) ⌝ }

@@ -1,6 +1,12 @@
 // Whether a lent record keeps to its limits: "1: store not 8,192 long, or the record breaks a limit below". docs/RECORD.md lists the tests.
 use input_stack::stack::Stack;
 use measure::Rows;
+use rules::arrays::ByteColumn;
+use rules::arrays::LINE_SIZE;
+use rules::arrays::LineBytes;
+use rules::arrays::NumberColumn;
+use rules::arrays::STACK_ITEMS;
+use rules::arrays::StackEnds;
 use settings::layout::Layout;
 use settings::lengths::Setting;
 use state::Opening;
@@ -49,7 +55,7 @@ fn are_places(planted: Planted) -> bool
 }
 
 // Whether no text has the name of an open definition.
-fn is_gone(opening: Opening, firsts: &[u8; 64], seconds: &[u8; 64], count: usize) -> bool
+fn is_gone(opening: Opening, firsts: &ByteColumn, seconds: &ByteColumn, count: usize) -> bool
     requires { ⌜ Names (now firsts) (now seconds) count ⌝ }
     ensures { λ r. ⌜ r ≡ isGone (opening .there) (opening .name) (namesOf (now (firsts .entry)) (now (seconds .entry)) count) ⌝ }
 {
@@ -63,10 +69,10 @@ fn is_gone(opening: Opening, firsts: &[u8; 64], seconds: &[u8; 64], count: usize
 // The numbers of registers and traps, and the names of texts.
 fn are_tables(
     status: Status,
-    text_firsts: &[u8; 64],
-    text_seconds: &[u8; 64],
-    values: &[i32; 64],
-    steps: &[i32; 64],
+    text_firsts: &ByteColumn,
+    text_seconds: &ByteColumn,
+    values: &NumberColumn,
+    steps: &NumberColumn,
 ) -> bool
     requires { ⌜ LentTables (now «text_firsts») (now «text_seconds») (now values) (now steps) ⌝ }
     ensures { λ r. ⌜ r ≡ areTables status (now («text_firsts» .entry)) (now («text_seconds» .entry)) (now (values .entry)) (now (steps .entry)) ⌝ }
@@ -133,11 +139,11 @@ fn odd_byte(byte: u8) -> u16
 }
 
 // Whether at most 512 bytes are gathered, each of which may stand in a source line. All are looked at, so that many are at once.
-fn is_gathered(gathered: &[u8; 512], count: usize) -> bool
+fn is_gathered(gathered: &LineBytes, count: usize) -> bool
     requires { ⌜ length (now gathered) ≡ 512 ⌝ }
     ensures { λ r. ⌜ r ≡ isGathered (now (gathered .entry)) count ⌝ }
 {
-    if 512 < count {
+    if LINE_SIZE < count {
         return false;
     }
     let mut odd: u16 = 0;
@@ -161,10 +167,10 @@ fn is_layer(text: bool, held: bool) -> bool
 }
 
 // Whether each item that is no text lies on a text, or at the bottom.
-fn is_layered(stack: Stack, ends: &[u16; 221]) -> bool
+fn is_layered(stack: Stack, ends: &StackEnds) -> bool
     ensures { λ r. ⌜ r ≡ isLayered stack (now (ends .entry)) ⌝ }
 {
-    if 17 < stack.depth {
+    if STACK_ITEMS < stack.depth {
         return false;
     }
     let mut held = false;
@@ -193,18 +199,18 @@ fn the_end(last: bool) -> usize
 }
 
 // "input stack past 16 items", with the end among them.
-fn is_deep(last: bool, stack: Stack, ends: &[u16; 221]) -> bool
+fn is_deep(last: bool, stack: Stack, ends: &StackEnds) -> bool
     ensures { λ r. ⌜ r ≡ isDeep last stack (now (ends .entry)) ⌝ }
 {
     let depth = stack.depth;
-    if 17 < depth {
+    if STACK_ITEMS < depth {
         return false;
     }
     let items = depth + the_end(last);
     if items <= 16 {
         return true;
     }
-    if 17 < items {
+    if STACK_ITEMS < items {
         return false;
     }
     let entry = input_stack::stack::top(stack, ends);
@@ -213,7 +219,7 @@ fn is_deep(last: bool, stack: Stack, ends: &[u16; 221]) -> bool
 }
 
 // Whether a line of the source or of a text comes next.
-fn is_next(stack: Stack, ends: &[u16; 221]) -> bool
+fn is_next(stack: Stack, ends: &StackEnds) -> bool
     requires { ⌜ stack .depth ≤ 17 ⌝ }
     ensures { λ r. ⌜ r ≡ isNext stack (now (ends .entry)) ⌝ }
 {
@@ -226,7 +232,7 @@ fn is_next(stack: Stack, ends: &[u16; 221]) -> bool
 }
 
 // While a definition is open, in a session that is not closed, lines come next.
-fn is_open_over(running: bool, there: bool, stack: Stack, ends: &[u16; 221]) -> bool
+fn is_open_over(running: bool, there: bool, stack: Stack, ends: &StackEnds) -> bool
     requires { ⌜ stack .depth ≤ 17 ⌝ }
     ensures { λ r. ⌜ r ≡ isOpenOver running there stack (now (ends .entry)) ⌝ }
 {
@@ -240,7 +246,7 @@ fn is_open_over(running: bool, there: bool, stack: Stack, ends: &[u16; 221]) -> 
 }
 
 // The items on the input stack, over one another and below the end.
-fn is_pile(status: Status, running: bool, ends: &[u16; 221]) -> bool
+fn is_pile(status: Status, running: bool, ends: &StackEnds) -> bool
     ensures { λ r. ⌜ r ≡ isPile status running (now (ends .entry)) ⌝ }
 {
     let stack = status.stack;
@@ -257,13 +263,13 @@ fn is_pile(status: Status, running: bool, ends: &[u16; 221]) -> bool
 pub fn is_within(
     status: Status,
     running: bool,
-    ends: &[u16; 221],
-    gathered: &[u8; 512],
+    ends: &StackEnds,
+    gathered: &LineBytes,
     count: usize,
-    text_firsts: &[u8; 64],
-    text_seconds: &[u8; 64],
-    values: &[i32; 64],
-    steps: &[i32; 64],
+    text_firsts: &ByteColumn,
+    text_seconds: &ByteColumn,
+    values: &NumberColumn,
+    steps: &NumberColumn,
 ) -> bool
     requires { ⌜ (length (now gathered) ≡ 512) × LentTables (now «text_firsts») (now «text_seconds») (now values) (now steps) ⌝ }
     ensures { λ r. ⌜ r ≡ isWithin status running (now (ends .entry)) (now (gathered .entry)) count (now («text_firsts» .entry)) (now («text_seconds» .entry)) (now (values .entry)) (now (steps .entry)) ⌝ }

@@ -7,6 +7,7 @@ use record::Closing;
 use record::Waiting;
 use rules::Name;
 use rules::Trap;
+use rules::arrays::RecordWords;
 use settings::layout::Layout;
 use settings::layout::Total;
 use settings::lengths::Setting;
@@ -26,7 +27,7 @@ pub struct Counts {
 }
 
 // A count; a word below 0 is none.
-fn count_at(words: &[i32; 68], at: usize) -> u32
+fn count_at(words: &RecordWords, at: usize) -> u32
     requires { ⌜ at < 68 ⌝ }
     ensures { λ r. ⌜ (r ≡ countAt (now (words .entry)) at) × Short r ⌝ }
 {
@@ -37,7 +38,7 @@ fn count_at(words: &[i32; 68], at: usize) -> u32
     word as u32
 }
 
-fn size_at(words: &[i32; 68], at: usize) -> usize
+fn size_at(words: &RecordWords, at: usize) -> usize
     requires { ⌜ at < 68 ⌝ }
     ensures { λ r. ⌜ (r ≡ countAt (now (words .entry)) at) × Short r ⌝ }
 {
@@ -45,7 +46,7 @@ fn size_at(words: &[i32; 68], at: usize) -> usize
 }
 
 // A count, or the largest of its type if it is larger.
-fn short_at(words: &[i32; 68], at: usize) -> u16
+fn short_at(words: &RecordWords, at: usize) -> u16
     requires { ⌜ at < 68 ⌝ }
     ensures { λ r. ⌜ r ≡ min (countAt (now (words .entry)) at) 65535 ⌝ }
 {
@@ -56,7 +57,7 @@ fn short_at(words: &[i32; 68], at: usize) -> u16
     65535
 }
 
-fn byte_at(words: &[i32; 68], at: usize) -> u8
+fn byte_at(words: &RecordWords, at: usize) -> u8
     requires { ⌜ at < 68 ⌝ }
     ensures { λ r. ⌜ r ≡ min (countAt (now (words .entry)) at) 255 ⌝ }
 {
@@ -68,7 +69,7 @@ fn byte_at(words: &[i32; 68], at: usize) -> u8
 }
 
 // Any word but 0 is true.
-fn flag_at(words: &[i32; 68], at: usize) -> bool
+fn flag_at(words: &RecordWords, at: usize) -> bool
     requires { ⌜ at < 68 ⌝ }
     ensures { λ r. ⌜ r ≡ isSet (wordAt (now (words .entry)) at) ⌝ }
 {
@@ -82,21 +83,21 @@ fn flag_at(words: &[i32; 68], at: usize) -> bool
     false
 }
 
-fn cells_at(words: &[i32; 68], at: usize) -> Cells
+fn cells_at(words: &RecordWords, at: usize) -> Cells
     requires { ⌜ at < 68 ⌝ }
     ensures { λ r. ⌜ r ≡ cellsAt (now (words .entry)) at ⌝ }
 {
     Cells(words[at])
 }
 
-fn rows_at(words: &[i32; 68], at: usize) -> Rows
+fn rows_at(words: &RecordWords, at: usize) -> Rows
     requires { ⌜ at < 68 ⌝ }
     ensures { λ r. ⌜ r ≡ rowsAt (now (words .entry)) at ⌝ }
 {
     Rows(words[at])
 }
 
-fn setting_at(words: &[i32; 68], at: usize) -> Setting
+fn setting_at(words: &RecordWords, at: usize) -> Setting
     requires { ⌜ at < 67 ⌝ }
     ensures { λ r. ⌜ r ≡ settingAt (now (words .entry)) at ⌝ }
 {
@@ -115,7 +116,7 @@ fn name_of(number: u16) -> Name
     }
 }
 
-fn name_at(words: &[i32; 68], at: usize) -> Name
+fn name_at(words: &RecordWords, at: usize) -> Name
     requires { ⌜ at < 68 ⌝ }
     ensures { λ r. ⌜ r ≡ nameAt (now (words .entry)) at ⌝ }
 {
@@ -131,7 +132,7 @@ fn total_by(there: bool, count: Cells) -> Total
     Total::Nothing
 }
 
-pub fn layout(words: &[i32; 68]) -> Layout
+pub fn layout(words: &RecordWords) -> Layout
     ensures { λ r. ⌜ r ≡ layoutIn (now (words .entry)) ⌝ }
 {
     Layout {
@@ -146,7 +147,7 @@ pub fn layout(words: &[i32; 68]) -> Layout
     }
 }
 
-pub fn page(words: &[i32; 68]) -> Page
+pub fn page(words: &RecordWords) -> Page
     ensures { λ r. ⌜ r ≡ pageIn (now (words .entry)) ⌝ }
 {
     Page {
@@ -156,7 +157,7 @@ pub fn page(words: &[i32; 68]) -> Page
     }
 }
 
-pub fn collected(words: &[i32; 68]) -> Collected
+pub fn collected(words: &RecordWords) -> Collected
     ensures { λ r. ⌜ r ≡ collectedIn (now (words .entry)) ⌝ }
 {
     Collected {
@@ -168,7 +169,7 @@ pub fn collected(words: &[i32; 68]) -> Collected
     }
 }
 
-pub fn counts_in(words: &[i32; 68]) -> Counts
+pub fn counts_in(words: &RecordWords) -> Counts
     ensures { λ r. ⌜ r ≡ countsIn (now (words .entry)) ⌝ }
 {
     Counts {
@@ -178,7 +179,7 @@ pub fn counts_in(words: &[i32; 68]) -> Counts
     }
 }
 
-pub fn opening(words: &[i32; 68]) -> Opening
+pub fn opening(words: &RecordWords) -> Opening
     ensures { λ r. ⌜ (r ≡ openingIn (now (words .entry))) × Short (r .length) ⌝ }
 {
     Opening {
@@ -188,7 +189,7 @@ pub fn opening(words: &[i32; 68]) -> Opening
     }
 }
 
-pub fn source(words: &[i32; 68]) -> Source
+pub fn source(words: &RecordWords) -> Source
     ensures { λ r. ⌜ r ≡ sourceIn (now (words .entry)) ⌝ }
 {
     Source {
@@ -199,7 +200,7 @@ pub fn source(words: &[i32; 68]) -> Source
     }
 }
 
-pub fn waiting(words: &[i32; 68]) -> Waiting
+pub fn waiting(words: &RecordWords) -> Waiting
     ensures { λ r. ⌜ r ≡ waitingIn (now (words .entry)) ⌝ }
 {
     Waiting {
@@ -220,7 +221,7 @@ fn closing_by(there: bool, tag: u32, number: u8, line: u32) -> Closing
     Closing::Refused(number, line)
 }
 
-pub fn closing(words: &[i32; 68]) -> Closing
+pub fn closing(words: &RecordWords) -> Closing
     ensures { λ r. ⌜ r ≡ closingIn (now (words .entry)) ⌝ }
 {
     let there = flag_at(words, 32);
@@ -228,7 +229,7 @@ pub fn closing(words: &[i32; 68]) -> Closing
     closing_by(there, tag, byte_at(words, 33), count_at(words, 34))
 }
 
-fn trap_at(words: &[i32; 68], at: usize) -> Trap
+fn trap_at(words: &RecordWords, at: usize) -> Trap
     requires { ⌜ at < 67 ⌝ }
     ensures { λ r. ⌜ r ≡ trapAt (now (words .entry)) at ⌝ }
 {
@@ -238,7 +239,7 @@ fn trap_at(words: &[i32; 68], at: usize) -> Trap
     }
 }
 
-pub fn planted(words: &[i32; 68]) -> Planted
+pub fn planted(words: &RecordWords) -> Planted
     ensures { λ r. ⌜ r ≡ plantedIn (now (words .entry)) ⌝ }
 {
     let traps = [

@@ -10,6 +10,8 @@ use record::Place;
 use record::Waiting;
 use rules::Name;
 use rules::Trap;
+use rules::arrays::RECORD_WORDS;
+use rules::arrays::RecordWords;
 use settings::layout::Layout;
 use settings::layout::Total;
 use source_line::Source;
@@ -33,14 +35,14 @@ fn word_of(count: usize) -> i32
     2147483647
 }
 
-fn put_count(words: &mut [i32; 68], at: usize, count: usize)
+fn put_count(words: &mut RecordWords, at: usize, count: usize)
     requires { ⌜ at < 68 ⌝ }
     ensures { λ _. ⌜ now (words .exit) ≡ set (now (words .entry)) at (wordOf count) ⌝ }
 {
     words[at] = word_of(count);
 }
 
-fn put_flag(words: &mut [i32; 68], at: usize, flag: bool)
+fn put_flag(words: &mut RecordWords, at: usize, flag: bool)
     requires { ⌜ at < 68 ⌝ }
     ensures { λ _. ⌜ now (words .exit) ≡ set (now (words .entry)) at (flagWord flag) ⌝ }
 {
@@ -51,7 +53,7 @@ fn put_flag(words: &mut [i32; 68], at: usize, flag: bool)
     words[at] = 0;
 }
 
-fn put_cells(words: &mut [i32; 68], at: usize, cells: Cells)
+fn put_cells(words: &mut RecordWords, at: usize, cells: Cells)
     requires { ⌜ at < 68 ⌝ }
     ensures { λ _. ⌜ now (words .exit) ≡ set (now (words .entry)) at (cells .0) ⌝ }
 {
@@ -59,7 +61,7 @@ fn put_cells(words: &mut [i32; 68], at: usize, cells: Cells)
     words[at] = count;
 }
 
-fn put_rows(words: &mut [i32; 68], at: usize, rows: Rows)
+fn put_rows(words: &mut RecordWords, at: usize, rows: Rows)
     requires { ⌜ at < 68 ⌝ }
     ensures { λ _. ⌜ now (words .exit) ≡ set (now (words .entry)) at (rows .0) ⌝ }
 {
@@ -67,14 +69,14 @@ fn put_rows(words: &mut [i32; 68], at: usize, rows: Rows)
     words[at] = count;
 }
 
-fn put_name(words: &mut [i32; 68], at: usize, name: Name)
+fn put_name(words: &mut RecordWords, at: usize, name: Name)
     requires { ⌜ at < 68 ⌝ }
     ensures { λ _. ⌜ (now (words .exit) ≡ set (now (words .entry)) at (nameWord name)) × Named name ⌝ }
 {
     put_count(words, at, name.first as usize * 256 + name.second as usize);
 }
 
-fn put_total(words: &mut [i32; 68], total: Total)
+fn put_total(words: &mut RecordWords, total: Total)
     ensures { λ _. ⌜ now (words .exit) ≡ sets (now (words .entry)) 7 (totalTag total ∷ totalValue total ∷ []) ⌝ }
 {
     match total {
@@ -89,7 +91,7 @@ fn put_total(words: &mut [i32; 68], total: Total)
     }
 }
 
-fn put_layout(words: &mut [i32; 68], layout: Layout)
+fn put_layout(words: &mut RecordWords, layout: Layout)
     ensures { λ _. ⌜ now (words .exit) ≡ sets (now (words .entry)) 0 (layoutWords layout) ⌝ }
 {
     let line = layout.line;
@@ -109,7 +111,7 @@ fn put_layout(words: &mut [i32; 68], layout: Layout)
     put_count(words, 11, layout.centred as usize);
 }
 
-fn put_page(words: &mut [i32; 68], page: Page)
+fn put_page(words: &mut RecordWords, page: Page)
     ensures { λ _. ⌜ now (words .exit) ≡ sets (now (words .entry)) 12 (pageWords page) ⌝ }
 {
     put_count(words, 12, page.number as usize);
@@ -117,7 +119,7 @@ fn put_page(words: &mut [i32; 68], page: Page)
     put_flag(words, 14, page.last);
 }
 
-fn put_collected(words: &mut [i32; 68], collected: Collected)
+fn put_collected(words: &mut RecordWords, collected: Collected)
     ensures { λ _. ⌜ now (words .exit) ≡ sets (now (words .entry)) 15 (collectedWords collected) ⌝ }
 {
     put_flag(words, 15, collected.there);
@@ -127,7 +129,7 @@ fn put_collected(words: &mut [i32; 68], collected: Collected)
     put_count(words, 19, collected.next);
 }
 
-fn put_counts(words: &mut [i32; 68], counts: Counts)
+fn put_counts(words: &mut RecordWords, counts: Counts)
     ensures { λ _. ⌜ now (words .exit) ≡ sets (now (words .entry)) 20 (countsWords counts) ⌝ }
 {
     put_count(words, 20, counts.depth);
@@ -135,7 +137,7 @@ fn put_counts(words: &mut [i32; 68], counts: Counts)
     put_count(words, 22, counts.registers);
 }
 
-fn put_opening(words: &mut [i32; 68], opening: Opening)
+fn put_opening(words: &mut RecordWords, opening: Opening)
     ensures { λ _. ⌜ (now (words .exit) ≡ sets (now (words .entry)) 23 (openingWords opening)) × Named (opening .name) ⌝ }
 {
     put_flag(words, 23, opening.there);
@@ -143,7 +145,7 @@ fn put_opening(words: &mut [i32; 68], opening: Opening)
     put_count(words, 25, opening.length);
 }
 
-fn put_source(words: &mut [i32; 68], source: Source)
+fn put_source(words: &mut RecordWords, source: Source)
     ensures { λ _. ⌜ (now (words .exit) ≡ sets (now (words .entry)) 26 (sourceWords source)) × (source .stored ≤ 65535) ⌝ }
 {
     put_count(words, 26, source.line as usize);
@@ -152,7 +154,7 @@ fn put_source(words: &mut [i32; 68], source: Source)
     put_count(words, 29, source.stored as usize);
 }
 
-fn put_waiting(words: &mut [i32; 68], waiting: Waiting)
+fn put_waiting(words: &mut RecordWords, waiting: Waiting)
     ensures { λ _. ⌜ now (words .exit) ≡ sets (now (words .entry)) 30 (waitingWords waiting) ⌝ }
 {
     put_count(words, 30, waiting.at);
@@ -160,7 +162,7 @@ fn put_waiting(words: &mut [i32; 68], waiting: Waiting)
 }
 
 // The tag, the number and the line of a closing answer.
-fn put_answer(words: &mut [i32; 68], tag: usize, number: usize, line: usize)
+fn put_answer(words: &mut RecordWords, tag: usize, number: usize, line: usize)
     ensures { λ _. ⌜ now (words .exit) ≡ sets (now (words .entry)) 32 (wordOf tag ∷ wordOf number ∷ wordOf line ∷ []) ⌝ }
 {
     put_count(words, 32, tag);
@@ -168,7 +170,7 @@ fn put_answer(words: &mut [i32; 68], tag: usize, number: usize, line: usize)
     put_count(words, 34, line);
 }
 
-fn put_closing(words: &mut [i32; 68], closing: Closing)
+fn put_closing(words: &mut RecordWords, closing: Closing)
     ensures { λ _. ⌜ (now (words .exit) ≡ sets (now (words .entry)) 32 (closingWords closing)) × (numberOf closing ≤ 255) ⌝ }
 {
     match closing {
@@ -178,7 +180,7 @@ fn put_closing(words: &mut [i32; 68], closing: Closing)
     }
 }
 
-fn put_trap(words: &mut [i32; 68], at: usize, trap: Trap)
+fn put_trap(words: &mut RecordWords, at: usize, trap: Trap)
     requires { ⌜ at < 67 ⌝ }
     ensures { λ _. ⌜ (now (words .exit) ≡ set (set (now (words .entry)) at (trap .place .0)) (at + 1) (nameWord (trap .name))) × Named (trap .name) ⌝ }
 {
@@ -186,7 +188,7 @@ fn put_trap(words: &mut [i32; 68], at: usize, trap: Trap)
     put_name(words, at + 1, trap.name);
 }
 
-fn put_planted(words: &mut [i32; 68], planted: Planted)
+fn put_planted(words: &mut RecordWords, planted: Planted)
     ensures { λ _. ⌜ (now (words .exit) ≡ sets (now (words .entry)) 35 (plantedWords planted)) × (length (planted .traps) ≡ 16) × AllNamed (planted .traps) ⌝ }
 {
     put_count(words, 35, planted.count);
@@ -200,7 +202,7 @@ fn put_planted(words: &mut [i32; 68], planted: Planted)
 
 // The words of all parts.
 pub fn write(
-    words: &mut [i32; 68],
+    words: &mut RecordWords,
     layout: Layout,
     page: Page,
     collected: Collected,
@@ -213,7 +215,7 @@ pub fn write(
 )
     ensures { λ _. ⌜ Written layout page collected counts opening source waiting closing planted (now (words .exit)) ⌝ }
 {
-    *words = [0i32; 68];
+    *words = [0i32; RECORD_WORDS];
     put_layout(words, layout);
     put_page(words, page);
     put_collected(words, collected);
@@ -226,7 +228,7 @@ pub fn write(
 }
 
 // The place of words.
-pub fn place(words: &[i32; 68]) -> Place
+pub fn place(words: &RecordWords) -> Place
     ensures { λ r. ⌜ (r ≡ placeIn (now (words .entry))) × Short (r .status .opening .length) ⌝ }
 {
     let counts = super::decoding::counts_in(words);
@@ -250,7 +252,7 @@ pub fn place(words: &[i32; 68]) -> Place
 }
 
 // A place as words.
-pub fn write_place(words: &mut [i32; 68], place: Place)
+pub fn write_place(words: &mut RecordWords, place: Place)
     ensures { λ _. ⌜ PlaceWritten place (now (words .exit)) ⌝ }
 {
     let status = place.status;
@@ -283,7 +285,7 @@ pub fn write_place(words: &mut [i32; 68], place: Place)
 }
 
 // The one word of how many bytes the source line being taken has.
-pub fn write_length(words: &mut [i32; 68], length: usize)
+pub fn write_length(words: &mut RecordWords, length: usize)
     ensures { λ _. ⌜ now (words .exit) ≡ set (now (words .entry)) 27 (wordOf length) ⌝ }
 {
     put_count(words, 27, length);

@@ -1,16 +1,19 @@
 // Whether lent columns are a table of registers.
 use super::table::Order;
 use rules::Name;
+use rules::arrays::ByteColumn;
+use rules::arrays::NumberColumn;
+use rules::arrays::TABLE_SIZE;
 ghost use mathlib.Core.Path.{_≡_};
 ghost use Prim.Native.Nat.{_<_, _-_};
 ghost use Rattle.registers.specs.Checks.Checks.{NameColumns, NumberColumns, isTable, isWithin, isBounded};
 
 // Whether the first rows of lent columns are a table: "The registers stand in name order".
-pub fn is_table(firsts: &[u8; 64], seconds: &[u8; 64], count: usize) -> bool
+pub fn is_table(firsts: &ByteColumn, seconds: &ByteColumn, count: usize) -> bool
     requires { ⌜ NameColumns (now firsts) (now seconds) ⌝ }
     ensures { λ r. ⌜ r ≡ isTable (now (firsts .entry)) (now (seconds .entry)) count ⌝ }
 {
-    if 64 < count {
+    if TABLE_SIZE < count {
         return false;
     }
     let mut i: usize = 0;
@@ -51,11 +54,11 @@ fn is_within(n: i32) -> bool
 }
 
 // Whether the first rows of lent columns hold values and steps within ±1,000,000,000.
-pub fn is_bounded(values: &[i32; 64], steps: &[i32; 64], count: usize) -> bool
+pub fn is_bounded(values: &NumberColumn, steps: &NumberColumn, count: usize) -> bool
     requires { ⌜ NumberColumns (now values) (now steps) ⌝ }
     ensures { λ r. ⌜ r ≡ isBounded (now (values .entry)) (now (steps .entry)) count ⌝ }
 {
-    if 64 < count {
+    if TABLE_SIZE < count {
         return false;
     }
     let mut i: usize = 0;

@@ -2,6 +2,8 @@
 use super::table::Stepped;
 use rules::Name;
 use rules::Turn;
+use rules::arrays::ByteColumn;
+use rules::arrays::NumberColumn;
 ghost use mathlib.Core.Path.{_≡_};
 ghost use Prim.Native.Nat.{_-_};
 ghost use Rattle.rules.specs.Names.{twoBytes};
@@ -94,10 +96,10 @@ fn read(which: Which, shown: Shown) -> Shows
 
 // A reference to any register, by the values that the read-only ones show.
 pub fn refer(
-    firsts: &[u8; 64],
-    seconds: &[u8; 64],
-    values: &mut [i32; 64],
-    steps: &[i32; 64],
+    firsts: &ByteColumn,
+    seconds: &ByteColumn,
+    values: &mut NumberColumn,
+    steps: &NumberColumn,
     count: usize,
     shown: Shown,
     turn: Turn,

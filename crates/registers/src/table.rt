@@ -2,10 +2,13 @@
 use rules::Name;
 use rules::Register;
 use rules::Turn;
+use rules::arrays::ByteColumn;
+use rules::arrays::NumberColumn;
+use rules::arrays::TABLE_SIZE;
 ghost use mathlib.Core.Path.{_≡_};
 ghost use Prim.Native.Nat.{_<_, _≤_, _-_};
 ghost use Rattle.rules.specs.Numbers.{within as withinBounds};
-ghost use Rattle.rules.specs.Registers.{lookup, valueOr0};
+ghost use Rattle.rules.specs.Registers.{lookup};
 ghost use Rattle.registers.specs.Table.Columns.{Names, Table, namesOf, tableOf};
 ghost use Rattle.registers.specs.Table.Places.{orderOf, orderAt, place};
 ghost use Rattle.registers.specs.Table.Moves.{inserted};
@@ -43,7 +46,7 @@ pub enum Stepped {
 }
 
 // The second byte is looked at only where the first is the same.
-pub fn order_at(firsts: &[u8; 64], seconds: &[u8; 64], i: usize, name: Name) -> Order
+pub fn order_at(firsts: &ByteColumn, seconds: &ByteColumn, i: usize, name: Name) -> Order
     requires { ⌜ i < 64 ⌝ }
     ensures { λ r. ⌜ orderOf r ≡ orderAt (now (firsts .entry)) (now (seconds .entry)) i name ⌝ }
 {
@@ -64,7 +67,7 @@ pub fn order_at(firsts: &[u8; 64], seconds: &[u8; 64], i: usize, name: Name) -> 
     Order::Same
 }
 
-pub fn find(firsts: &[u8; 64], seconds: &[u8; 64], count: usize, name: Name) -> Place
+pub fn find(firsts: &ByteColumn, seconds: &ByteColumn, count: usize, name: Name) -> Place
     requires { ⌜ Names (now firsts) (now seconds) count ⌝ }
     ensures { λ r. ⌜ r ≡ place name (namesOf (now (firsts .entry)) (now (seconds .entry)) count) ⌝ }
 {
@@ -87,10 +90,10 @@ pub fn find(firsts: &[u8; 64], seconds: &[u8; 64], count: usize, name: Name) -> 
 
 // The register of a name.
 pub fn look_up(
-    firsts: &[u8; 64],
-    seconds: &[u8; 64],
-    values: &[i32; 64],
-    steps: &[i32; 64],
+    firsts: &ByteColumn,
+    seconds: &ByteColumn,
+    values: &NumberColumn,
+    steps: &NumberColumn,
     count: usize,
     name: Name,
 ) -> Found
@@ -107,26 +110,8 @@ pub fn look_up(
     }
 }
 
-// "Undefined ones give 0"
-pub fn value_of(
-    firsts: &[u8; 64],
-    seconds: &[u8; 64],
-    values: &[i32; 64],
-    steps: &[i32; 64],
-    count: usize,
-    name: Name,
-) -> i32
-    requires { ⌜ Table (now firsts) (now seconds) (now values) (now steps) count ⌝ }
-    ensures { λ r. ⌜ r ≡ valueOr0 (lookup name (tableOf (now (firsts .entry)) (now (seconds .entry)) (now (values .entry)) (now (steps .entry)) count)) ⌝ }
-{
-    match look_up(firsts, seconds, values, steps, count, name) {
-        Found::There(register) => register.value,
-        Found::Nothing => 0,
-    }
-}
-
 // Puts a byte at a place of a column of `count`, and the rest from there on one place down.
-fn insert_byte(column: &mut [u8; 64], place: usize, count: usize, new: u8)
+fn insert_byte(column: &mut ByteColumn, place: usize, count: usize, new: u8)
     requires { ⌜ (place ≤ count) × (count < 64) ⌝ }
     ensures { λ r. ⌜ now (column .exit) ≡ inserted (now (column .entry)) place (count - place) new ⌝ }
 {
@@ -142,7 +127,7 @@ fn insert_byte(column: &mut [u8; 64], place: usize, count: usize, new: u8)
 }
 
 // The same for a column of numbers.
-fn insert_number(column: &mut [i32; 64], place: usize, count: usize, new: i32)
+fn insert_number(column: &mut NumberColumn, place: usize, count: usize, new: i32)
     requires { ⌜ (place ≤ count) × (count < 64) ⌝ }
     ensures { λ r. ⌜ now (column .exit) ≡ inserted (now (column .entry)) place (count - place) new ⌝ }
 {
@@ -159,10 +144,10 @@ fn insert_number(column: &mut [i32; 64], place: usize, count: usize, new: i32)
 
 // Sets the value and the step of a register, and makes it if there is none of its name.
 pub fn set(
-    firsts: &mut [u8; 64],
-    seconds: &mut [u8; 64],
-    values: &mut [i32; 64],
-    steps: &mut [i32; 64],
+    firsts: &mut ByteColumn,
+    seconds: &mut ByteColumn,
+    values: &mut NumberColumn,
+    steps: &mut NumberColumn,
     count: usize,
     name: Name,
     value: i32,
@@ -178,7 +163,7 @@ pub fn set(
             Stored::Set(count)
         }
         Place::Not(i) => {
-            if 64 <= count {
+            if TABLE_SIZE <= count {
                 return Stored::Full;
             }
             insert_byte(&mut *firsts, i, count, name.first);
@@ -216,10 +201,10 @@ fn turned(turn: Turn, value: i32, step: i32) -> Stepped
 
 // The value of a user's register after its step; one that is not there gives 0 and is not made.
 pub fn step(
-    firsts: &[u8; 64],
-    seconds: &[u8; 64],
-    values: &mut [i32; 64],
-    steps: &[i32; 64],
+    firsts: &ByteColumn,
+    seconds: &ByteColumn,
+    values: &mut NumberColumn,
+    steps: &NumberColumn,
     count: usize,
     turn: Turn,
     name: Name,

@@ -4,6 +4,10 @@ use line_syntax::lines::Named;
 use registers::table::Found;
 use registers::table::Stored;
 use rules::Name;
+use rules::arrays::ByteColumn;
+use rules::arrays::LengthColumn;
+use rules::arrays::LineBytes;
+use rules::arrays::StackEnds;
 use scan::arguments::Argument;
 ghost use mathlib.Core.Path.{_≡_};
 ghost use Prim.Native.Nat.{_≤_};
@@ -26,10 +30,10 @@ pub enum Changed {
 // Whether there is a text of a name.
 fn is_text(
     store: &[u8],
-    firsts: &[u8; 64],
-    seconds: &[u8; 64],
-    kinds: &[u8; 64],
-    lengths: &[u16; 64],
+    firsts: &ByteColumn,
+    seconds: &ByteColumn,
+    kinds: &ByteColumn,
+    lengths: &LengthColumn,
     count: usize,
     name: Name,
 ) -> bool
@@ -46,12 +50,12 @@ fn is_text(
 fn remove_name(
     name: Name,
     stack: Stack,
-    ends: &[u16; 221],
+    ends: &StackEnds,
     store: &mut [u8],
-    firsts: &mut [u8; 64],
-    seconds: &mut [u8; 64],
-    kinds: &mut [u8; 64],
-    lengths: &mut [u16; 64],
+    firsts: &mut ByteColumn,
+    seconds: &mut ByteColumn,
+    kinds: &mut ByteColumn,
+    lengths: &mut LengthColumn,
     count: usize,
 ) -> Changed
     requires { ⌜ ReadyTexts (now store) (now firsts) (now seconds) (now kinds) (now lengths) count stack ⌝ }
@@ -87,12 +91,12 @@ fn remove_name(
 pub fn remove(
     name: &[u8],
     stack: Stack,
-    ends: &[u16; 221],
+    ends: &StackEnds,
     store: &mut [u8],
-    firsts: &mut [u8; 64],
-    seconds: &mut [u8; 64],
-    kinds: &mut [u8; 64],
-    lengths: &mut [u16; 64],
+    firsts: &mut ByteColumn,
+    seconds: &mut ByteColumn,
+    kinds: &mut ByteColumn,
+    lengths: &mut LengthColumn,
     count: usize,
 ) -> Changed
     requires { ⌜ ReadyTexts (now store) (now firsts) (now seconds) (now kinds) (now lengths) count stack ⌝ }
@@ -119,12 +123,12 @@ pub fn remove(
 fn open_name(
     name: Name,
     stack: Stack,
-    ends: &[u16; 221],
+    ends: &StackEnds,
     store: &mut [u8],
-    firsts: &mut [u8; 64],
-    seconds: &mut [u8; 64],
-    kinds: &mut [u8; 64],
-    lengths: &mut [u16; 64],
+    firsts: &mut ByteColumn,
+    seconds: &mut ByteColumn,
+    kinds: &mut ByteColumn,
+    lengths: &mut LengthColumn,
     count: usize,
 ) -> Changed
     requires { ⌜ ReadyTexts (now store) (now firsts) (now seconds) (now kinds) (now lengths) count stack ⌝ }
@@ -151,12 +155,12 @@ fn open_name(
 pub fn open(
     name: &[u8],
     stack: Stack,
-    ends: &[u16; 221],
+    ends: &StackEnds,
     store: &mut [u8],
-    firsts: &mut [u8; 64],
-    seconds: &mut [u8; 64],
-    kinds: &mut [u8; 64],
-    lengths: &mut [u16; 64],
+    firsts: &mut ByteColumn,
+    seconds: &mut ByteColumn,
+    kinds: &mut ByteColumn,
+    lengths: &mut LengthColumn,
     count: usize,
 ) -> Changed
     requires { ⌜ ReadyTexts (now store) (now firsts) (now seconds) (now kinds) (now lengths) count stack ⌝ }
@@ -184,12 +188,12 @@ fn define_text(
     name: Name,
     text: &[u8],
     stack: Stack,
-    ends: &[u16; 221],
+    ends: &StackEnds,
     store: &mut [u8],
-    firsts: &mut [u8; 64],
-    seconds: &mut [u8; 64],
-    kinds: &mut [u8; 64],
-    lengths: &mut [u16; 64],
+    firsts: &mut ByteColumn,
+    seconds: &mut ByteColumn,
+    kinds: &mut ByteColumn,
+    lengths: &mut LengthColumn,
     count: usize,
 ) -> Changed
     requires { ⌜ ReadyToDefine (now store) (now firsts) (now seconds) (now kinds) (now lengths) count stack ⌝ }
@@ -218,12 +222,12 @@ fn define_back(
     name: Name,
     text: &[u8],
     stack: Stack,
-    ends: &[u16; 221],
+    ends: &StackEnds,
     store: &mut [u8],
-    firsts: &mut [u8; 64],
-    seconds: &mut [u8; 64],
-    kinds: &mut [u8; 64],
-    lengths: &mut [u16; 64],
+    firsts: &mut ByteColumn,
+    seconds: &mut ByteColumn,
+    kinds: &mut ByteColumn,
+    lengths: &mut LengthColumn,
     count: usize,
 ) -> Changed
     requires { ⌜ ReadyToDefine (now store) (now firsts) (now seconds) (now kinds) (now lengths) count stack × (length (now text) ≤ 512) ⌝ }
@@ -252,12 +256,12 @@ fn define_by(
     text: &[u8],
     after_if: bool,
     stack: Stack,
-    ends: &[u16; 221],
+    ends: &StackEnds,
     store: &mut [u8],
-    firsts: &mut [u8; 64],
-    seconds: &mut [u8; 64],
-    kinds: &mut [u8; 64],
-    lengths: &mut [u16; 64],
+    firsts: &mut ByteColumn,
+    seconds: &mut ByteColumn,
+    kinds: &mut ByteColumn,
+    lengths: &mut LengthColumn,
     count: usize,
 ) -> Changed
     requires { ⌜ ReadyToDefine (now store) (now firsts) (now seconds) (now kinds) (now lengths) count stack × (length (now text) ≤ 512) × (end ≤ length (now parts)) ⌝ }
@@ -302,14 +306,14 @@ pub fn define(
     line: &[u8],
     after_if: bool,
     stack: Stack,
-    ends: &[u16; 221],
+    ends: &StackEnds,
     store: &mut [u8],
-    firsts: &mut [u8; 64],
-    seconds: &mut [u8; 64],
-    kinds: &mut [u8; 64],
-    lengths: &mut [u16; 64],
+    firsts: &mut ByteColumn,
+    seconds: &mut ByteColumn,
+    kinds: &mut ByteColumn,
+    lengths: &mut LengthColumn,
     count: usize,
-    parts: &mut [u8; 512],
+    parts: &mut LineBytes,
 ) -> Changed
     requires { ⌜ ReadyToDefine (now store) (now firsts) (now seconds) (now kinds) (now lengths) count stack × (length (now line) ≤ 512) × (length (now parts) ≡ 512) ⌝ }
     ensures { λ r. ⌜ DefinesAs (now (store .entry)) (now (firsts .entry)) (now (seconds .entry)) (now (kinds .entry)) (now (lengths .entry)) count stack (now (ends .entry)) (defines «after_if» (now (line .entry))) r (now (store .exit)) (now (firsts .exit)) (now (seconds .exit)) (now (kinds .exit)) (now (lengths .exit)) (now (parts .exit)) ⌝ }

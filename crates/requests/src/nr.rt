@@ -5,6 +5,8 @@ use registers::interpolation::Which;
 use registers::table::Found;
 use registers::table::Stored;
 use rules::Name;
+use rules::arrays::ByteColumn;
+use rules::arrays::NumberColumn;
 use settings::layout::Printer;
 ghost use mathlib.Core.Path.{_≡_};
 ghost use Rattle.rules.specs.Registers.{predefined, lookup};
@@ -44,10 +46,10 @@ fn read_only(name: Name) -> bool
 
 // The value and the step of a register, 0 and 0 of an undefined one.
 fn old_numbers(
-    firsts: &[u8; 64],
-    seconds: &[u8; 64],
-    values: &[i32; 64],
-    steps: &[i32; 64],
+    firsts: &ByteColumn,
+    seconds: &ByteColumn,
+    values: &NumberColumn,
+    steps: &NumberColumn,
     count: usize,
     name: Name,
 ) -> Numbers
@@ -115,10 +117,10 @@ fn write_register(
     value: &[u8],
     step: &[u8],
     printer: Printer,
-    firsts: &mut [u8; 64],
-    seconds: &mut [u8; 64],
-    values: &mut [i32; 64],
-    steps: &mut [i32; 64],
+    firsts: &mut ByteColumn,
+    seconds: &mut ByteColumn,
+    values: &mut NumberColumn,
+    steps: &mut NumberColumn,
     count: usize,
 ) -> Assigned
     requires { ⌜ ReadyRegisters (now firsts) (now seconds) (now values) (now steps) count printer ⌝ }
@@ -155,10 +157,10 @@ pub fn assign(
     value: &[u8],
     step: &[u8],
     printer: Printer,
-    firsts: &mut [u8; 64],
-    seconds: &mut [u8; 64],
-    values: &mut [i32; 64],
-    steps: &mut [i32; 64],
+    firsts: &mut ByteColumn,
+    seconds: &mut ByteColumn,
+    values: &mut NumberColumn,
+    steps: &mut NumberColumn,
     count: usize,
 ) -> Assigned
     requires { ⌜ ReadyRegisters (now firsts) (now seconds) (now values) (now steps) count printer ⌝ }

@@ -3,6 +3,7 @@ use libc::STDERR_FILENO;
 use libc::STDIN_FILENO;
 use libc::STDOUT_FILENO;
 use record::Record;
+use rules::arrays::STORE_SIZE;
 use stream::Answer;
 
 // The record after a block, and whether the session goes on.
@@ -140,7 +141,7 @@ fn feed_some(fd: i32, record: Record, store: &mut [u8]) -> Fed {
 }
 
 fn format(fd: i32) {
-    let mut store = [0u8; 8192];
+    let mut store = [0u8; STORE_SIZE];
     let mut record = session::start();
     let mut turns = u64::MAX;
     while turns > 0 {

@@ -12,6 +12,7 @@ pub mod EscapesFit
 pub mod Escapes
 pub mod Lines
 pub mod Filling
+pub mod Gaps
 pub mod Traps
 -- 'How far a promise reaches': the work left falls at each step, so every document has pages and a closing answer; condition 3
 pub mod Falls

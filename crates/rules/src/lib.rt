@@ -1,4 +1,6 @@
 // The types that the rules of document 01 and the code share. What the rules say is in specs/, in document 01's order.
+pub mod arrays;
+
 use measure::Rows;
 
 // "\& a mark of no width", as a byte of an expanded line: a code that no source line holds.

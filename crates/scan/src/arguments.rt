@@ -1,4 +1,6 @@
 // A line is parted into its arguments.
+use rules::arrays::ArgumentEnds;
+use rules::arrays::LineBytes;
 ghost use Rattle.rules.specs.Arguments.{bare, quoted};
 ghost use Rattle.scan.specs.Arguments.Parting.{Spaces, WordAt, quoteAt, Unread, Parted, Takes, PartedAll};
 ghost use mathlib.Core.Path.{_≡_};
@@ -59,7 +61,7 @@ fn quote_at(line: &[u8], at: usize) -> bool
 }
 
 // The argument that begins here without a quote.
-fn bare_argument(line: &[u8], at: usize, out: &mut [u8; 512], written: usize) -> Cut
+fn bare_argument(line: &[u8], at: usize, out: &mut LineBytes, written: usize) -> Cut
     requires { ⌜ Unread (now line) at (now out) written ⌝ }
     ensures { λ r. ⌜ Parted bare (now (line .entry)) at (now (out .entry)) written r (now (out .exit)) ⌝ }
 {
@@ -78,7 +80,7 @@ fn bare_argument(line: &[u8], at: usize, out: &mut [u8; 512], written: usize) ->
 }
 
 // The argument behind a quote, up to the next lone one; two quotes inside are one.
-fn quoted_argument(line: &[u8], at: usize, out: &mut [u8; 512], written: usize) -> Cut
+fn quoted_argument(line: &[u8], at: usize, out: &mut LineBytes, written: usize) -> Cut
     requires { ⌜ Unread (now line) at (now out) written ⌝ }
     ensures { λ r. ⌜ Parted quoted (now (line .entry)) at (now (out .entry)) written r (now (out .exit)) ⌝ }
 {
@@ -107,7 +109,7 @@ fn quoted_argument(line: &[u8], at: usize, out: &mut [u8; 512], written: usize) 
 }
 
 // The next argument of a line, written behind what is written.
-pub fn next_argument(line: &[u8], at: usize, out: &mut [u8; 512], written: usize) -> Argument
+pub fn next_argument(line: &[u8], at: usize, out: &mut LineBytes, written: usize) -> Argument
     requires { ⌜ Unread (now line) at (now out) written ⌝ }
     ensures { λ r. ⌜ Takes (now (line .entry)) at (now (out .entry)) written r (now (out .exit)) ⌝ }
 {
@@ -122,7 +124,7 @@ pub fn next_argument(line: &[u8], at: usize, out: &mut [u8; 512], written: usize
 }
 
 // The arguments of a line, "past nine are dropped": their bytes one after the other, where each ends, and how many there are.
-pub fn arguments(line: &[u8], at: usize, out: &mut [u8; 512], ends: &mut [u16; 9]) -> usize
+pub fn arguments(line: &[u8], at: usize, out: &mut LineBytes, ends: &mut ArgumentEnds) -> usize
     requires { ⌜ Unread (now line) at (now out) 0 × (length (now ends) ≡ 9) ⌝ }
     ensures { λ r. ⌜ PartedAll (now (line .entry)) at r (now (out .exit)) (now (ends .exit)) ⌝ }
 {

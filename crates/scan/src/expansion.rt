@@ -8,6 +8,12 @@ use rules::Kind;
 use rules::Mode;
 use rules::Name;
 use rules::Turn;
+use rules::arrays::ArgumentEnds;
+use rules::arrays::ByteColumn;
+use rules::arrays::LINE_SIZE;
+use rules::arrays::LengthColumn;
+use rules::arrays::LineBytes;
+use rules::arrays::NumberColumn;
 use texts::table::Found;
 ghost use mathlib.Core.Path.{_≡_};
 ghost use mathlib.Core.List.{[]};
@@ -28,7 +34,7 @@ fn copy_plain(
     text: &[u8],
     at: usize,
     left: usize,
-    out: &mut [u8; 512],
+    out: &mut LineBytes,
     written: usize,
     limit: usize,
 ) -> Copied
@@ -71,7 +77,7 @@ fn next_escape(
     at: usize,
     left: usize,
     mode: Mode,
-    out: &mut [u8; 512],
+    out: &mut LineBytes,
     written: usize,
     limit: usize,
 ) -> Next
@@ -116,15 +122,15 @@ fn wrote_as(wrote: Wrote) -> Acted
 
 // A reference to a register, written in decimal.
 fn show_register(
-    firsts: &[u8; 64],
-    seconds: &[u8; 64],
-    values: &mut [i32; 64],
-    steps: &[i32; 64],
+    firsts: &ByteColumn,
+    seconds: &ByteColumn,
+    values: &mut NumberColumn,
+    steps: &NumberColumn,
     count: usize,
     shown: Shown,
     turn: Turn,
     name: Name,
-    out: &mut [u8; 512],
+    out: &mut LineBytes,
     written: usize,
     limit: usize,
 ) -> Acted
@@ -155,10 +161,10 @@ fn show_register(
 // A string that is named: its bytes are to be read next. "9: .. a macro named as a string", "4: strings nested past 8".
 fn enter_string(
     store: &[u8],
-    firsts: &[u8; 64],
-    seconds: &[u8; 64],
-    kinds: &[u8; 64],
-    lengths: &[u16; 64],
+    firsts: &ByteColumn,
+    seconds: &ByteColumn,
+    kinds: &ByteColumn,
+    lengths: &LengthColumn,
     count: usize,
     name: Name,
     depth: usize,
@@ -185,7 +191,7 @@ fn enter_string(
 }
 
 // Where an argument begins.
-fn begin_of(ends: &[u16; 9], k: usize) -> usize
+fn begin_of(ends: &ArgumentEnds, k: usize) -> usize
     requires { ⌜ Begins (now ends) k ⌝ }
     ensures { λ r. ⌜ r ≡ beginOf (now (ends .entry)) k ⌝ }
 {
@@ -199,12 +205,12 @@ fn begin_of(ends: &[u16; 9], k: usize) -> usize
 // An argument, counted from 0, is written, in copy mode with its escapes; there are none inside a string.
 fn give_argument(
     arguments: &[u8],
-    ends: &[u16; 9],
+    ends: &ArgumentEnds,
     count: usize,
     k: usize,
     mode: Mode,
     depth: usize,
-    out: &mut [u8; 512],
+    out: &mut LineBytes,
     written: usize,
     limit: usize,
 ) -> Wrote
@@ -229,24 +235,24 @@ fn give_argument(
 // What an escape leads to is done.
 fn act(
     store: &[u8],
-    text_firsts: &[u8; 64],
-    text_seconds: &[u8; 64],
-    kinds: &[u8; 64],
-    lengths: &[u16; 64],
+    text_firsts: &ByteColumn,
+    text_seconds: &ByteColumn,
+    kinds: &ByteColumn,
+    lengths: &LengthColumn,
     texts: usize,
-    firsts: &[u8; 64],
-    seconds: &[u8; 64],
-    values: &mut [i32; 64],
-    steps: &[i32; 64],
+    firsts: &ByteColumn,
+    seconds: &ByteColumn,
+    values: &mut NumberColumn,
+    steps: &NumberColumn,
     count: usize,
     shown: Shown,
     arguments: &[u8],
-    ends: &[u16; 9],
+    ends: &ArgumentEnds,
     given: usize,
     mode: Mode,
     depth: usize,
     what: What,
-    out: &mut [u8; 512],
+    out: &mut LineBytes,
     written: usize,
     limit: usize,
 ) -> Acted
@@ -311,22 +317,22 @@ fn expand_text(
     depth: usize,
     left: usize,
     store: &[u8],
-    text_firsts: &[u8; 64],
-    text_seconds: &[u8; 64],
-    kinds: &[u8; 64],
-    lengths: &[u16; 64],
+    text_firsts: &ByteColumn,
+    text_seconds: &ByteColumn,
+    kinds: &ByteColumn,
+    lengths: &LengthColumn,
     texts: usize,
-    firsts: &[u8; 64],
-    seconds: &[u8; 64],
-    values: &mut [i32; 64],
-    steps: &[i32; 64],
+    firsts: &ByteColumn,
+    seconds: &ByteColumn,
+    values: &mut NumberColumn,
+    steps: &NumberColumn,
     count: usize,
     shown: Shown,
     arguments: &[u8],
-    ends: &[u16; 9],
+    ends: &ArgumentEnds,
     given: usize,
     mode: Mode,
-    out: &mut [u8; 512],
+    out: &mut LineBytes,
     written: usize,
     limit: usize,
 ) -> Progress
@@ -454,26 +460,26 @@ pub fn expand(
     mode: Mode,
     prefix: usize,
     store: &[u8],
-    text_firsts: &[u8; 64],
-    text_seconds: &[u8; 64],
-    kinds: &[u8; 64],
-    lengths: &[u16; 64],
+    text_firsts: &ByteColumn,
+    text_seconds: &ByteColumn,
+    kinds: &ByteColumn,
+    lengths: &LengthColumn,
     texts: usize,
-    firsts: &[u8; 64],
-    seconds: &[u8; 64],
-    values: &mut [i32; 64],
-    steps: &[i32; 64],
+    firsts: &ByteColumn,
+    seconds: &ByteColumn,
+    values: &mut NumberColumn,
+    steps: &NumberColumn,
     count: usize,
     shown: Shown,
     arguments: &[u8],
-    ends: &[u16; 9],
+    ends: &ArgumentEnds,
     given: usize,
-    out: &mut [u8; 512],
+    out: &mut LineBytes,
 ) -> Scanned
     requires { ⌜ Ready (now store) (now «text_firsts») (now «text_seconds») (now kinds) (now lengths) texts (now firsts) (now seconds) (now values) (now steps) count (now arguments) (now ends) given × Room (now out) 0 512 ⌝ }
     ensures { λ r. ⌜ ScannedTo r (around shown (now (store .entry)) (now («text_firsts» .entry)) (now («text_seconds» .entry)) (now (kinds .entry)) (now (lengths .entry)) texts (now (arguments .entry)) (now (ends .entry)) given) mode prefix (now (line .entry)) (now (firsts .entry)) (now (seconds .entry)) (now (values .entry)) (now (steps .entry)) count (now (out .entry)) (now (out .exit)) (now (values .exit)) ⌝ }
 {
-    let limit = less(512, prefix);
+    let limit = less(LINE_SIZE, prefix);
     let left = less(8192, prefix);
     match expand_text(
         line,

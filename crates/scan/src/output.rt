@@ -1,6 +1,7 @@
 // Bytes, decimal numbers and expanded texts are written into a buffer.
 use rules::FIXED_BLANK;
 use rules::MARK;
+use rules::arrays::LineBytes;
 ghost use mathlib.Core.Path.{_≡_};
 ghost use mathlib.Core.List.{[], _∷_};
 ghost use Prim.Native.Nat.{_-_};
@@ -17,7 +18,7 @@ pub enum Wrote {
     Full,
 }
 
-pub fn put_byte(byte: u8, out: &mut [u8; 512], written: usize, limit: usize) -> Wrote
+pub fn put_byte(byte: u8, out: &mut LineBytes, written: usize, limit: usize) -> Wrote
     requires { ⌜ Room (now out) written limit ⌝ }
     ensures { λ r. ⌜ WroteTo r (byte ∷ []) (now (out .entry)) written limit (now (out .exit)) ⌝ }
 {
@@ -29,7 +30,7 @@ pub fn put_byte(byte: u8, out: &mut [u8; 512], written: usize, limit: usize) -> 
 }
 
 // A backslash and a byte.
-pub fn put_kept(byte: u8, out: &mut [u8; 512], written: usize, limit: usize) -> Wrote
+pub fn put_kept(byte: u8, out: &mut LineBytes, written: usize, limit: usize) -> Wrote
     requires { ⌜ Room (now out) written limit ⌝ }
     ensures { λ r. ⌜ WroteTo r (92 ∷ byte ∷ []) (now (out .entry)) written limit (now (out .exit)) ⌝ }
 {
@@ -44,7 +45,7 @@ pub fn put_kept(byte: u8, out: &mut [u8; 512], written: usize, limit: usize) -> 
 }
 
 // All of the bytes, if they have room.
-pub fn copy_bytes(bytes: &[u8], out: &mut [u8; 512], written: usize, limit: usize) -> Wrote
+pub fn copy_bytes(bytes: &[u8], out: &mut LineBytes, written: usize, limit: usize) -> Wrote
     requires { ⌜ Room (now out) written limit ⌝ }
     ensures { λ r. ⌜ WroteTo r (now (bytes .entry)) (now (out .entry)) written limit (now (out .exit)) ⌝ }
 {
@@ -64,7 +65,7 @@ pub fn copy_bytes(bytes: &[u8], out: &mut [u8; 512], written: usize, limit: usiz
 }
 
 // "There \$, and ds after an if, write backslash, mark and fixed blank as \e, \& and backslash-space"
-fn put_escaped(byte: u8, out: &mut [u8; 512], written: usize, limit: usize) -> Wrote
+fn put_escaped(byte: u8, out: &mut LineBytes, written: usize, limit: usize) -> Wrote
     requires { ⌜ Room (now out) written limit ⌝ }
     ensures { λ r. ⌜ WroteTo r (escaped (byte ∷ [])) (now (out .entry)) written limit (now (out .exit)) ⌝ }
 {
@@ -77,7 +78,7 @@ fn put_escaped(byte: u8, out: &mut [u8; 512], written: usize, limit: usize) -> W
 }
 
 // All of the bytes with their escapes written back, if they have room.
-pub fn write_back(bytes: &[u8], out: &mut [u8; 512], written: usize, limit: usize) -> Wrote
+pub fn write_back(bytes: &[u8], out: &mut LineBytes, written: usize, limit: usize) -> Wrote
     requires { ⌜ Room (now out) written limit ⌝ }
     ensures { λ r. ⌜ WroteTo r (escaped (now (bytes .entry))) (now (out .entry)) written limit (now (out .exit)) ⌝ }
 {
@@ -127,7 +128,7 @@ fn digits_of(value: u32, digits: &mut [u8; 11]) -> usize
 }
 
 // "give a register in decimal"
-pub fn write_number(value: i32, out: &mut [u8; 512], written: usize, limit: usize) -> Wrote
+pub fn write_number(value: i32, out: &mut LineBytes, written: usize, limit: usize) -> Wrote
     requires { ⌜ Room (now out) written limit ⌝ }
     ensures { λ r. ⌜ WroteTo r (decimal value) (now (out .entry)) written limit (now (out .exit)) ⌝ }
 {

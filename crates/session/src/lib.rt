@@ -1,7 +1,4 @@
 // A session: calls that take bytes of a source and write bytes of its pages.
-pub mod call_loop;
-pub mod item_work;
-pub mod source_input;
 
 use measure::Cells;
 use measure::Rows;
@@ -14,6 +11,18 @@ use record::Reply;
 use record::Stop;
 use record::Waiting;
 use rules::Name;
+use rules::arrays::ByteColumn;
+use rules::arrays::LINE_SIZE;
+use rules::arrays::LengthColumn;
+use rules::arrays::LineBytes;
+use rules::arrays::NumberColumn;
+use rules::arrays::ROW_SIZE;
+use rules::arrays::RowBytes;
+use rules::arrays::STACK_SIZE;
+use rules::arrays::STACK_WORDS;
+use rules::arrays::StackBytes;
+use rules::arrays::StackEnds;
+use rules::arrays::TABLE_SIZE;
 use settings::layout::Layout;
 use settings::layout::Total;
 use settings::lengths::Setting;
@@ -27,6 +36,7 @@ ghost use Rattle.record.specs.Turns.{recordOf, replyFrom};
 ghost use Rattle.session.specs.Start.{firstLayout, firstStatus, startPlace, startRecord};
 ghost use Rattle.session.specs.Contract.{Called};
 ghost use Rattle.session.specs.Limits.{Sized, EndsWith, isOpen, AnsweredJudged, PlacedJudged, Judged};
+ghost use Rattle.record.specs.declared.Record.{Record};
 
 // The settings at the start.
 fn first_layout() -> Layout
@@ -99,19 +109,19 @@ pub fn start_place() -> Place
 // The record of a place and the arrays.
 fn recorded(
     place: Place,
-    gathered: [u8; 512],
-    cells: [u8; 512],
-    row: [u8; 872],
-    arena: [u8; 8704],
-    ends: [u16; 221],
-    text_firsts: [u8; 64],
-    text_seconds: [u8; 64],
-    kinds: [u8; 64],
-    lengths: [u16; 64],
-    firsts: [u8; 64],
-    seconds: [u8; 64],
-    values: [i32; 64],
-    steps: [i32; 64],
+    gathered: LineBytes,
+    cells: LineBytes,
+    row: RowBytes,
+    arena: StackBytes,
+    ends: StackEnds,
+    text_firsts: ByteColumn,
+    text_seconds: ByteColumn,
+    kinds: ByteColumn,
+    lengths: LengthColumn,
+    firsts: ByteColumn,
+    seconds: ByteColumn,
+    values: NumberColumn,
+    steps: NumberColumn,
 ) -> Record
     ensures { λ r. ⌜ r ≡ recordOf place gathered cells row arena ends «text_firsts» «text_seconds» kinds lengths firsts seconds values steps ⌝ }
 {
@@ -146,19 +156,19 @@ pub fn start() -> Record
 {
     recorded(
         start_place(),
-        [0u8; 512],
-        [0u8; 512],
-        [0u8; 872],
-        [0u8; 8704],
-        [0u16; 221],
-        [0u8; 64],
-        [0u8; 64],
-        [0u8; 64],
-        [0u16; 64],
-        [0u8; 64],
-        [0u8; 64],
-        [0i32; 64],
-        [0i32; 64],
+        [0u8; LINE_SIZE],
+        [0u8; LINE_SIZE],
+        [0u8; ROW_SIZE],
+        [0u8; STACK_SIZE],
+        [0u16; STACK_WORDS],
+        [0u8; TABLE_SIZE],
+        [0u8; TABLE_SIZE],
+        [0u8; TABLE_SIZE],
+        [0u16; TABLE_SIZE],
+        [0u8; TABLE_SIZE],
+        [0u8; TABLE_SIZE],
+        [0i32; TABLE_SIZE],
+        [0i32; TABLE_SIZE],
     )
 }
 
@@ -221,7 +231,7 @@ fn is_answered(closing: Closing, line: u32) -> bool
 fn is_placed(source: Source, waiting: Waiting, closing: Closing) -> bool
     ensures { λ r. ⌜ PlacedJudged r source waiting closing ⌝ }
 {
-    if source.length > 512 {
+    if source.length > LINE_SIZE {
         return false;
     }
     if source.line > last_line(closing) {
@@ -233,7 +243,7 @@ fn is_placed(source: Source, waiting: Waiting, closing: Closing) -> bool
     if waiting.at > waiting.end {
         return false;
     }
-    if waiting.end > 872 {
+    if waiting.end > ROW_SIZE {
         return false;
     }
     is_answered(closing, source.line)
@@ -242,23 +252,25 @@ fn is_placed(source: Source, waiting: Waiting, closing: Closing) -> bool
 // Whether the parts of a record and a store keep their limits.
 pub fn is_legal(
     place: Place,
-    gathered: &[u8; 512],
-    cells: &[u8; 512],
-    row: &[u8; 872],
-    arena: &[u8; 8704],
-    ends: &[u16; 221],
+    gathered: &LineBytes,
+    cells: &LineBytes,
+    row: &RowBytes,
+    arena: &StackBytes,
+    ends: &StackEnds,
     store: &[u8],
-    text_firsts: &[u8; 64],
-    text_seconds: &[u8; 64],
-    kinds: &[u8; 64],
-    lengths: &[u16; 64],
-    firsts: &[u8; 64],
-    seconds: &[u8; 64],
-    values: &[i32; 64],
-    steps: &[i32; 64],
+    text_firsts: &ByteColumn,
+    text_seconds: &ByteColumn,
+    kinds: &ByteColumn,
+    lengths: &LengthColumn,
+    firsts: &ByteColumn,
+    seconds: &ByteColumn,
+    values: &NumberColumn,
+    steps: &NumberColumn,
 ) -> bool
-    requires { ⌜ Sized (recordOf place (now gathered) (now cells) (now row) (now arena) (now ends) (now «text_firsts») (now «text_seconds») (now kinds) (now lengths) (now firsts) (now seconds) (now values) (now steps)) ⌝ }
-    ensures { λ r. ⌜ Judged r (recordOf place (now (gathered .entry)) (now (cells .entry)) (now (row .entry)) (now (arena .entry)) (now (ends .entry)) (now («text_firsts» .entry)) (now («text_seconds» .entry)) (now (kinds .entry)) (now (lengths .entry)) (now (firsts .entry)) (now (seconds .entry)) (now (values .entry)) (now (steps .entry))) (now (store .entry)) ⌝ }
+    ghost { Record }
+    requires { λ q. ⌜ recordOf place (now gathered) (now cells) (now row) (now arena) (now ends) (now «text_firsts») (now «text_seconds») (now kinds) (now lengths) (now firsts) (now seconds) (now values) (now steps) ≡ q ⌝ }
+    requires { λ q. ⌜ Sized q ⌝ }
+    ensures { λ q r. ⌜ Judged r q (now (store .entry)) ⌝ }
 {
     let status = place.status;
     let source = place.source;
@@ -298,23 +310,25 @@ pub fn serve(
     last: bool,
     place: Place,
     out: &mut [u8],
-    gathered: &mut [u8; 512],
-    cells: &mut [u8; 512],
-    row: &mut [u8; 872],
-    arena: &mut [u8; 8704],
-    ends: &mut [u16; 221],
+    gathered: &mut LineBytes,
+    cells: &mut LineBytes,
+    row: &mut RowBytes,
+    arena: &mut StackBytes,
+    ends: &mut StackEnds,
     store: &mut [u8],
-    text_firsts: &mut [u8; 64],
-    text_seconds: &mut [u8; 64],
-    kinds: &mut [u8; 64],
-    lengths: &mut [u16; 64],
-    firsts: &mut [u8; 64],
-    seconds: &mut [u8; 64],
-    values: &mut [i32; 64],
-    steps: &mut [i32; 64],
+    text_firsts: &mut ByteColumn,
+    text_seconds: &mut ByteColumn,
+    kinds: &mut ByteColumn,
+    lengths: &mut LengthColumn,
+    firsts: &mut ByteColumn,
+    seconds: &mut ByteColumn,
+    values: &mut NumberColumn,
+    steps: &mut NumberColumn,
 ) -> Ran
-    requires { ⌜ Legal (recordOf place (now gathered) (now cells) (now row) (now arena) (now ends) (now «text_firsts») (now «text_seconds») (now kinds) (now lengths) (now firsts) (now seconds) (now values) (now steps)) (now store) ⌝ }
-    ensures { λ r. ⌜ Called (recordOf place (now (gathered .entry)) (now (cells .entry)) (now (row .entry)) (now (arena .entry)) (now (ends .entry)) (now («text_firsts» .entry)) (now («text_seconds» .entry)) (now (kinds .entry)) (now (lengths .entry)) (now (firsts .entry)) (now (seconds .entry)) (now (values .entry)) (now (steps .entry))) (now (store .entry)) (now (block .entry)) last (now (out .entry)) (replyFrom r (recordOf (r .place) (now (gathered .exit)) (now (cells .exit)) (now (row .exit)) (now (arena .exit)) (now (ends .exit)) (now («text_firsts» .exit)) (now («text_seconds» .exit)) (now (kinds .exit)) (now (lengths .exit)) (now (firsts .exit)) (now (seconds .exit)) (now (values .exit)) (now (steps .exit)))) (now (store .exit)) (now (out .exit)) ⌝ }
+    ghost { Record }
+    requires { λ q. ⌜ recordOf place (now gathered) (now cells) (now row) (now arena) (now ends) (now «text_firsts») (now «text_seconds») (now kinds) (now lengths) (now firsts) (now seconds) (now values) (now steps) ≡ q ⌝ }
+    requires { λ q. ⌜ Legal q (now store) ⌝ }
+    ensures { λ q r. ⌜ Called q (now (store .entry)) (now (block .entry)) last (now (out .entry)) (replyFrom r (recordOf (r .place) (now (gathered .exit)) (now (cells .exit)) (now (row .exit)) (now (arena .exit)) (now (ends .exit)) (now («text_firsts» .exit)) (now («text_seconds» .exit)) (now (kinds .exit)) (now (lengths .exit)) (now (firsts .exit)) (now (seconds .exit)) (now (values .exit)) (now (steps .exit)))) (now (store .exit)) (now (out .exit)) ⌝ }
 {
     let closing = place.closing;
     let waiting = place.waiting;
@@ -355,23 +369,25 @@ pub fn call_parts(
     last: bool,
     place: Place,
     out: &mut [u8],
-    gathered: &mut [u8; 512],
-    cells: &mut [u8; 512],
-    row: &mut [u8; 872],
-    arena: &mut [u8; 8704],
-    ends: &mut [u16; 221],
+    gathered: &mut LineBytes,
+    cells: &mut LineBytes,
+    row: &mut RowBytes,
+    arena: &mut StackBytes,
+    ends: &mut StackEnds,
     store: &mut [u8],
-    text_firsts: &mut [u8; 64],
-    text_seconds: &mut [u8; 64],
-    kinds: &mut [u8; 64],
-    lengths: &mut [u16; 64],
-    firsts: &mut [u8; 64],
-    seconds: &mut [u8; 64],
-    values: &mut [i32; 64],
-    steps: &mut [i32; 64],
+    text_firsts: &mut ByteColumn,
+    text_seconds: &mut ByteColumn,
+    kinds: &mut ByteColumn,
+    lengths: &mut LengthColumn,
+    firsts: &mut ByteColumn,
+    seconds: &mut ByteColumn,
+    values: &mut NumberColumn,
+    steps: &mut NumberColumn,
 ) -> Ran
-    requires { ⌜ Sized (recordOf place (now gathered) (now cells) (now row) (now arena) (now ends) (now «text_firsts») (now «text_seconds») (now kinds) (now lengths) (now firsts) (now seconds) (now values) (now steps)) ⌝ }
-    ensures { λ r. ⌜ Called (recordOf place (now (gathered .entry)) (now (cells .entry)) (now (row .entry)) (now (arena .entry)) (now (ends .entry)) (now («text_firsts» .entry)) (now («text_seconds» .entry)) (now (kinds .entry)) (now (lengths .entry)) (now (firsts .entry)) (now (seconds .entry)) (now (values .entry)) (now (steps .entry))) (now (store .entry)) (now (block .entry)) last (now (out .entry)) (replyFrom r (recordOf (r .place) (now (gathered .exit)) (now (cells .exit)) (now (row .exit)) (now (arena .exit)) (now (ends .exit)) (now («text_firsts» .exit)) (now («text_seconds» .exit)) (now (kinds .exit)) (now (lengths .exit)) (now (firsts .exit)) (now (seconds .exit)) (now (values .exit)) (now (steps .exit)))) (now (store .exit)) (now (out .exit)) ⌝ }
+    ghost { Record }
+    requires { λ q. ⌜ recordOf place (now gathered) (now cells) (now row) (now arena) (now ends) (now «text_firsts») (now «text_seconds») (now kinds) (now lengths) (now firsts) (now seconds) (now values) (now steps) ≡ q ⌝ }
+    requires { λ q. ⌜ Sized q ⌝ }
+    ensures { λ q r. ⌜ Called q (now (store .entry)) (now (block .entry)) last (now (out .entry)) (replyFrom r (recordOf (r .place) (now (gathered .exit)) (now (cells .exit)) (now (row .exit)) (now (arena .exit)) (now (ends .exit)) (now («text_firsts» .exit)) (now («text_seconds» .exit)) (now (kinds .exit)) (now (lengths .exit)) (now (firsts .exit)) (now (seconds .exit)) (now (values .exit)) (now (steps .exit)))) (now (store .exit)) (now (out .exit)) ⌝ }
 {
     if !is_legal(
         place,

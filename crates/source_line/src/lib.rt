@@ -1,4 +1,7 @@
 // The two ends of a session: the bytes of a source line are gathered, and the bytes of a row that wait are written.
+use rules::arrays::LINE_SIZE;
+use rules::arrays::LineBytes;
+use rules::arrays::RowBytes;
 ghost use mathlib.Core.Path.{_≡_};
 ghost use Prim.Native.Nat.{_≤_, min};
 ghost use lib.ListN.{length};
@@ -55,7 +58,7 @@ fn begin(source: Source) -> Source
 }
 
 // The bytes of a block up to the end of a line go behind those that the line has.
-fn gather_line(block: &[u8], from: usize, line: &mut [u8; 512], start: usize) -> Reach
+fn gather_line(block: &[u8], from: usize, line: &mut LineBytes, start: usize) -> Reach
     requires { ⌜ Reaches (now block) from (now line) start ⌝ }
     ensures { λ r. ⌜ ReachedTo (now (block .entry)) from (now (line .entry)) start r (now (line .exit)) ⌝ }
 {
@@ -71,7 +74,7 @@ fn gather_line(block: &[u8], from: usize, line: &mut [u8; 512], start: usize) ->
                 why: Why::Ended,
             };
         }
-        if n >= 512 {
+        if n >= LINE_SIZE {
             return Reach {
                 to,
                 length: n,
@@ -103,7 +106,7 @@ fn gather_line(block: &[u8], from: usize, line: &mut [u8; 512], start: usize) ->
 }
 
 // The bytes of a block from a place on are taken, until a line ends, a byte is refused or none is left.
-pub fn gather(block: &[u8], from: usize, line: &mut [u8; 512], source: Source) -> Gathered
+pub fn gather(block: &[u8], from: usize, line: &mut LineBytes, source: Source) -> Gathered
     requires { ⌜ Gathers (now block) from (now line) source ⌝ }
     ensures { λ r. ⌜ GatheredTo (now (block .entry)) from (now (line .entry)) source r (now (line .exit)) ⌝ }
 {
@@ -155,17 +158,17 @@ pub fn is_inside(block: &[u8], start: usize) -> bool
     if start == 0 {
         return false;
     }
-    if start > 512 {
+    if start > LINE_SIZE {
         return false;
     }
-    if block.len() > 512 - start {
+    if block.len() > LINE_SIZE - start {
         return false;
     }
     are_plain(block)
 }
 
 // A block goes behind the bytes that a line has.
-pub fn append(block: &[u8], line: &mut [u8; 512], start: usize)
+pub fn append(block: &[u8], line: &mut LineBytes, start: usize)
     requires { ⌜ Appends (now block) (now line) start ⌝ }
     ensures { λ _. ⌜ now (line .exit) ≡ paste (now (line .entry)) start (now (block .entry)) (length (now (block .entry))) ⌝ }
 {
@@ -187,7 +190,7 @@ fn lesser(n: usize, m: usize) -> usize
 }
 
 // As many of the waiting bytes as fit are written; how many those are.
-pub fn write(row: &[u8; 872], at: usize, end: usize, out: &mut [u8], from: usize) -> usize
+pub fn write(row: &RowBytes, at: usize, end: usize, out: &mut [u8], from: usize) -> usize
     requires { ⌜ Writes (now row) at end (now out) from ⌝ }
     ensures { λ r. ⌜ WrittenTo (now (row .entry)) at end (now (out .entry)) from r (now (out .exit)) ⌝ }
 {

@@ -3,6 +3,9 @@ use super::table::Kept;
 use super::table::Place;
 use super::table::Stored;
 use rules::Name;
+use rules::arrays::ByteColumn;
+use rules::arrays::LengthColumn;
+use rules::arrays::TABLE_SIZE;
 ghost use mathlib.Core.Path.{_≡_};
 ghost use Prim.Native.Nat.{_+_, _<_, _≤_, _-_};
 ghost use lib.Dec.{ltb};
@@ -36,10 +39,10 @@ fn too_long(room: usize, used: usize, more: usize) -> bool
 
 // Writes a row of the table.
 fn enter(
-    firsts: &mut [u8; 64],
-    seconds: &mut [u8; 64],
-    kinds: &mut [u8; 64],
-    lengths: &mut [u16; 64],
+    firsts: &mut ByteColumn,
+    seconds: &mut ByteColumn,
+    kinds: &mut ByteColumn,
+    lengths: &mut LengthColumn,
     count: usize,
     name: Name,
     code: u8,
@@ -57,10 +60,10 @@ fn enter(
 // Puts a text behind the last.
 fn append(
     store: &mut [u8],
-    firsts: &mut [u8; 64],
-    seconds: &mut [u8; 64],
-    kinds: &mut [u8; 64],
-    lengths: &mut [u16; 64],
+    firsts: &mut ByteColumn,
+    seconds: &mut ByteColumn,
+    kinds: &mut ByteColumn,
+    lengths: &mut LengthColumn,
     count: usize,
     name: Name,
     code: u8,
@@ -88,10 +91,10 @@ fn append(
 // Defines a string in the place of what had its name; one that is refused changes nothing.
 pub fn define_string(
     store: &mut [u8],
-    firsts: &mut [u8; 64],
-    seconds: &mut [u8; 64],
-    kinds: &mut [u8; 64],
-    lengths: &mut [u16; 64],
+    firsts: &mut ByteColumn,
+    seconds: &mut ByteColumn,
+    kinds: &mut ByteColumn,
+    lengths: &mut LengthColumn,
     count: usize,
     name: Name,
     text: &[u8],
@@ -129,7 +132,7 @@ pub fn define_string(
             ))
         }
         Place::Not => {
-            if 64 <= count {
+            if TABLE_SIZE <= count {
                 return Stored::Full;
             }
             if too_long(room, live, text.len()) {
@@ -153,10 +156,10 @@ pub fn define_string(
 // Opens a macro: "the old text counts as gone when the new definition starts"; one that is refused changes nothing.
 pub fn open_macro(
     store: &mut [u8],
-    firsts: &mut [u8; 64],
-    seconds: &mut [u8; 64],
-    kinds: &mut [u8; 64],
-    lengths: &mut [u16; 64],
+    firsts: &mut ByteColumn,
+    seconds: &mut ByteColumn,
+    kinds: &mut ByteColumn,
+    lengths: &mut LengthColumn,
     count: usize,
     name: Name,
 ) -> Stored
@@ -177,7 +180,7 @@ pub fn open_macro(
             Stored::Set(count - 1)
         }
         Place::Not => {
-            if count < 64 {
+            if count < TABLE_SIZE {
                 return Stored::Set(count);
             }
             Stored::Full
@@ -188,7 +191,7 @@ pub fn open_macro(
 // Puts a line and its newline behind the body of an open macro; one that is refused changes nothing.
 pub fn keep_line(
     store: &mut [u8],
-    lengths: &[u16; 64],
+    lengths: &LengthColumn,
     count: usize,
     opened: usize,
     line: &[u8],
@@ -210,10 +213,10 @@ pub fn keep_line(
 // "A macro exists once closed"
 pub fn close_macro(
     store: &[u8],
-    firsts: &mut [u8; 64],
-    seconds: &mut [u8; 64],
-    kinds: &mut [u8; 64],
-    lengths: &mut [u16; 64],
+    firsts: &mut ByteColumn,
+    seconds: &mut ByteColumn,
+    kinds: &mut ByteColumn,
+    lengths: &mut LengthColumn,
     count: usize,
     opened: usize,
     name: Name,

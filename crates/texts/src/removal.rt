@@ -1,6 +1,8 @@
 // A text is taken out of the store and the table: what lies behind it moves down.
 use super::table::Place;
 use rules::Name;
+use rules::arrays::ByteColumn;
+use rules::arrays::LengthColumn;
 ghost use mathlib.Core.Path.{_≡_};
 ghost use Prim.Native.Nat.{_+_, _<_, _≤_, _-_};
 ghost use lib.Seq.{paste};
@@ -23,7 +25,7 @@ fn move_down(store: &mut [u8], to: usize, from: usize, end: usize)
 }
 
 // The rows behind a place, up to `count`, move up by one.
-fn close_byte(column: &mut [u8; 64], place: usize, count: usize)
+fn close_byte(column: &mut ByteColumn, place: usize, count: usize)
     requires { ⌜ (place < count) × (count ≤ 64) × (length (now column) ≡ 64) ⌝ }
     ensures { λ _. ⌜ now (column .exit) ≡ closed (now (column .entry)) place (count - 1 - place) ⌝ }
 {
@@ -37,7 +39,7 @@ fn close_byte(column: &mut [u8; 64], place: usize, count: usize)
 }
 
 // The same for the column of lengths.
-fn close_length(column: &mut [u16; 64], place: usize, count: usize)
+fn close_length(column: &mut LengthColumn, place: usize, count: usize)
     requires { ⌜ (place < count) × (count ≤ 64) × (length (now column) ≡ 64) ⌝ }
     ensures { λ _. ⌜ now (column .exit) ≡ closed (now (column .entry)) place (count - 1 - place) ⌝ }
 {
@@ -53,10 +55,10 @@ fn close_length(column: &mut [u16; 64], place: usize, count: usize)
 // Takes the text in row `i` out; the later ones move down.
 pub fn take_out(
     store: &mut [u8],
-    firsts: &mut [u8; 64],
-    seconds: &mut [u8; 64],
-    kinds: &mut [u8; 64],
-    lengths: &mut [u16; 64],
+    firsts: &mut ByteColumn,
+    seconds: &mut ByteColumn,
+    kinds: &mut ByteColumn,
+    lengths: &mut LengthColumn,
     count: usize,
     i: usize,
 )
@@ -76,10 +78,10 @@ pub fn take_out(
 // Removes the text of a name; "The room of redefined or removed text is used again".
 pub fn remove(
     store: &mut [u8],
-    firsts: &mut [u8; 64],
-    seconds: &mut [u8; 64],
-    kinds: &mut [u8; 64],
-    lengths: &mut [u16; 64],
+    firsts: &mut ByteColumn,
+    seconds: &mut ByteColumn,
+    kinds: &mut ByteColumn,
+    lengths: &mut LengthColumn,
     count: usize,
     name: Name,
 ) -> usize

@@ -1,6 +1,10 @@
 // Macros and strings: their bytes one after the other in a lent store, their names, kinds and lengths in lent columns.
 use rules::Kind;
 use rules::Name;
+use rules::arrays::ByteColumn;
+use rules::arrays::LengthColumn;
+use rules::arrays::STORE_SIZE;
+use rules::arrays::TABLE_SIZE;
 ghost use mathlib.Core.Path.{_≡_};
 ghost use Prim.Native.Nat.{_+_, _<_, _-_};
 ghost use lib.ListN.{length, getD, take, drop};
@@ -43,7 +47,7 @@ pub enum Kept {
 }
 
 // Whether a row has a name. The second byte is looked at only where the first is the same.
-fn same_at(firsts: &[u8; 64], seconds: &[u8; 64], i: usize, name: Name) -> bool
+fn same_at(firsts: &ByteColumn, seconds: &ByteColumn, i: usize, name: Name) -> bool
     requires { ⌜ i < 64 ⌝ }
     ensures { λ r. ⌜ r ≡ sameName name (twoBytes (getD (now (firsts .entry)) i 0) (getD (now (seconds .entry)) i 0)) ⌝ }
 {
@@ -55,7 +59,7 @@ fn same_at(firsts: &[u8; 64], seconds: &[u8; 64], i: usize, name: Name) -> bool
     false
 }
 
-pub fn find(firsts: &[u8; 64], seconds: &[u8; 64], count: usize, name: Name) -> Place
+pub fn find(firsts: &ByteColumn, seconds: &ByteColumn, count: usize, name: Name) -> Place
     requires { ⌜ Names (now firsts) (now seconds) count ⌝ }
     ensures { λ r. ⌜ r ≡ placeOf name (namesOf (now (firsts .entry)) (now (seconds .entry)) count) ⌝ }
 {
@@ -70,7 +74,7 @@ pub fn find(firsts: &[u8; 64], seconds: &[u8; 64], count: usize, name: Name) -> 
 }
 
 // The sum of the first `k` lengths: the place of text `k`.
-pub fn start_of(lengths: &[u16; 64], k: usize) -> usize
+pub fn start_of(lengths: &LengthColumn, k: usize) -> usize
     requires { ⌜ Starts (now lengths) k ⌝ }
     ensures { λ r. ⌜ r ≡ sum (take k (now (lengths .entry))) ⌝ }
 {
@@ -92,10 +96,10 @@ fn kind_of(code: u8) -> Kind
 // The text of a name.
 pub fn look_up(
     store: &[u8],
-    firsts: &[u8; 64],
-    seconds: &[u8; 64],
-    kinds: &[u8; 64],
-    lengths: &[u16; 64],
+    firsts: &ByteColumn,
+    seconds: &ByteColumn,
+    kinds: &ByteColumn,
+    lengths: &LengthColumn,
     count: usize,
     name: Name,
 ) -> Found
@@ -119,10 +123,10 @@ pub fn look_up(
 // "The lookup hands back the string's own bytes in the store, not a copy"; an undefined name has none.
 pub fn text_bytes<'a>(
     store: &'a [u8],
-    firsts: &[u8; 64],
-    seconds: &[u8; 64],
-    kinds: &[u8; 64],
-    lengths: &[u16; 64],
+    firsts: &ByteColumn,
+    seconds: &ByteColumn,
+    kinds: &ByteColumn,
+    lengths: &LengthColumn,
     count: usize,
     name: Name,
 ) -> &'a [u8]
@@ -143,7 +147,11 @@ pub fn text_bytes<'a>(
 pub fn room_of(store: usize) -> usize
     ensures { λ r. ⌜ r ≡ roomOf store ⌝ }
 {
-    if store < 8192 { store } else { 8192 }
+    if store < STORE_SIZE {
+        store
+    } else {
+        STORE_SIZE
+    }
 }
 
 // A length, as a number of bytes.
@@ -154,10 +162,10 @@ fn wide(size: u16) -> usize
 }
 
 // Whether the first texts are at most 8,192 bytes and lie within a store of so many.
-pub fn is_table(store: usize, lengths: &[u16; 64], count: usize) -> bool
+pub fn is_table(store: usize, lengths: &LengthColumn, count: usize) -> bool
     ensures { λ r. ⌜ r ≡ isTable store (now (lengths .entry)) count ⌝ }
 {
-    if 64 < count {
+    if TABLE_SIZE < count {
         return false;
     }
     // what is left of the room, so that no sum is too great
@@ -175,7 +183,13 @@ pub fn is_table(store: usize, lengths: &[u16; 64], count: usize) -> bool
 }
 
 // Whether no row from a place on has a name.
-fn lacks_name(firsts: &[u8; 64], seconds: &[u8; 64], place: usize, count: usize, name: Name) -> bool
+fn lacks_name(
+    firsts: &ByteColumn,
+    seconds: &ByteColumn,
+    place: usize,
+    count: usize,
+    name: Name,
+) -> bool
     requires { ⌜ Names (now firsts) (now seconds) count ⌝ }
     ensures { λ r. ⌜ r ≡ lacks name (drop place (namesOf (now (firsts .entry)) (now (seconds .entry)) count)) ⌝ }
 {
@@ -190,11 +204,11 @@ fn lacks_name(firsts: &[u8; 64], seconds: &[u8; 64], place: usize, count: usize,
 }
 
 // Whether no two of the first rows have one name.
-pub fn no_name_twice(firsts: &[u8; 64], seconds: &[u8; 64], count: usize) -> bool
+pub fn no_name_twice(firsts: &ByteColumn, seconds: &ByteColumn, count: usize) -> bool
     requires { ⌜ NameColumns (now firsts) (now seconds) ⌝ }
     ensures { λ r. ⌜ r ≡ noNameTwice (now (firsts .entry)) (now (seconds .entry)) count ⌝ }
 {
-    if 64 < count {
+    if TABLE_SIZE < count {
         return false;
     }
     let mut i: usize = 0;

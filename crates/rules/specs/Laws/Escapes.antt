@@ -1,19 +1,16 @@
 -- A scan keeps the registers' names, order and bounds; how long what it writes can be. Assumes nothing.
-use mathlib.Core.Path.{_≡_, _∙_}
 use mathlib.Core.Bool.{Bool, true, false}
 use mathlib.Core.List.{List, [], _∷_}
 use mathlib.Core.Option.{Option, none, some}
-use Prim.Native.Nat.{ℕ, zero, suc, _+_, _-_, _*_, _/_, _%_, _^_, _≤_, _<_}
+use Prim.Native.Nat.{ℕ, zero, suc, _-_, _*_, _≤_}
 use native.Mathlib.Omega.{arith}
 use lib.ListN.{length, length-append, getD}
-use lib.IntN.{ℤ}
-use lib.Dec.{leb, ltb}
-use borrow.Author.Tests.{lt-ltb}
+use lib.Dec.{leb}
 use Rattle.rules.specs.declared.Name.{Name}
 use Rattle.rules.specs.Laws.Refusals.{Every, here, refused as bare, every-map}
-use Rattle.rules.specs.Bytes.{byte, bytes, backslash, mark, fixedBlank, entry}
+use Rattle.rules.specs.Bytes.{bytes, backslash, mark, fixedBlank, entry}
 use Rattle.rules.specs.Laws.Tables.{entry-each}
-use Rattle.rules.specs.Registers.{stepRegister, Reference, decimalBy, decimal}
+use Rattle.rules.specs.Registers.{stepRegister, Reference, decimal}
 use Rattle.rules.specs.declared.Register.{Register}
 use Rattle.rules.specs.declared.Turn.{Turn}
 use Rattle.rules.specs.Laws.Registers.{BoundedSeen, BoundedTable, step-bounded}
@@ -113,17 +110,6 @@ module _ (w : Surroundings) (m : Mode) (rs : List Register) (prefix : ℕ) (l : 
   -- a scan keeps the registers' bounds
   pub scan-bounded : BoundedSeen (w .seen) → BoundedTable rs → BoundedTable (registersAfter (scan w m rs prefix l))
   scan-bounded b h = scan-keeps w m BoundedTable (λ t n qs i. every-map (step-bounded (w .seen) t n qs b i) (λ x j. j .1)) rs prefix l h
-
-decimalBy-short : (k d n : ℕ) (l : List ℕ) → n < 10 ^ suc d → length (decimalBy k n l) ≤ length l + suc d
-unfolding decimalBy
-decimalBy-short zero d n l h = omega arith
-decimalBy-short (suc k) zero n l h = rw (decimalBy, lt-ltb n 10 h) (omega arith)
-decimalBy-short (suc k) (suc d) n l h = go (ltb n 10) (decimalBy-short k d (n / 10) ((byte "0" + n % 10) ∷ l) (omega arith))
-  where
-    go : (t : Bool) → length (decimalBy k (n / 10) ((byte "0" + n % 10) ∷ l)) ≤ suc (length l) + suc d
-        → length {A = ℕ} (elim t [ true ↦ (byte "0" + n) ∷ l | false ↦ decimalBy k (n / 10) ((byte "0" + n % 10) ∷ l) ]) ≤ length l + suc (suc d)
-    go true i = omega arith
-    go false i = omega arith
 
 -- a text with its escapes written back is at most twice as long
 pub escaped-short : (l : List ℕ) → length (escaped l) ≤ 2 * length l

@@ -7,7 +7,7 @@ use native.Mathlib.Omega.{arith}
 use lib.Dec.{eqb}
 use lib.ListN.{replicate}
 use borrow.Author.Tests.{eqb-true}
-use Rattle.rules.specs.Bytes.{newline, space, fixedBlank}
+use Rattle.rules.specs.Bytes.{newline, space}
 use Rattle.rules.specs.Filling.{Word, word, joinWord, joinByte, words, width, span, spelled, unlessBlank, trimmed}
 use Rattle.rules.specs.Rows.{lines}
 
@@ -129,10 +129,6 @@ formed-unspaced (w ∷ ws) h = (solid-without (w .bytes) (h .0), formed-unspaced
 -- Sanity: no word of a line holds a space
 pub words-unspaced : (l : List ℕ) → Unspaced (words l)
 words-unspaced l = formed-unspaced (words l) (words-formed l)
-
-blanks-solid : (g : ℕ) (l : List ℕ) → Solid l → Solid (replicate g fixedBlank ++ l)
-blanks-solid zero l h = h
-blanks-solid (suc g) l h = (refl, solid-without (replicate g fixedBlank ++ l) (blanks-solid g l h))
 
 -- formed words stay so behind others, if the first has a gap before it
 pub append-formed : (a b : List Word) → Formed a → Gapped b → Formed b → Formed (a ++ b)

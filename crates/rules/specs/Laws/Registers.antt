@@ -11,9 +11,9 @@ use native.Mathlib.Omega.{arith}
 use borrow.Author.Tests.{eqb-true, eqb-false, ltb-true, ltb-false}
 use Rattle.rules.specs.declared.Name.{Name}
 use Rattle.rules.specs.Names.{sameName, Order, earlier, same, later, order, orderBy}
-use Rattle.rules.specs.Laws.Names.{same-self, same-one}
+use Rattle.rules.specs.Laws.Names.{same-self}
 use Rattle.rules.specs.Bytes.{firstWhere, entryOf}
-use Rattle.rules.specs.Laws.Tables.{Each, OfSome, first-each, first-passes, some-map}
+use Rattle.rules.specs.Laws.Tables.{Each, OfSome, first-each}
 use Rattle.rules.specs.Laws.Refusals.{Every, here, refused, every, every-of, judge-every}
 use Rattle.rules.specs.Numbers.{within}
 use Rattle.rules.specs.Laws.Numbers.{Bounded, within-bounded}
@@ -229,18 +229,6 @@ pub lookup-bounded : (n : Name) (rs : List Register) → BoundedTable rs → OfS
 unfolding lookup
 lookup-bounded n rs b = first-each BoundedRegister (λ r. sameName n (r .name)) rs b
 
--- a register that is found has the name that was looked for
-pub lookup-name : (n : Name) (rs : List Register) → OfSome (λ r. n ≡ r .name) (lookup n rs)
-unfolding lookup
-lookup-name n rs =
-    some-map (λ r. sameName n (r .name) ≡ true) (λ r. n ≡ r .name) (firstWhere (λ r. sameName n (r .name)) rs) (first-passes (λ r. sameName n (r .name)) rs)
-    (λ r e h. same-one n (r .name) h)
-
--- a register that is found is found under its own name
-pub lookup-self : (n : Name) (rs : List Register) → OfSome (λ r. lookup (r .name) rs ≡ some r) (lookup n rs)
-lookup-self n rs =
-    some-map (λ r. n ≡ r .name) (λ r. lookup (r .name) rs ≡ some r) (lookup n rs) (lookup-name n rs) (λ r e h. subst (λ m. lookup m rs ≡ some r) h e)
-
 -- what is shown is bounded
 pub shown-bounded : (s : Seen) (n : Name) → BoundedSeen s → OfSome (λ f. Bounded (f s)) (shown n)
 unfolding shown
@@ -268,15 +256,6 @@ refer-names t none none s rs h i = here refl
 refer-names Still none (some r) s rs h i = here refl
 refer-names Up none (some r) s rs h i = to-names r (r .value +ℤ r .step) rs h i
 refer-names Down none (some r) s rs h i = to-names r (r .value -ℤ r .step) rs h i
-
--- a reference keeps the names of the registers
-pub step-names : (s : Seen) (t : Turn) (n : Name) (rs : List Register) → Sorted rs → Every (λ x. names (x .1) ≡ names rs) (stepRegister s t n rs)
-unfolding stepRegister
-step-names s t n rs h = refer-names t (shown n) (lookup n rs) s rs h (lookup-self n rs)
-
--- the same names are in the same order
-pub names-sorted : (rs qs : List Register) → names qs ≡ names rs → Sorted rs → Sorted qs
-names-sorted rs qs e h = subst Ordered (sym e) h
 
 -- and are as many
 pub same-length : (rs qs : List Register) → names qs ≡ names rs → length qs ≡ length rs

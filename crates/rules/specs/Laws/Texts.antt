@@ -169,10 +169,6 @@ distinct-open n ts us d h = rw (open-is n ts us h) (distinct-remove n ts d)
 pub found-close : (n : Name) (body : List ℕ) (ts : List Text) → textOf n ts ≡ none → textOf n (closeMacro n body ts) ≡ some (text n Macro body)
 found-close n body ts h = found-end (text n Macro body) ts h
 
--- After a macro is closed every other name is found as before.
-pub kept-close : (m n : Name) (body : List ℕ) (ts : List Text) → sameName m n ≡ false → textOf m (closeMacro n body ts) ≡ textOf m ts
-kept-close m n body ts e = kept-end m (text n Macro body) ts e
-
 -- A closed macro keeps the names distinct, if no other text has its name.
 pub distinct-close : (n : Name) (body : List ℕ) (ts : List Text) → Distinct ts → textOf n ts ≡ none → Distinct (closeMacro n body ts)
 distinct-close n body ts d h = distinct-end (text n Macro body) ts d h

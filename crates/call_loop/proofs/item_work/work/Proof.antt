@@ -5,8 +5,8 @@ use Rattle.state.specs.Statuses.{wholeOf}
 use Rattle.record.specs.Turns.{placeIn}
 use Rattle.record.proofs.Turns.{item-worked}
 use borrow.Author.Needs.{needs}
-use Rattle.session.proofs.item_work.work.Statement.{statement}
-use Rattle.session.proofs.item_work.work.Tie as tie
+use Rattle.call_loop.proofs.item_work.work.Statement.{statement}
+use Rattle.call_loop.proofs.item_work.work.Tie as tie
 
 ten-to-the-inch-requires : tie.Need-ten-to-the-inch-requires
 ten-to-the-inch-requires c κs = search needs

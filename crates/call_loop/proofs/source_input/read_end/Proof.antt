@@ -10,8 +10,8 @@ use Rattle.page.specs.declared.springs.Way.the-variants as way
 use Rattle.record.specs.Turns.{resting, placeIn, placeAfter}
 use Rattle.record.proofs.Taking.{may-deal, end-stands, end-dealt}
 use borrow.Author.Needs.{needs}
-use Rattle.session.proofs.source_input.read_end.Statement.{statement}
-use Rattle.session.proofs.source_input.read_end.Tie as tie
+use Rattle.call_loop.proofs.source_input.read_end.Statement.{statement}
+use Rattle.call_loop.proofs.source_input.read_end.Tie as tie
 
 emptied-requires : tie.Need-emptied-requires
 emptied-requires c κs = search needs

@@ -3,8 +3,8 @@ use mathlib.Core.Path.{sym, _∙_, subst}
 use denote.Ref.{now}
 use Rattle.record.specs.Turns.{recordOf, placeOf, placeIn, weight, ClosedIs}
 use Rattle.record.proofs.Going.{Going, go-start, may-write, same-out, ends-full, ends-closed, turns-on, ends-with, goes-on, goes-less}
-use Rattle.session.proofs.call_loop.run.Statement.{statement}
-use Rattle.session.proofs.call_loop.run.Tie as tie
+use Rattle.call_loop.proofs.run.Statement.{statement}
+use Rattle.call_loop.proofs.run.Tie as tie
 
 abbrev Inv-loop : tie.InvT-loop
 Inv-loop block last out₀ gathered₀ cells₀ row₀ arena₀ ends₀ store₀ text-firsts₀ text-seconds₀ kinds₀ lengths₀ firsts₀ seconds₀ values₀ steps₀ status₀ source₀ waiting₀ closing₀ taken₀ written₀ out gathered cells row arena ends store text-firsts text-seconds kinds lengths firsts seconds values steps status source waiting closing taken written =

@@ -1,16 +1,28 @@
 // The turns of a call: what waits is written, and then a piece of work is done, bytes are taken or the end is read.
+pub mod item_work;
+pub mod source_input;
+
 use record::Closing;
 use record::Place;
 use record::Ran;
 use record::Stop;
 use record::Turn;
 use record::Waiting;
+use rules::arrays::ByteColumn;
+use rules::arrays::LengthColumn;
+use rules::arrays::LineBytes;
+use rules::arrays::NumberColumn;
+use rules::arrays::RowBytes;
+use rules::arrays::StackBytes;
+use rules::arrays::StackEnds;
 use source_line::Source;
 use state::Status;
 use stream::Answer;
 ghost use Prim.Native.Nat.{_<_};
 ghost use Rattle.record.specs.View.{Legal};
 ghost use Rattle.record.specs.Turns.{recordOf, resting, placeIn, Turns, Turned, Runs, replyFrom};
+ghost use Rattle.record.specs.declared.Record.{Record};
+ghost use mathlib.Core.Path.{_≡_};
 
 // One turn of a call on an open session for which nothing waits: a piece of work; else bytes of the block; else the end, if this is marked last.
 fn take_turn(
@@ -19,26 +31,28 @@ fn take_turn(
     last: bool,
     status: Status,
     source: Source,
-    gathered: &mut [u8; 512],
-    cells: &mut [u8; 512],
-    row: &mut [u8; 872],
-    arena: &mut [u8; 8704],
-    ends: &mut [u16; 221],
+    gathered: &mut LineBytes,
+    cells: &mut LineBytes,
+    row: &mut RowBytes,
+    arena: &mut StackBytes,
+    ends: &mut StackEnds,
     store: &mut [u8],
-    text_firsts: &mut [u8; 64],
-    text_seconds: &mut [u8; 64],
-    kinds: &mut [u8; 64],
-    lengths: &mut [u16; 64],
-    firsts: &mut [u8; 64],
-    seconds: &mut [u8; 64],
-    values: &mut [i32; 64],
-    steps: &mut [i32; 64],
+    text_firsts: &mut ByteColumn,
+    text_seconds: &mut ByteColumn,
+    kinds: &mut ByteColumn,
+    lengths: &mut LengthColumn,
+    firsts: &mut ByteColumn,
+    seconds: &mut ByteColumn,
+    values: &mut NumberColumn,
+    steps: &mut NumberColumn,
 ) -> Turn
-    requires { ⌜ Turns (now block) (recordOf (resting status source) (now gathered) (now cells) (now row) (now arena) (now ends) (now «text_firsts») (now «text_seconds») (now kinds) (now lengths) (now firsts) (now seconds) (now values) (now steps)) (now store) taken ⌝ }
-    ensures { λ r. ⌜ Turned (r .stop) (now (block .entry)) last (recordOf (resting status source) (now (gathered .entry)) (now (cells .entry)) (now (row .entry)) (now (arena .entry)) (now (ends .entry)) (now («text_firsts» .entry)) (now («text_seconds» .entry)) (now (kinds .entry)) (now (lengths .entry)) (now (firsts .entry)) (now (seconds .entry)) (now (values .entry)) (now (steps .entry))) (now (store .entry)) taken (recordOf (placeIn r) (now (gathered .exit)) (now (cells .exit)) (now (row .exit)) (now (arena .exit)) (now (ends .exit)) (now («text_firsts» .exit)) (now («text_seconds» .exit)) (now (kinds .exit)) (now (lengths .exit)) (now (firsts .exit)) (now (seconds .exit)) (now (values .exit)) (now (steps .exit))) (now (store .exit)) (r .taken) ⌝ }
+    ghost { Record }
+    requires { λ q. ⌜ recordOf (resting status source) (now gathered) (now cells) (now row) (now arena) (now ends) (now «text_firsts») (now «text_seconds») (now kinds) (now lengths) (now firsts) (now seconds) (now values) (now steps) ≡ q ⌝ }
+    requires { λ q. ⌜ Turns (now block) q (now store) taken ⌝ }
+    ensures { λ q r. ⌜ Turned (r .stop) (now (block .entry)) last q (now (store .entry)) taken (recordOf (placeIn r) (now (gathered .exit)) (now (cells .exit)) (now (row .exit)) (now (arena .exit)) (now (ends .exit)) (now («text_firsts» .exit)) (now («text_seconds» .exit)) (now (kinds .exit)) (now (lengths .exit)) (now (firsts .exit)) (now (seconds .exit)) (now (values .exit)) (now (steps .exit))) (now (store .exit)) (r .taken) ⌝ }
 {
     if record::has_work(status.stack.depth, source.ended) {
-        return super::item_work::work(
+        return item_work::work(
             taken,
             status,
             source,
@@ -58,7 +72,7 @@ fn take_turn(
         );
     }
     if taken < block.len() {
-        return super::source_input::take_line(
+        return source_input::take_line(
             block,
             taken,
             status,
@@ -80,7 +94,7 @@ fn take_turn(
         );
     }
     if last {
-        return super::source_input::read_end(
+        return source_input::read_end(
             taken,
             status,
             source,
@@ -116,23 +130,25 @@ pub fn run(
     last: bool,
     start: Place,
     out: &mut [u8],
-    gathered: &mut [u8; 512],
-    cells: &mut [u8; 512],
-    row: &mut [u8; 872],
-    arena: &mut [u8; 8704],
-    ends: &mut [u16; 221],
+    gathered: &mut LineBytes,
+    cells: &mut LineBytes,
+    row: &mut RowBytes,
+    arena: &mut StackBytes,
+    ends: &mut StackEnds,
     store: &mut [u8],
-    text_firsts: &mut [u8; 64],
-    text_seconds: &mut [u8; 64],
-    kinds: &mut [u8; 64],
-    lengths: &mut [u16; 64],
-    firsts: &mut [u8; 64],
-    seconds: &mut [u8; 64],
-    values: &mut [i32; 64],
-    steps: &mut [i32; 64],
+    text_firsts: &mut ByteColumn,
+    text_seconds: &mut ByteColumn,
+    kinds: &mut ByteColumn,
+    lengths: &mut LengthColumn,
+    firsts: &mut ByteColumn,
+    seconds: &mut ByteColumn,
+    values: &mut NumberColumn,
+    steps: &mut NumberColumn,
 ) -> Ran
-    requires { ⌜ Legal (recordOf start (now gathered) (now cells) (now row) (now arena) (now ends) (now «text_firsts») (now «text_seconds») (now kinds) (now lengths) (now firsts) (now seconds) (now values) (now steps)) (now store) ⌝ }
-    ensures { λ r. ⌜ Runs (recordOf start (now (gathered .entry)) (now (cells .entry)) (now (row .entry)) (now (arena .entry)) (now (ends .entry)) (now («text_firsts» .entry)) (now («text_seconds» .entry)) (now (kinds .entry)) (now (lengths .entry)) (now (firsts .entry)) (now (seconds .entry)) (now (values .entry)) (now (steps .entry))) (now (store .entry)) (now (block .entry)) last (now (out .entry)) (replyFrom r (recordOf (r .place) (now (gathered .exit)) (now (cells .exit)) (now (row .exit)) (now (arena .exit)) (now (ends .exit)) (now («text_firsts» .exit)) (now («text_seconds» .exit)) (now (kinds .exit)) (now (lengths .exit)) (now (firsts .exit)) (now (seconds .exit)) (now (values .exit)) (now (steps .exit)))) (now (store .exit)) (now (out .exit)) ⌝ }
+    ghost { Record }
+    requires { λ q. ⌜ recordOf start (now gathered) (now cells) (now row) (now arena) (now ends) (now «text_firsts») (now «text_seconds») (now kinds) (now lengths) (now firsts) (now seconds) (now values) (now steps) ≡ q ⌝ }
+    requires { λ q. ⌜ Legal q (now store) ⌝ }
+    ensures { λ q r. ⌜ Runs q (now (store .entry)) (now (block .entry)) last (now (out .entry)) (replyFrom r (recordOf (r .place) (now (gathered .exit)) (now (cells .exit)) (now (row .exit)) (now (arena .exit)) (now (ends .exit)) (now («text_firsts» .exit)) (now («text_seconds» .exit)) (now (kinds .exit)) (now (lengths .exit)) (now (firsts .exit)) (now (seconds .exit)) (now (values .exit)) (now (steps .exit)))) (now (store .exit)) (now (out .exit)) ⌝ }
 {
     let mut status = start.status;
     let mut source = start.source;

@@ -5,8 +5,8 @@ use Rattle.fill.proofs.words.Parts.{part-zero}
 use Rattle.record.specs.Turns.{recordOf, resting, placeIn}
 use Rattle.record.proofs.Taking.{may-deal-ended, more-taken, refused-taken, ended-taken}
 use borrow.Author.Needs.{needs}
-use Rattle.session.proofs.source_input.take_line.Statement.{statement}
-use Rattle.session.proofs.source_input.take_line.Tie as tie
+use Rattle.call_loop.proofs.source_input.take_line.Statement.{statement}
+use Rattle.call_loop.proofs.source_input.take_line.Tie as tie
 
 gather-requires : tie.Need-gather-requires
 gather-requires c κs =

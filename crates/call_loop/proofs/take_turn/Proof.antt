@@ -4,8 +4,8 @@ use denote.Ref.{now}
 use Rattle.record.specs.Turns.{recordOf, resting}
 use Rattle.record.proofs.Leading.{leads-work, leads-take, leads-end, stops-input, turned-on, turned-at, is-busy, is-asking}
 use borrow.Author.Needs.{needs}
-use Rattle.session.proofs.call_loop.take_turn.Statement.{statement}
-use Rattle.session.proofs.call_loop.take_turn.Tie as tie
+use Rattle.call_loop.proofs.take_turn.Statement.{statement}
+use Rattle.call_loop.proofs.take_turn.Tie as tie
 
 has-work-requires : tie.Need-has-work-requires
 has-work-requires c κs = search needs

@@ -10,8 +10,8 @@ use Rattle.record.specs.View.{sourced}
 use Rattle.record.specs.Turns.{placeIn}
 use Rattle.record.proofs.Turns.{line-dealt}
 use borrow.Author.Needs.{needs}
-use Rattle.session.proofs.source_input.deal_line.Statement.{statement}
-use Rattle.session.proofs.source_input.deal_line.Tie as tie
+use Rattle.call_loop.proofs.source_input.deal_line.Statement.{statement}
+use Rattle.call_loop.proofs.source_input.deal_line.Tie as tie
 
 ten-to-the-inch-requires : tie.Need-ten-to-the-inch-requires
 ten-to-the-inch-requires c κs = search needs
