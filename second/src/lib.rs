@@ -4,7 +4,7 @@
 //! The modules follow document 01's sections:
 //! `session` (A session), `refusal` (Refusal numbers), `number` (Numbers), `escape`, `argument`,
 //! `text`, `line` and `request` (Lines and escapes), `fill` (Filling), `page` (Rows, pages, traps).
-//! `json`, `vector` and `part` serve the command line; `generate` and `crowd` make random documents.
+//! `json`, `vector` and `run` serve the command line; `generate` and `crowd` make random documents.
 
 pub mod argument;
 pub mod crowd;
@@ -15,9 +15,9 @@ pub mod json;
 pub mod line;
 pub mod number;
 pub mod page;
-pub mod part;
 pub mod refusal;
 pub mod request;
+pub mod run;
 pub mod session;
 pub mod state;
 pub mod text;

@@ -7,8 +7,8 @@ use std::process::ExitCode;
 use second::generate::document;
 use second::json::{to_hex, Json};
 use second::number::{evaluate, is_change, round, DefaultScale, CELL, ROW};
-use second::part::{drawn, Parts};
 use second::refusal::{Work, STORE_LENGTH};
+use second::run::answered;
 use second::session::Ending;
 use second::state::State;
 use second::vector::{Question, Vector};
@@ -18,9 +18,8 @@ const USAGE: &str = "usage: second batch              answer one JSON object a l
        second format FILE          write the pages of a document to standard output
        second show FILE..          print vector files readably
        second generate SEED COUNT  write random documents, one JSON object a line
-       second parts                answer operations on the parts of the formatter from standard input
-       second draw LONGEST FILE..  operations on the parts, drawn from the documents of vector files up to LONGEST bytes
        second numbers              the values of arguments from standard input, one to a line, in units, cells and rows
+       second runs                 format documents from standard input, one to a line, whole and in small blocks and rooms
 A FILE may be - for standard input.";
 
 /// Bad use, a file that cannot be read, or broken input: a message, and exit status 2.
@@ -49,8 +48,7 @@ fn main() -> ExitCode {
         ["show", files @ ..] if !files.is_empty() => show(files),
         ["generate", seed, count] => generate(seed, count),
         ["numbers"] => numbers(),
-        ["parts"] => parts(),
-        ["draw", longest, files @ ..] if !files.is_empty() => number(longest).and_then(|longest| draw(longest, files)),
+        ["runs"] => runs(),
         _ => Err(Misuse(USAGE.to_string())),
     };
     result.unwrap_or_else(|Misuse(message)| misused(&message))
@@ -184,31 +182,12 @@ fn numbers() -> Result<ExitCode, Misuse> {
     Ok(ExitCode::SUCCESS)
 }
 
-fn parts() -> Result<ExitCode, Misuse> {
-    let mut input = Vec::new();
-    io::stdin().lock().read_to_end(&mut input)?;
-    let mut out = BufWriter::new(io::stdout().lock());
-    let mut parts = Parts::default();
-    for line in input.strip_suffix(b"\n").unwrap_or(&input).split(|&byte| byte == b'\n') {
-        out.write_all(&parts.answer(line))?;
-        out.write_all(b"\n")?;
-    }
-    out.flush()?;
-    Ok(ExitCode::SUCCESS)
-}
-
-fn draw(longest: u64, files: &[&str]) -> Result<ExitCode, Misuse> {
+fn runs() -> Result<ExitCode, Misuse> {
+    let input = io::read_to_string(io::stdin())?;
     let mut out = BufWriter::with_capacity(1 << 16, io::stdout().lock());
-    for file in files {
-        lines(file, |_, line| {
-            let document = Vector::parse(line)?.question.document;
-            // Other bytes are refused before any line is dealt with.
-            let plain = document.iter().all(|byte| matches!(byte, b'\n' | b' '..=b'~'));
-            if plain && document.len() as u64 <= longest {
-                out.write_all(&drawn(&document)).map_err(|error| error.to_string())?;
-            }
-            Ok(())
-        })?;
+    for (index, line) in input.split_terminator('\n').enumerate() {
+        let answer = answered(line).map_err(|error| Misuse(format!("line {}: {error}", index + 1)))?;
+        out.write_all(answer.as_bytes())?;
     }
     out.flush()?;
     Ok(ExitCode::SUCCESS)

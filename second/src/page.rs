@@ -9,7 +9,7 @@ pub type Sprung = Option<Name>;
 impl State {
     /// The trap seen at the present row: "Traps outside rows 0 to pl-1 sleep"; "of two at one row the earlier planted
     /// is seen".
-    pub fn trap_here(&self) -> Option<Trap> {
+    fn trap_here(&self) -> Option<Trap> {
         // "negative ones counted up from the page end". The present row is within the page, so others sleep.
         let place = |trap: &Trap| if trap.row < 0 { trap.row + self.page_length } else { trap.row };
         self.traps.iter().copied().find(|trap| place(trap) == self.row)

@@ -25,10 +25,6 @@ impl Name {
             _ => None,
         }
     }
-
-    pub fn bytes(self) -> Vec<u8> {
-        self.0.iter().copied().filter(|&byte| byte != 0).collect()
-    }
 }
 
 /// The arguments of a text called by name: at most nine.

@@ -166,23 +166,31 @@ fn show_prints_a_vector_readably() {
 }
 
 #[test]
-fn parts_answer_operations() {
-    let operations = "s a x\\*b\nm b\nl one\nl two\ne\nt a\nt b\nt c\nn r 5 2\nn % 1\na 1 \"2 \"\"3\" 4\np \\$2\\n+r\\*a\np \\$2\\n+r\n\
-        c \\e\\.\\$3\nh 3 b\nh -1 a\nx 5 2\nx 4 3\ny 1 2 9 1\nw a b cc dd\nw e\nb\no ab\nu  x\nr b\nq\n";
-    let answers = "ok 1 4\nok 1 4\nok 1 4\nok 1 4\nok 2 12\nstring x\\*b\nmacro one|two|\nnothing\nok 1\nrefused 7\n\
-        3 [1] [2 \"3] [4]\nrefused 9\n[2 \"39]\n[\\ee.4]\nok 1\nok 2\nnone 3\nb 4\nok\n   a b  cc|\nok\nok\n   dd e|\nok\n     ab|\nok\n    x|\nok\n\
-        ok 1 4\n?\n";
-    let output = run(&["parts"], operations.as_bytes());
-    assert!(output.status.success());
-    assert_eq!(text(&output.stdout), answers);
-}
-
-#[test]
-fn operations_are_drawn_from_documents() {
-    // .nr r 1, x
-    let vector = r#"{"doc": "2e6e72207220310a780a", "out": "", "end": "done"}"#;
-    let output = run(&["draw", "10", "-"], vector.as_bytes());
-    assert!(output.status.success(), "{}", text(&output.stderr));
-    assert_eq!(text(&output.stdout), "z\nn r 1\np x\nc x\nw x\nb\nx 66 0\nx 66 65\nx 5 2\n");
-    assert!(run(&["draw", "9", "-"], vector.as_bytes()).stdout.is_empty());
+fn runs_show_pages_and_answers() {
+    let output = run(&["runs"], b"# two\n.pl 2|.nf|a|.ll 0\n{2001 |}\n{2097152 x}\n");
+    assert_eq!(output.status.code(), Some(0));
+    let refused = "refused 7 at line 4; taken 17, written 2; calls";
+    let done = "done; taken 2001, written 2046; calls";
+    assert_eq!(
+        text(&output.stdout).lines().collect::<Vec<&str>>(),
+        [
+            "# two",
+            // The sum goes on from 0 by the number 3 of a refusal, 17 and 2: times 257, and one more than the value.
+            &format!("whole: {refused} 1, for input 0, for room 0, sum 268825"),
+            "  a|",
+            &format!("blocks 1, rooms 0 1: {refused} 18, for input 15, for room 2, sum 137572509"),
+            "  a|",
+            &format!("blocks 3, rooms 1 1: {refused} 6, for input 4, for room 1, sum 703880146"),
+            "  a|",
+            &format!("blocks 7, rooms 5 5: {refused} 3, for input 2, for room 0, sum 399711046"),
+            "  a|",
+            &format!("whole: {done} 1, for input 0, for room 0, sum 714708"),
+            "  pages with sum 439112090",
+            &format!("blocks 509, rooms 0 4093: {done} 8, for input 3, for room 4, sum 805034856"),
+            "  pages with sum 439112090",
+            "too long",
+        ]
+    );
+    misuse(&["runs"], "# a\n{3 x\n", "line 2: a brace is not closed");
+    misuse(&["runs", "x"], "", "usage");
 }

@@ -1,11 +1,13 @@
-//! The documents stay true: docs/RULES.md quotes every sentence of document 01's rules, in its order, and what it and
-//! docs/DECISIONS.md name exists.
+//! The documents stay true: docs/RULES.md quotes every sentence of document 01's rules, in its order; what it and
+//! docs/DECISIONS.md name exists; no document names a crate, a module, a function or a definition that is not there;
+//! README.md shows what is printed.
 
 use std::collections::HashSet;
 use std::fs;
 use std::path::{Path, PathBuf};
 
 use second::json::Json;
+use second::session::{self, Ending};
 
 fn root() -> PathBuf {
     Path::new(env!("CARGO_MANIFEST_DIR")).join("..")
@@ -178,9 +180,11 @@ fn the_edits_exist() {
         for span in spans(&cell) {
             // A name with a period is that of a definition.
             if let Some((crate_name, edit)) = span.split_once('/').filter(|(_, edit)| !edit.contains('.')) {
-                if root().join("crates").join(crate_name).is_dir() {
-                    let path = format!("crates/{crate_name}/edits/{edit}.edit");
-                    assert!(root().join(&path).exists(), "{quote}: no {path}");
+                let folder = root().join("crates").join(crate_name);
+                if folder.is_dir() {
+                    let there =
+                        ["edits", "must-fail"].iter().any(|of| folder.join(of).join(format!("{edit}.edit")).exists());
+                    assert!(there, "{quote}: no edit {span}");
                     named += 1;
                 }
             }
@@ -204,4 +208,93 @@ fn the_functions_exist() {
         }
     }
     assert!(named > 100, "{named} functions");
+}
+
+/// The documents of the repository, but for document 01.
+const DOCUMENTS: [&str; 8] = [
+    "README.md",
+    "docs/ARCHITECTURE.md",
+    "docs/DECISIONS.md",
+    "docs/PERFORMANCE.md",
+    "docs/PROOFS.md",
+    "docs/RECORD.md",
+    "docs/RULES.md",
+    "tests/README.md",
+];
+
+/// Whether a path of code, as `crate::module::name`, is one: its crate, its module if it has one, and what it declares.
+fn is_code(path: &str) -> bool {
+    let parts: Vec<&str> = path.split("::").collect();
+    let source = |crate_name: &str, file: &str| {
+        fs::read_to_string(root().join(format!("crates/{crate_name}/src/{file}.rt"))).unwrap_or_default()
+    };
+    let declared = |text: &str, name: &str| {
+        ["fn", "struct", "enum", "const", "mod"].iter().any(|word| {
+            let start = format!("{word} {name}");
+            text.match_indices(&start)
+                .any(|(at, _)| !text[at + start.len()..].starts_with(|c: char| c.is_alphanumeric() || c == '_'))
+        })
+    };
+    match parts[..] {
+        [crate_name, name] => declared(&source(crate_name, "lib"), name),
+        [crate_name, module, name] => declared(&source(crate_name, module), name),
+        _ => false,
+    }
+}
+
+/// Whether a path of definitions, as `crate/Module/File.name` or `crate/File`, is one.
+fn is_definition(path: &str) -> bool {
+    let (file, name) = path.split_once('.').map_or((path, None), |(file, name)| (file, Some(name)));
+    let Some((crate_name, file)) = file.split_once('/') else { return false };
+    match fs::read_to_string(root().join(format!("crates/{crate_name}/specs/{file}.antt"))) {
+        Ok(text) => name.is_none_or(|name| declares(&text, name)),
+        Err(_) => false,
+    }
+}
+
+/// What the documents name by a path that begins with a crate, or with a folder of the repository, is there.
+#[test]
+fn the_paths_exist() {
+    let mut named = 0;
+    for document in DOCUMENTS {
+        let text = read(document);
+        // What stands between fences, or indented, is no prose.
+        let prose: Vec<&str> =
+            text.split("```").step_by(2).flat_map(str::lines).filter(|line| !line.starts_with("    ")).collect();
+        for span in spans(&prose.join("\n")) {
+            let is_crate = |name: &str| root().join("crates").join(name).is_dir();
+            let first = span.split(['/', ':']).next().unwrap_or_default();
+            let there = if span.contains(char::is_whitespace) || span.contains(['*', '{', '=']) {
+                continue;
+            } else if span.contains("::") && first.starts_with(|letter: char| letter.is_lowercase()) {
+                is_code(span)
+            } else if is_crate(first)
+                && span[first.len()..].starts_with('/')
+                && span[first.len() + 1..].starts_with(char::is_uppercase)
+            {
+                is_definition(span)
+            } else if ["crates", "docs", "tests", "bench", "second", "examples", "include"].contains(&first)
+                && span.contains('/')
+            {
+                span.contains("NAME") || span.contains("/target/") || root().join(span).exists()
+            } else {
+                continue;
+            };
+            assert!(there, "{document}: there is no {span}");
+            named += 1;
+        }
+    }
+    assert!(named > 400, "{named} paths");
+}
+
+/// The service sheet in examples/ has three pages of 66 rows, and README.md shows the first rows of them.
+#[test]
+fn the_service_sheet_has_three_pages() {
+    let (pages, ending) = session::pages(read("examples/service-sheet.nr").as_bytes());
+    assert_eq!(ending, Ending::Done);
+    let pages = String::from_utf8(pages).expect("printed bytes");
+    assert_eq!(pages.lines().count(), 3 * 66);
+    let readme = read("README.md");
+    let shown = readme.split("```\n").nth(1).expect("the first rows");
+    assert!(!shown.is_empty() && pages.starts_with(shown), "README.md shows other rows");
 }

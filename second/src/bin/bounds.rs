@@ -1,11 +1,13 @@
 //! Writes vectors for both sides of each bound of document 01. The pages are put together here from the rules by hand;
 //! nothing is formatted. `bounds small` is what tests/vectors/bounds.jsonl holds; `bounds large` has the documents of
-//! refusal 12, which are too long to be kept.
+//! refusal 12, which are too long to be kept. `bounds runs` has the documents of both, without their pages, in the short
+//! form of `second::run`: it is what crates/bounds_main reads.
 
 use std::io::{self, BufWriter, Write};
 use std::process::ExitCode;
 
 use second::json::{quoted, to_hex};
+use second::run::written;
 
 /// A document with its pages and its closing answer; no refusal is done.
 struct Bound {
@@ -29,6 +31,16 @@ impl Bounds {
 
     fn refuses_after(&mut self, name: &str, document: String, pages: String, number: u8, line: u32) {
         self.0.push(Bound { name: name.to_string(), document, pages, refusal: Some((number, line)) });
+    }
+
+    /// All but refusal 12.
+    fn small(&mut self) {
+        self.lines();
+        self.strings();
+        self.numbers();
+        self.ranges();
+        self.stack();
+        self.tables();
     }
 
     /// Refusals 2 and 3: bytes and lengths of source lines and expanded lines.
@@ -283,10 +295,10 @@ impl Bounds {
 
     /// Refusal 12: a million source lines, a million pages.
     fn large(&mut self) {
-        let ignored = |count: usize| ".z\n".repeat(count);
+        let ignored = |count: usize| ".\n".repeat(count);
         self.passes("1,000,000 source lines", ignored(1_000_000), String::new());
-        self.passes("1,000,000 source lines, the last not ended", ignored(999_999) + ".z", String::new());
-        self.refuses("1,000,001 source lines", ignored(1_000_000) + ".z\n", 12, 1_000_001);
+        self.passes("1,000,000 source lines, the last not ended", ignored(999_999) + ".", String::new());
+        self.refuses("1,000,001 source lines", ignored(1_000_000) + ".\n", 12, 1_000_001);
         self.refuses("a newline on line 1,000,001", ignored(1_000_000) + "\n", 12, 1_000_001);
         self.refuses("a bad byte on line 1,000,001", ignored(1_000_000) + "\t", 12, 1_000_001);
         // On pages of one row each sp starts the next page; A starts 100. Its lines start at source line 104.
@@ -298,7 +310,16 @@ impl Bounds {
     }
 }
 
-fn write(bounds: &Bounds) -> io::Result<()> {
+/// The documents, each on a line below its name.
+fn write_runs(bounds: &Bounds) -> io::Result<()> {
+    let mut out = BufWriter::new(io::stdout().lock());
+    for Bound { name, document, .. } in &bounds.0 {
+        writeln!(out, "# {name}\n{}", written(document.as_bytes()))?;
+    }
+    out.flush()
+}
+
+fn write_vectors(bounds: &Bounds) -> io::Result<()> {
     let mut out = BufWriter::new(io::stdout().lock());
     for Bound { name, document, pages, refusal } in &bounds.0 {
         let mut text = format!("{{\"name\": {}, \"doc\": \"", quoted(name));
@@ -317,21 +338,25 @@ fn write(bounds: &Bounds) -> io::Result<()> {
 fn main() -> ExitCode {
     let mut bounds = Bounds(Vec::new());
     let words: Vec<_> = std::env::args_os().skip(1).collect();
-    match words.first().and_then(|word| word.to_str()) {
+    let write = match words.first().and_then(|word| word.to_str()) {
         Some("small") if words.len() == 1 => {
-            bounds.lines();
-            bounds.strings();
-            bounds.numbers();
-            bounds.ranges();
-            bounds.stack();
-            bounds.tables();
+            bounds.small();
+            write_vectors
         }
-        Some("large") if words.len() == 1 => bounds.large(),
+        Some("large") if words.len() == 1 => {
+            bounds.large();
+            write_vectors
+        }
+        Some("runs") if words.len() == 1 => {
+            bounds.small();
+            bounds.large();
+            write_runs
+        }
         _ => {
-            eprintln!("bounds: usage: bounds small | bounds large");
+            eprintln!("bounds: usage: bounds small | bounds large | bounds runs");
             return ExitCode::from(2);
         }
-    }
+    };
     match write(&bounds) {
         Ok(()) => ExitCode::SUCCESS,
         Err(error) => {
