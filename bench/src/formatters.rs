@@ -3,83 +3,25 @@
 //!
 //! All of them run in turn on the same text, the pages are thrown away, and the medians of the times are compared.
 //! Nothing is asserted of the times. A formatter that is not installed is named and left out.
-#[path = "../../../tests/product/src/binding.rs"]
-mod binding;
 
 use std::env;
-use std::fs::{self, File};
+use std::fs;
 use std::hint::black_box;
-use std::io::{self, BufWriter, Write};
+use std::io;
 use std::path::{Path, PathBuf};
-use std::process::{Command, ExitCode, Stdio};
+use std::process::{Command, Stdio};
 use std::time::Instant;
 
-use binding::Record;
+use crate::binding::Record;
+use crate::session::session;
+use crate::text;
 
-/// What include/rockavine.h states.
-const STORE_LENGTH: usize = 8192;
-const NEEDS_INPUT: u32 = 0;
-const NEEDS_ROOM: u32 = 1;
-const DONE: u32 = 2;
 const SIZE: usize = 20_000_000;
 const ROUNDS: usize = 5;
 /// Blocks of one byte are measured on so many bytes of the text.
 const PIECE: usize = 1_000_000;
 const TURNS: usize = 15;
 const COPIES: usize = 1_000_000;
-const WORDS: [&str; 20] = [
-    "cable", "exchange", "pair", "lamp", "cover", "check", "the", "and", "of", "line", "relay", "a", "to", "is", "set",
-    "test", "meter", "frame", "block", "fuse",
-];
-const REQUESTS: [&str; 6] = [".br", ".sp", ".in +2", ".in -2", ".ti +4", ".ad"];
-
-/// Numbers that are the same in each run.
-struct Random(u64);
-
-impl Random {
-    fn below(&mut self, bound: usize) -> usize {
-        self.0 ^= self.0 << 13;
-        self.0 ^= self.0 >> 7;
-        self.0 ^= self.0 << 17;
-        (self.0 % bound as u64) as usize
-    }
-}
-
-/// A line of words, one in ten with a period at its end; one line in forty is a request.
-fn line(random: &mut Random, indent: &mut usize) -> String {
-    if random.below(40) == 0 {
-        return request(random, indent);
-    }
-    let words: Vec<&str> = (0..6 + random.below(7)).map(|_| WORDS[random.below(WORDS.len())]).collect();
-    let end = if random.below(10) == 0 { "." } else { "" };
-    words.join(" ") + end
-}
-
-/// A request; the indent goes to 10 cells and back.
-fn request(random: &mut Random, indent: &mut usize) -> String {
-    let request = REQUESTS[random.below(REQUESTS.len())];
-    match request {
-        ".in +2" if *indent == 10 => return ".br".to_string(),
-        ".in -2" if *indent == 0 => return ".br".to_string(),
-        ".in +2" => *indent += 2,
-        ".in -2" => *indent -= 2,
-        _ => {}
-    }
-    request.to_string()
-}
-
-fn write_text(path: &Path) -> io::Result<()> {
-    let mut file = BufWriter::new(File::create(path)?);
-    let mut random = Random(0x9e37_79b9_7f4a_7c15);
-    let mut indent = 0;
-    let mut size = 0;
-    while size < SIZE {
-        let line = line(&mut random, &mut indent);
-        size += line.len() + 1;
-        writeln!(file, "{line}")?;
-    }
-    file.flush()
-}
 
 /// How the text is formatted: by a program that gets its file, or by calls of the C interface.
 enum Way<'a> {
@@ -95,27 +37,11 @@ fn timed(program: &str, words: &[&str], text: &Path) -> Option<f64> {
     status.success().then(|| start.elapsed().as_secs_f64())
 }
 
-/// How long a session takes whose source comes in blocks of this length, and how many calls it has; nothing if it is
-/// not done.
-fn session(source: &[u8], block: usize, room: usize) -> Option<(f64, usize)> {
-    let (mut record, mut store, mut out) = (Record::start(), vec![0; STORE_LENGTH], vec![0; room]);
-    let (mut at, mut calls) = (0, 0);
+/// How long a session takes, and how many calls it has; nothing if it is refused.
+fn timed_session(source: &[u8], block: usize, room: usize) -> Option<(f64, usize)> {
     let start = Instant::now();
-    loop {
-        let end = source.len().min(at + block);
-        let reply = record.call(&mut store, &source[at..end], end == source.len(), &mut out);
-        black_box(&out[..reply.written]);
-        at += reply.taken;
-        calls += 1;
-        match reply.code {
-            NEEDS_INPUT | NEEDS_ROOM => {}
-            DONE => return Some((start.elapsed().as_secs_f64(), calls)),
-            _ => {
-                println!("refused {} at line {}", reply.number, reply.line);
-                return None;
-            }
-        }
-    }
+    let calls = session(source, block, room)?;
+    Some((start.elapsed().as_secs_f64(), calls))
 }
 
 fn median(mut values: Vec<f64>) -> f64 {
@@ -123,28 +49,16 @@ fn median(mut values: Vec<f64>) -> f64 {
     values[values.len() / 2]
 }
 
-fn main() -> ExitCode {
-    let Some(program) = env::args().nth(1) else {
-        eprintln!("usage: formatters PROGRAM");
-        return ExitCode::from(2);
-    };
-    let text: PathBuf = env::temp_dir().join(format!("rockavine-bench-{}.txt", std::process::id()));
-    let code = match measure(&program, &text) {
-        Ok(true) => ExitCode::SUCCESS,
-        Ok(false) => ExitCode::FAILURE,
-        Err(error) => {
-            eprintln!("{}: {error}", text.display());
-            ExitCode::FAILURE
-        }
-    };
-    let _ = fs::remove_file(&text);
-    code
+/// All measurements; false if the product or its program does not format the text.
+pub fn compare(program: &str) -> io::Result<bool> {
+    let file: PathBuf = env::temp_dir().join(format!("rockavine-bench-{}.txt", std::process::id()));
+    let source = text::with_requests(SIZE);
+    let done = fs::write(&file, &source).map(|()| measure(program, &file, &source));
+    let _ = fs::remove_file(&file);
+    done
 }
 
-/// All measurements; false if the product or its program does not format the text.
-fn measure(program: &str, text: &Path) -> io::Result<bool> {
-    write_text(text)?;
-    let source = fs::read(text)?;
+fn measure(program: &str, text: &Path, source: &[u8]) -> bool {
     let ways = [
         ("C, whole", Way::Calls { block: source.len(), room: 65_536 }),
         ("C, blocks and rooms of 512", Way::Calls { block: 512, room: 512 }),
@@ -158,13 +72,13 @@ fn measure(program: &str, text: &Path) -> io::Result<bool> {
         for (times, (_, way)) in times.iter_mut().zip(&ways) {
             times.extend(match way {
                 Way::Program(program, words) => timed(program, words, text),
-                Way::Calls { block, room } => session(&source, *block, *room).map(|(time, _)| time),
+                Way::Calls { block, room } => timed_session(source, *block, *room).map(|(time, _)| time),
             });
         }
     }
     let times: Vec<Option<f64>> = times.into_iter().map(|t| (t.len() == ROUNDS).then(|| median(t))).collect();
     let names: Vec<&str> = ways.iter().map(|(name, _)| *name).collect();
-    Ok(report(&names, &times, source.len()) && one_byte_calls(&source[..PIECE.min(source.len())]))
+    report(&names, &times, source.len()) && one_byte_calls(&source[..PIECE.min(source.len())])
 }
 
 /// Prints the times, and each as a multiple of the product's three; false if one of these is missing.
@@ -207,7 +121,7 @@ fn copied() -> f64 {
 fn one_byte_calls(piece: &[u8]) -> bool {
     let (mut calls, mut copies) = (Vec::new(), Vec::new());
     for _ in 0..TURNS {
-        let Some((time, count)) = session(piece, 1, 512) else {
+        let Some((time, count)) = timed_session(piece, 1, 512) else {
             return false;
         };
         calls.push(time / count as f64 * 1e9);
