@@ -27,31 +27,8 @@ ghost use lib.ListN.{length};
 ghost use Rattle.rules.specs.Acts as rule;
 ghost use Rattle.settings.specs.Layout.Layouts.{printerOf, SoundPrinter};
 ghost use Rattle.composition.specs.PageRows.Desk.{Desk, desk, Begins, Worked};
-ghost use Rattle.composition.specs.BreakRequests.Acting.{workOf, spaces, actBy};
+ghost use Rattle.composition.specs.BreakRequests.Acting.{spaces, actBy};
 ghost use Rattle.composition.specs.BreakRequests.Obeying.{heldLine, heldRequest, startsFirst, obeyed};
-
-// What a request has to do after its break.
-pub enum Work {
-    Spaces,
-    Ejects,
-    Lays,
-}
-
-// sp and bp move down the page; the others change the layout at most.
-fn work_of(request: Breaking) -> Work
-    ensures { λ r. ⌜ r ≡ workOf request ⌝ }
-{
-    match request {
-        Breaking::Br => Work::Lays,
-        Breaking::Sp => Work::Spaces,
-        Breaking::Bp => Work::Ejects,
-        Breaking::Fi => Work::Lays,
-        Breaking::Nf => Work::Lays,
-        Breaking::Ce => Work::Lays,
-        Breaking::In => Work::Lays,
-        Breaking::Ti => Work::Lays,
-    }
-}
 
 // sp, with its argument.
 fn space(
@@ -116,10 +93,11 @@ fn act_on(
     ghost { Desk }
     requires { λ q. ⌜ desk layout page collected (now cells) stack (now arena) (now ends) ≡ q ⌝ }
     requires { λ q. ⌜ Begins planted q [] (now row) (now firsts) (now seconds) texts × SoundPrinter printer ⌝ }
-    ensures { λ q r. ⌜ Worked (λ ts s. actBy (workOf request) (printerOf printer) request (now (argument .entry)) s) (now (firsts .entry)) (now (seconds .entry)) texts planted q (r .way) (r .written) (desk (r .layout) (r .page) (r .collected) (now (cells .entry)) (r .stack) (now (arena .exit)) (now (ends .exit))) (now (row .exit)) ⌝ }
+    ensures { λ q r. ⌜ Worked (λ ts s. actBy (printerOf printer) request (now (argument .entry)) s) (now (firsts .entry)) (now (seconds .entry)) texts planted q (r .way) (r .written) (desk (r .layout) (r .page) (r .collected) (now (cells .entry)) (r .stack) (now (arena .exit)) (now (ends .exit))) (now (row .exit)) ⌝ }
 {
-    match work_of(request) {
-        Work::Spaces => space(
+    match request {
+        Breaking::Br => stay(Way::On, layout, page, collected, stack),
+        Breaking::Sp => space(
             argument,
             printer,
             layout,
@@ -135,7 +113,7 @@ fn act_on(
             seconds,
             texts,
         ),
-        Work::Ejects => super::eject::eject(
+        Breaking::Bp => super::eject::eject(
             page.number,
             layout,
             page,
@@ -150,8 +128,8 @@ fn act_on(
             seconds,
             texts,
         ),
-        Work::Lays => {
-            let new = settings::line_settings::act(request, layout, argument, printer);
+        Breaking::Sets(setting) => {
+            let new = settings::line_settings::set_line(setting, layout, argument, printer);
             settle(new, layout, page, collected, stack)
         }
     }

@@ -1,9 +1,10 @@
 // What a frame of the input stack holds, as four words.
 use rules::Breaking;
+use rules::LineSetting;
 use rules::Name;
 ghost use mathlib.Core.Path.{_≡_};
 ghost use Prim.Native.Nat.{_+_, _-_, _*_, _<_};
-ghost use Rattle.input_stack.specs.Frames.Words.{numberOf, requestOf, nameWord, nameIn, periodOf, words, wordsOf, whatIn, whatOf};
+ghost use Rattle.input_stack.specs.Frames.Words.{settingNumber, numberOf, requestOf, nameWord, nameIn, periodOf, words, wordsOf, whatIn, whatOf};
 
 // What an item of the input stack is, beside its bytes.
 pub enum What {
@@ -30,6 +31,19 @@ pub struct Words {
     pub third: u16,
 }
 
+// The number by which a request that sets the layout is held.
+fn setting_number(request: LineSetting) -> u8
+    ensures { λ r. ⌜ r ≡ settingNumber request ⌝ }
+{
+    match request {
+        LineSetting::Fi => 3,
+        LineSetting::Nf => 4,
+        LineSetting::Ce => 5,
+        LineSetting::In => 6,
+        LineSetting::Ti => 7,
+    }
+}
+
 // The number by which a request is held.
 fn number_of(request: Breaking) -> u8
     ensures { λ r. ⌜ r ≡ numberOf request ⌝ }
@@ -38,11 +52,7 @@ fn number_of(request: Breaking) -> u8
         Breaking::Br => 0,
         Breaking::Sp => 1,
         Breaking::Bp => 2,
-        Breaking::Fi => 3,
-        Breaking::Nf => 4,
-        Breaking::Ce => 5,
-        Breaking::In => 6,
-        Breaking::Ti => 7,
+        Breaking::Sets(setting) => setting_number(setting),
     }
 }
 
@@ -54,11 +64,11 @@ fn request_of(number: u8) -> Breaking
         0 => Breaking::Br,
         1 => Breaking::Sp,
         2 => Breaking::Bp,
-        3 => Breaking::Fi,
-        4 => Breaking::Nf,
-        5 => Breaking::Ce,
-        6 => Breaking::In,
-        _ => Breaking::Ti,
+        3 => Breaking::Sets(LineSetting::Fi),
+        4 => Breaking::Sets(LineSetting::Nf),
+        5 => Breaking::Sets(LineSetting::Ce),
+        6 => Breaking::Sets(LineSetting::In),
+        _ => Breaking::Sets(LineSetting::Ti),
     }
 }
 

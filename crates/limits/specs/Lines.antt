@@ -10,7 +10,7 @@ use Rattle.rules.specs.declared.Mode.{Mode}
 use Rattle.rules.specs.declared.Mode.the-variants.{Plain, Copy}
 use Rattle.rules.specs.declared.Register.{Register}
 use Rattle.rules.specs.declared.Breaking.{Breaking}
-use Rattle.rules.specs.declared.Request.the-variants.{Breaks, Keeps as Unbroken, Ds}
+use Rattle.rules.specs.declared.Request.the-variants.{Breaks, Lays, Changes, Ds, If}
 use Rattle.rules.specs.Printers.{Printer}
 use Rattle.rules.specs.Laws.Registers.{BoundedTable}
 use Rattle.rules.specs.Texts.{Text, keepLineIn, keepLine, closeMacro}
@@ -34,7 +34,7 @@ use Rattle.limits.specs.Expansion.{NumberedScan, scan-numbered, scan-bou
 use Rattle.limits.specs.Rows.{Ready, hold-none, hold-if, call-kept, startPage-kept, break-kept}
 use Rattle.limits.specs.TextLines.{text-kept}
 use Rattle.limits.specs.Texts.{defines-kept}
-use Rattle.limits.specs.Requests.{perform-kept, act-kept}
+use Rattle.limits.specs.Requests.{change-kept, decide-kept, lay-kept, act-kept}
 
 -- on with an expanded line, or its refusal
 scan-kept : (x : Scanned) (s : State) (k : List ℕ → State → Next) → Within s → NumberedScan x → BoundedTable (registersAfter x)
@@ -60,8 +60,10 @@ module _ (p : Printer) where
   obey-kept nothing i q n l s h = h .0
   obey-kept (calls t) i q n l s h = call-kept t (arguments l) [] s (hold-none s (h .0))
   obey-kept (requests (Breaks r)) i q n l s h = start-or-break-kept (eqb (s .page .number) 0 && startsPage q r) q r n l s h
-  obey-kept (requests (Unbroken r)) i q n l s h = settles-kept s (h .0) (perform-kept p r l s h)
+  obey-kept (requests (Lays r)) i q n l s h = lay-kept p r l s (h .0)
+  obey-kept (requests (Changes r)) i q n l s h = settles-kept s (h .0) (change-kept p r l s h)
   obey-kept (requests Ds) i q n l s h = settles-kept s (h .0) (defines-kept s h i l)
+  obey-kept (requests If) i q n l s h = settles-kept s (h .0) (decide-kept p l s h)
 
   -- a line that is expanded
   pub again-kept : (x : Line) (s : State) → Ready s → Keeps (dealAgain p x s)

@@ -12,9 +12,13 @@ use Rattle.rules.specs.declared.Name.{Name}
 use Rattle.rules.specs.declared.Register.{Register}
 use Rattle.rules.specs.declared.Trap.{Trap}
 use Rattle.rules.specs.declared.Breaking.{Breaking}
-use Rattle.rules.specs.declared.Breaking.the-variants.{Br, Sp, Bp, Fi, Nf, Ce, In, Ti}
-use Rattle.rules.specs.declared.Unbreaking.{Unbreaking}
-use Rattle.rules.specs.declared.Unbreaking.the-variants.{Pl, Po, Ll, Ad, Na, Nr, De, Rm, Wh, If}
+use Rattle.rules.specs.declared.Breaking.the-variants.{Br, Sp, Bp, Sets}
+use Rattle.rules.specs.declared.LineSetting.{LineSetting}
+use Rattle.rules.specs.declared.LineSetting.the-variants.{Fi, Nf, Ce, In, Ti}
+use Rattle.rules.specs.declared.PageSetting.{PageSetting}
+use Rattle.rules.specs.declared.PageSetting.the-variants.{Pl, Po, Ll, Ad, Na}
+use Rattle.rules.specs.declared.TableChange.{TableChange}
+use Rattle.rules.specs.declared.TableChange.the-variants.{Nr, De, Rm, Wh}
 use Rattle.rules.specs.Printers.{Printer}
 use Rattle.rules.specs.Bytes.{byte, isThere}
 use Rattle.rules.specs.Names.{Named, one, tooLong, nameOf}
@@ -26,13 +30,13 @@ use Rattle.rules.specs.Laws.Registers.{BoundedRegister, lookup-bounded, set-bou
 use Rattle.rules.specs.Texts.{textOf}
 use Rattle.rules.specs.Traps.{plant, removeTrap}
 use Rattle.rules.specs.Laws.Traps.{plant-here, plant-on, remove-here, remove-on, single-plant, single-remove}
-use Rattle.rules.specs.LayoutSetters.{withIndent, withOffset, withPageLength}
+use Rattle.rules.specs.LayoutSetters.{withIndent, withOffset, withPageLength, withFilling}
 use Rattle.rules.specs.Arguments.{condition}
 use Rattle.rules.specs.Lines.{lineOf, expression, letters, simplyHolds, holdsIf, holds}
 use Rattle.rules.specs.State.{State, again}
 use Rattle.rules.specs.StateSetters.{withLayout, withTraps}
 use Rattle.rules.specs.Rows.{skip}
-use Rattle.rules.specs.Acts.{argument, openText, removeText, plantAt, follows, newValue, act, newStep, writeIf, writeRegister, plantTrap, ifLine, perform}
+use Rattle.rules.specs.Acts.{argument, openText, removeText, plantAt, follows, newValue, setLine, act, lay, newStep, writeIf, writeRegister, plantTrap, ifLine, change, decide}
 use Rattle.limits.specs.Within.{BoundedTrap, Within, Keeps}
 use Rattle.limits.specs.Parts.{is-6, is-7, is-11, registers-kept, traps-kept, line-kept, centred-kept}
 use Rattle.limits.specs.Numbered.{Numbered, judge-numbered, after-numbered, within-numbered, rows-numbered, units-numbered}
@@ -136,20 +140,34 @@ module _ (p : Printer) where
   if-kept (b ∷ c) l s h =
       fair-of _ (fair-any (holds p (s .page .number) (b ∷ c)) (holds-numbered (s .page .number) (b ∷ c))) (λ v u. fine (follows-kept v l s h))
 
-  -- A request that does not break.
-  pub perform-kept : (r : Unbreaking) (l : List ℕ) (s : State) → Ready s → Fair Within (perform p r l s)
-  unfolding perform
-  perform-kept Pl l s h = fair-of _ (page-fair p (s .page .used) (s .layout .page) (argument 0 l)) (λ n k. fine {a = withLayout (withPageLength n (s .layout)) s} (h .0))
-  perform-kept Po l s h = fair-of _ (setting-fair p 0 120 (s .layout .offset) (argument 0 l)) (λ v k. fine {a = withLayout (withOffset v (s .layout)) s} (h .0))
-  perform-kept Ll l s h = fair-of _ (line-fair p (s .layout .line) (argument 0 l) (h .0 .line)) (λ v k. fine (line-kept s (h .0) v k))
-  perform-kept Ad l s h = fine (h .0)
-  perform-kept Na l s h = fine (h .0)
-  perform-kept Nr l s h =
+  -- A request that changes a table.
+  pub change-kept : (r : TableChange) (l : List ℕ) (s : State) → Ready s → Fair Within (change p r l s)
+  unfolding change
+  change-kept Nr l s h =
       name-kept (nameOf (argument 0 l)) s (writeRegister p (argument 1 l) (argument 2 l) s) (h .0) (λ n. writes-kept (argument 1 l) (argument 2 l) s n (h .0))
-  perform-kept De l s h = name-kept (nameOf (argument 0 l)) s (openText s) (h .0) (λ n. open-kept s h n)
-  perform-kept Rm l s h = name-kept (nameOf (argument 0 l)) s (removeText s) (h .0) (λ n. remove-kept s h (isThere (textOf n (s .tables .texts))) n)
-  perform-kept Wh l s h = plant-kept (argument 0 l) (argument 1 l) s (h .0)
-  perform-kept If l s h = let c = condition l in if-kept (c .part) (c .rest) s h
+  change-kept De l s h = name-kept (nameOf (argument 0 l)) s (openText s) (h .0) (λ n. open-kept s h n)
+  change-kept Rm l s h = name-kept (nameOf (argument 0 l)) s (removeText s) (h .0) (λ n. remove-kept s h (isThere (textOf n (s .tables .texts))) n)
+  change-kept Wh l s h = plant-kept (argument 0 l) (argument 1 l) s (h .0)
+
+  pub decide-kept : (l : List ℕ) (s : State) → Ready s → Fair Within (decide p l s)
+  unfolding decide
+  decide-kept l s h = let c = condition l in if-kept (c .part) (c .rest) s h
+
+  -- A request that sets the layout and does not break.
+  pub lay-kept : (r : PageSetting) (l : List ℕ) (s : State) → Within s → Keeps (lay p r l s)
+  lay-kept Pl l s h = laid-kept s h (fair-of _ (page-fair p (s .page .used) (s .layout .page) (argument 0 l)) (λ n k. fine {a = withPageLength n (s .layout)} h))
+  lay-kept Po l s h = laid-kept s h (fair-of _ (setting-fair p 0 120 (s .layout .offset) (argument 0 l)) (λ v k. fine {a = withOffset v (s .layout)} h))
+  lay-kept Ll l s h = laid-kept s h (fair-of _ (line-fair p (s .layout .line) (argument 0 l) (h .line)) (λ v k. fine (line-kept s h v k)))
+  lay-kept Ad l s h = h
+  lay-kept Na l s h = h
+
+  -- fi, nf, ce, in and ti
+  set-line-kept : (r : LineSetting) (l : List ℕ) (s : State) → Within s → Fair (λ y. Within (withLayout y s)) (setLine p r l (s .layout))
+  set-line-kept Fi l s h = fine {a = withFilling true (s .layout)} h
+  set-line-kept Nf l s h = fine {a = withFilling false (s .layout)} h
+  set-line-kept Ce l s h = fair-of _ (centring-fair p l) (λ n k. fine (centred-kept s h n k))
+  set-line-kept In l s h = fair-of _ (setting-fair p 0 239 (s .layout .indent) l) (λ v k. fine {a = withIndent v (s .layout)} h)
+  set-line-kept Ti l s h = total-fair p s l h
 
   -- A request that breaks, after its break.
   pub act-kept : (r : Breaking) (l : List ℕ) (s : State) → Ready s → Keeps (act p r l s)
@@ -157,8 +175,4 @@ module _ (p : Printer) where
   act-kept Br l s h = h .0
   act-kept Sp l s h = given-kept s (λ n. skip n s) (h .0) (spacing-fair p (argument 0 l)) (λ n u. skip-kept n s (h .0))
   act-kept Bp l s h = eject-kept (s .page .number) s h
-  act-kept Fi l s h = h .0
-  act-kept Nf l s h = h .0
-  act-kept Ce l s h = laid-kept s (h .0) (fair-of _ (centring-fair p (argument 0 l)) (λ n k. fine (centred-kept s (h .0) n k)))
-  act-kept In l s h = laid-kept s (h .0) (fair-of _ (setting-fair p 0 239 (s .layout .indent) (argument 0 l)) (λ v k. fine {a = withIndent v (s .layout)} (h .0)))
-  act-kept Ti l s h = laid-kept s (h .0) (total-fair p s (argument 0 l) (h .0))
+  act-kept (Sets r) l s h = laid-kept s (h .0) (set-line-kept r (argument 0 l) s (h .0))

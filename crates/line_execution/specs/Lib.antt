@@ -1,2 +1,2 @@
-pub mod NoBreakRequests
+pub mod TableSteps
 pub mod ExpandedLines

@@ -81,15 +81,27 @@ fn request(
             );
             state::moved(outcome, status)
         }
-        Request::Keeps(other) => super::no_break_requests::perform(
-            other,
+        Request::Lays(setting) => {
+            let new = composition::no_break_requests::set_page(
+                setting,
+                line,
+                &mut parts,
+                page.used,
+                layout,
+                printer,
+            );
+            let outcome = composition::page_rows::settle(new, layout, page, collected, stack);
+            state::moved(outcome, status)
+        }
+        Request::Changes(change) => super::table_steps::change(
+            change,
             line,
             printer,
             status,
             cells,
             &*row,
-            arena,
-            ends,
+            &*arena,
+            &*ends,
             store,
             text_firsts,
             text_seconds,
@@ -114,7 +126,26 @@ fn request(
                 status.texts,
                 &mut parts,
             );
-            super::no_break_requests::changed(answer, status)
+            super::table_steps::changed(answer, status)
+        }
+        Request::If => {
+            let outcome = composition::no_break_requests::decide(
+                line,
+                printer,
+                layout,
+                page,
+                collected,
+                planted,
+                cells,
+                &*row,
+                stack,
+                arena,
+                ends,
+                &*text_firsts,
+                &*text_seconds,
+                status.texts,
+            );
+            state::moved(outcome, status)
         }
     }
 }

@@ -16,8 +16,8 @@ use settings::layout::Printer;
 use state::Opened;
 use state::Opening;
 use traps::table::Planted;
-ghost use Rattle.rules.specs.Acts.{argument, perform};
-ghost use Rattle.rules.specs.declared.Unbreaking.the-variants.{Nr, Wh, Rm, De};
+ghost use Rattle.rules.specs.Acts.{argument, change};
+ghost use Rattle.rules.specs.declared.TableChange.the-variants.{Nr, Wh, Rm, De};
 ghost use Rattle.requests.specs.Nr.Registers.{AssignsAs};
 ghost use Rattle.requests.specs.Nr.Registers as registers;
 ghost use Rattle.requests.specs.Wh.Traps.{PlantsAs};
@@ -78,7 +78,7 @@ pub fn assign(
     count: usize,
 ) -> Assigned
     requires { ⌜ registers.Ready (now firsts) (now seconds) (now values) (now steps) count printer × Unread (now line) 0 (now parts) 0 ⌝ }
-    ensures { λ r. ⌜ AssignsAs (now (firsts .entry)) (now (seconds .entry)) (now (values .entry)) (now (steps .entry)) count (λ s. perform (printerOf printer) Nr (now (line .entry)) s) r (now (firsts .exit)) (now (seconds .exit)) (now (values .exit)) (now (steps .exit)) ⌝ }
+    ensures { λ r. ⌜ AssignsAs (now (firsts .entry)) (now (seconds .entry)) (now (values .entry)) (now (steps .entry)) count (λ s. change (printerOf printer) Nr (now (line .entry)) s) r (now (firsts .exit)) (now (seconds .exit)) (now (values .exit)) (now (steps .exit)) ⌝ }
 {
     let mut ends = [0u16; ARGUMENT_COUNT];
     let given = scan::arguments::arguments(line, 0, &mut *parts, &mut ends);
@@ -114,7 +114,7 @@ fn plant_parted(
 // wh, by what follows its name.
 pub fn plant(line: &[u8], parts: &mut LineBytes, printer: Printer, planted: Planted) -> Plants
     requires { ⌜ traps.Ready planted printer × Unread (now line) 0 (now parts) 0 ⌝ }
-    ensures { λ r. ⌜ PlantsAs planted (λ s. perform (printerOf printer) Wh (now (line .entry)) s) r ⌝ }
+    ensures { λ r. ⌜ PlantsAs planted (λ s. change (printerOf printer) Wh (now (line .entry)) s) r ⌝ }
 {
     let mut ends = [0u16; ARGUMENT_COUNT];
     let given = scan::arguments::arguments(line, 0, &mut *parts, &mut ends);
@@ -136,7 +136,7 @@ pub fn remove(
     count: usize,
 ) -> Changed
     requires { ⌜ texts.Ready (now store) (now firsts) (now seconds) (now kinds) (now lengths) count stack × Unread (now line) 0 (now parts) 0 ⌝ }
-    ensures { λ r. ⌜ ChangesAs (now (store .entry)) (now (firsts .entry)) (now (seconds .entry)) (now (kinds .entry)) (now (lengths .entry)) count stack (now (frames .entry)) alone (λ s. perform (printerOf printer) Rm (now (line .entry)) s) r (now (store .exit)) (now (firsts .exit)) (now (seconds .exit)) (now (kinds .exit)) (now (lengths .exit)) ⌝ }
+    ensures { λ r. ⌜ ChangesAs (now (store .entry)) (now (firsts .entry)) (now (seconds .entry)) (now (kinds .entry)) (now (lengths .entry)) count stack (now (frames .entry)) alone (λ s. change (printerOf printer) Rm (now (line .entry)) s) r (now (store .exit)) (now (firsts .exit)) (now (seconds .exit)) (now (kinds .exit)) (now (lengths .exit)) ⌝ }
 {
     let mut ends = [0u16; ARGUMENT_COUNT];
     let given = scan::arguments::arguments(line, 0, &mut *parts, &mut ends);
@@ -233,7 +233,7 @@ pub fn open(
     count: usize,
 ) -> Opened
     requires { ⌜ texts.Ready (now store) (now firsts) (now seconds) (now kinds) (now lengths) count stack × Unread (now line) 0 (now parts) 0 ⌝ }
-    ensures { λ r. ⌜ OpensAs (now (store .entry)) (now (firsts .entry)) (now (seconds .entry)) (now (kinds .entry)) (now (lengths .entry)) count stack (now (frames .entry)) (nameOf (argument 0 (now (line .entry)))) (λ s. perform (printerOf printer) De (now (line .entry)) s) (r .changed) (now (store .exit)) (now (firsts .exit)) (now (seconds .exit)) (now (kinds .exit)) (now (lengths .exit)) × OpeningIs (nameOf (argument 0 (now (line .entry)))) (r .changed) opening (r .opening) ⌝ }
+    ensures { λ r. ⌜ OpensAs (now (store .entry)) (now (firsts .entry)) (now (seconds .entry)) (now (kinds .entry)) (now (lengths .entry)) count stack (now (frames .entry)) (nameOf (argument 0 (now (line .entry)))) (λ s. change (printerOf printer) De (now (line .entry)) s) (r .changed) (now (store .exit)) (now (firsts .exit)) (now (seconds .exit)) (now (kinds .exit)) (now (lengths .exit)) × OpeningIs (nameOf (argument 0 (now (line .entry)))) (r .changed) opening (r .opening) ⌝ }
 {
     let mut ends = [0u16; ARGUMENT_COUNT];
     let given = scan::arguments::arguments(line, 0, &mut *parts, &mut ends);

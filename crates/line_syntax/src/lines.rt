@@ -231,8 +231,10 @@ pub fn mode_of(request: Request) -> Mode
 {
     match request {
         Request::Breaks(_) => Mode::Plain,
-        Request::Keeps(_) => Mode::Plain,
+        Request::Lays(_) => Mode::Plain,
+        Request::Changes(_) => Mode::Plain,
         Request::Ds => Mode::Copy,
+        Request::If => Mode::Plain,
     }
 }
 
@@ -247,11 +249,7 @@ pub fn starts_page(period: bool, request: Breaking) -> bool
         Breaking::Br => false,
         Breaking::Sp => true,
         Breaking::Bp => true,
-        Breaking::Fi => false,
-        Breaking::Nf => false,
-        Breaking::Ce => false,
-        Breaking::In => false,
-        Breaking::Ti => false,
+        Breaking::Sets(_) => false,
     }
 }
 
@@ -263,11 +261,7 @@ pub fn acts_after(request: Breaking) -> bool
         Breaking::Br => false,
         Breaking::Sp => true,
         Breaking::Bp => true,
-        Breaking::Fi => true,
-        Breaking::Nf => true,
-        Breaking::Ce => true,
-        Breaking::In => true,
-        Breaking::Ti => true,
+        Breaking::Sets(_) => true,
     }
 }
 
@@ -279,10 +273,6 @@ pub fn held_first(request: Breaking) -> bool
         Breaking::Br => true,
         Breaking::Sp => true,
         Breaking::Bp => false,
-        Breaking::Fi => true,
-        Breaking::Nf => true,
-        Breaking::Ce => true,
-        Breaking::In => true,
-        Breaking::Ti => true,
+        Breaking::Sets(_) => true,
     }
 }

@@ -1,8 +1,10 @@
 // Requests by their names.
 use rules::Breaking;
+use rules::LineSetting;
 use rules::Name;
+use rules::PageSetting;
 use rules::Request;
-use rules::Unbreaking;
+use rules::TableChange;
 ghost use mathlib.Core.Path.{_≡_};
 ghost use mathlib.Core.List.{_∷_, []};
 ghost use Prim.Native.Nat.{_-_};
@@ -33,9 +35,9 @@ fn choose(name: Name, pair: &[u8; 2], request: Request, others: Named) -> Named
 fn page_request(name: Name, others: Named) -> Named
     ensures { λ r. ⌜ requestFrom r ≡ among name (take 6 requests) (requestFrom others) ⌝ }
 {
-    let r = choose(name, b"ll", Request::Keeps(Unbreaking::Ll), others);
-    let r = choose(name, b"po", Request::Keeps(Unbreaking::Po), r);
-    let r = choose(name, b"pl", Request::Keeps(Unbreaking::Pl), r);
+    let r = choose(name, b"ll", Request::Lays(PageSetting::Ll), others);
+    let r = choose(name, b"po", Request::Lays(PageSetting::Po), r);
+    let r = choose(name, b"pl", Request::Lays(PageSetting::Pl), r);
     let r = choose(name, b"bp", Request::Breaks(Breaking::Bp), r);
     let r = choose(name, b"sp", Request::Breaks(Breaking::Sp), r);
     choose(name, b"br", Request::Breaks(Breaking::Br), r)
@@ -44,24 +46,49 @@ fn page_request(name: Name, others: Named) -> Named
 fn line_request(name: Name, others: Named) -> Named
     ensures { λ r. ⌜ requestFrom r ≡ among name (take 7 (drop 6 requests)) (requestFrom others) ⌝ }
 {
-    let r = choose(name, b"ce", Request::Breaks(Breaking::Ce), others);
-    let r = choose(name, b"na", Request::Keeps(Unbreaking::Na), r);
-    let r = choose(name, b"ad", Request::Keeps(Unbreaking::Ad), r);
-    let r = choose(name, b"nf", Request::Breaks(Breaking::Nf), r);
-    let r = choose(name, b"fi", Request::Breaks(Breaking::Fi), r);
-    let r = choose(name, b"ti", Request::Breaks(Breaking::Ti), r);
-    choose(name, b"in", Request::Breaks(Breaking::In), r)
+    let r = choose(
+        name,
+        b"ce",
+        Request::Breaks(Breaking::Sets(LineSetting::Ce)),
+        others,
+    );
+    let r = choose(name, b"na", Request::Lays(PageSetting::Na), r);
+    let r = choose(name, b"ad", Request::Lays(PageSetting::Ad), r);
+    let r = choose(
+        name,
+        b"nf",
+        Request::Breaks(Breaking::Sets(LineSetting::Nf)),
+        r,
+    );
+    let r = choose(
+        name,
+        b"fi",
+        Request::Breaks(Breaking::Sets(LineSetting::Fi)),
+        r,
+    );
+    let r = choose(
+        name,
+        b"ti",
+        Request::Breaks(Breaking::Sets(LineSetting::Ti)),
+        r,
+    );
+    choose(
+        name,
+        b"in",
+        Request::Breaks(Breaking::Sets(LineSetting::In)),
+        r,
+    )
 }
 
 fn text_request(name: Name) -> Named
     ensures { λ r. ⌜ requestFrom r ≡ among name (drop 13 requests) (requestFrom Other) ⌝ }
 {
-    let r = choose(name, b"if", Request::Keeps(Unbreaking::If), Named::Other);
-    let r = choose(name, b"wh", Request::Keeps(Unbreaking::Wh), r);
-    let r = choose(name, b"rm", Request::Keeps(Unbreaking::Rm), r);
-    let r = choose(name, b"de", Request::Keeps(Unbreaking::De), r);
+    let r = choose(name, b"if", Request::If, Named::Other);
+    let r = choose(name, b"wh", Request::Changes(TableChange::Wh), r);
+    let r = choose(name, b"rm", Request::Changes(TableChange::Rm), r);
+    let r = choose(name, b"de", Request::Changes(TableChange::De), r);
     let r = choose(name, b"ds", Request::Ds, r);
-    choose(name, b"nr", Request::Keeps(Unbreaking::Nr), r)
+    choose(name, b"nr", Request::Changes(TableChange::Nr), r)
 }
 
 // The request of a name.

@@ -20,9 +20,13 @@ use Rattle.rules.specs.Settings.{Layout, Setting, set, goBack, changed, 
 use Rattle.rules.specs.LayoutSetters.{withLine, withIndent, withOffset, withPageLength, withTotal, withFilling, withAdjusting, withCentred}
 use Rattle.rules.specs.Traps.{plant, removeTrap}
 use Rattle.rules.specs.declared.Breaking.{Breaking}
-use Rattle.rules.specs.declared.Breaking.the-variants.{Br, Sp, Bp, Fi, Nf, Ce, In, Ti}
-use Rattle.rules.specs.declared.Unbreaking.{Unbreaking}
-use Rattle.rules.specs.declared.Unbreaking.the-variants.{Pl, Po, Ll, Ad, Na, Nr, De, Rm, Wh, If}
+use Rattle.rules.specs.declared.Breaking.the-variants.{Br, Sp, Bp, Sets}
+use Rattle.rules.specs.declared.LineSetting.{LineSetting}
+use Rattle.rules.specs.declared.LineSetting.the-variants.{Fi, Nf, Ce, In, Ti}
+use Rattle.rules.specs.declared.PageSetting.{PageSetting}
+use Rattle.rules.specs.declared.PageSetting.the-variants.{Pl, Po, Ll, Ad, Na}
+use Rattle.rules.specs.declared.TableChange.{TableChange}
+use Rattle.rules.specs.declared.TableChange.the-variants.{Nr, De, Rm, Wh}
 use Rattle.rules.specs.State.{State, again, onStack}
 use Rattle.rules.specs.StateSetters.{withStack, withLayout, withRegisters, withTexts, withOpened, withTraps}
 use Rattle.rules.specs.Rows.{Next, goes, refuses, skip, eject}
@@ -148,16 +152,32 @@ module _ (p : Printer) where
   centring [] = value 1
   centring (b ∷ l) = units (p .pitch) (b ∷ l) >>= λ v. value (countOf v)
 
+  -- fi, nf, ce, in and ti, by their argument
+  abbrev pub setLine : LineSetting → List ℕ → Layout → Judged Layout
+  setLine Fi l y = value (withFilling true y)
+  setLine Nf l y = value (withFilling false y)
+  setLine Ce l y = centring l >>= λ n. value (withCentred n y)
+  setLine In l y = setting indentRange (y .indent) l >>= λ v. value (withIndent v y)
+  setLine Ti l y = indentTotal l y
+
   -- A request that breaks, after its break.
   unfoldable pub act : Breaking → List ℕ → State → Next
   act Br l s = goes s
   act Sp l s = given (spacing (argument 0 l)) s (λ n. skip n s)
   act Bp l s = eject (s .page .number) s
-  act Fi l s = goes (withLayout (withFilling true (s .layout)) s)
-  act Nf l s = goes (withLayout (withFilling false (s .layout)) s)
-  act Ce l s = laidOut (centring (argument 0 l) >>= λ n. value (withCentred n (s .layout))) s
-  act In l s = laidOut (setting indentRange (s .layout .indent) (argument 0 l) >>= λ v. value (withIndent v (s .layout))) s
-  act Ti l s = laidOut (indentTotal (argument 0 l) (s .layout)) s
+  act (Sets r) l s = laidOut (setLine r (argument 0 l) (s .layout)) s
+
+  -- pl, po, ll, ad and na, by their argument; pl looks at the rows used on the page
+  abbrev pub setPage : PageSetting → (used : ℕ) → List ℕ → Layout → Judged Layout
+  setPage Pl u l y = pageLength u (y .page) l >>= λ n. value (withPageLength n y)
+  setPage Po u l y = setting offsetRange (y .offset) l >>= λ v. value (withOffset v y)
+  setPage Ll u l y = setting lineRange (y .line) l >>= λ v. value (withLine v y)
+  setPage Ad u l y = value (withAdjusting true y)
+  setPage Na u l y = value (withAdjusting false y)
+
+  -- A request that sets the layout and does not break.
+  abbrev pub lay : PageSetting → List ℕ → State → Next
+  lay r l s = laidOut (setPage r (s .page .used) (argument 0 l) (s .layout)) s
 
   -- "nr without a step the old step (0 at first)"
   abbrev pub newStep : List ℕ → ℤ → Judged ℤ
@@ -189,15 +209,13 @@ module _ (p : Printer) where
   ifLine [] l s = value s
   ifLine (b ∷ c) l s = holds p (s .page .number) (b ∷ c) >>= λ v. value (follows v l s)
 
-  -- A request that does not break.
-  unfoldable pub perform : Unbreaking → List ℕ → State → Judged State
-  perform Pl l s = pageLength (s .page .used) (s .layout .page) (argument 0 l) >>= λ n. value (withLayout (withPageLength n (s .layout)) s)
-  perform Po l s = setting offsetRange (s .layout .offset) (argument 0 l) >>= λ v. value (withLayout (withOffset v (s .layout)) s)
-  perform Ll l s = setting lineRange (s .layout .line) (argument 0 l) >>= λ v. value (withLayout (withLine v (s .layout)) s)
-  perform Ad l s = value (withLayout (withAdjusting true (s .layout)) s)
-  perform Na l s = value (withLayout (withAdjusting false (s .layout)) s)
-  perform Nr l s = onName (nameOf (argument 0 l)) s (writeRegister (argument 1 l) (argument 2 l) s)
-  perform De l s = onName (nameOf (argument 0 l)) s (openText s)
-  perform Rm l s = onName (nameOf (argument 0 l)) s (removeText s)
-  perform Wh l s = plantTrap (argument 0 l) (argument 1 l) s
-  perform If l s = let c = condition l in ifLine (c .part) (c .rest) s
+  -- A request that changes a table.
+  unfoldable pub change : TableChange → List ℕ → State → Judged State
+  change Nr l s = onName (nameOf (argument 0 l)) s (writeRegister (argument 1 l) (argument 2 l) s)
+  change De l s = onName (nameOf (argument 0 l)) s (openText s)
+  change Rm l s = onName (nameOf (argument 0 l)) s (removeText s)
+  change Wh l s = plantTrap (argument 0 l) (argument 1 l) s
+
+  -- if, by what follows its name
+  unfoldable pub decide : List ℕ → State → Judged State
+  decide l s = let c = condition l in ifLine (c .part) (c .rest) s

@@ -15,13 +15,13 @@ use Rattle.rules.specs.Filling.{Collected}
 use Rattle.rules.specs.declared.Breaking.{Breaking}
 use Rattle.rules.specs.declared.Request.{Request}
 use Rattle.rules.specs.Requests.{requestOf, traits, startsPage, modeOf}
-use Rattle.rules.specs.declared.Request.the-variants.{Breaks, Keeps, Ds}
+use Rattle.rules.specs.declared.Request.the-variants.{Breaks, Lays, Changes, Ds, If}
 use Rattle.rules.specs.State.{State, Line, text, control, ignored, Item, again, acts, Definition, seen}
 use Rattle.rules.specs.StateSetters.{withRegisters, withTexts, withOpened}
 use Rattle.rules.specs.Rows.{Next, goes, refuses, call, break, startPage, heldIf}
 use Rattle.rules.specs.TextLines.{textLine}
 use Rattle.rules.specs.Lines.{lineOf, isClosing}
-use Rattle.rules.specs.Acts.{given, settles, act, perform, defines}
+use Rattle.rules.specs.Acts.{given, settles, act, lay, change, defines, decide}
 
 -- What a control line's name stands for: "User names hide requests"
 pub data Meaning : Type 0 where
@@ -82,8 +82,10 @@ module _ (p : Printer) where
   obey nothing i q n l s = goes s
   obey (calls t) i q n l s = goes (call t (arguments l) [] s)
   obey (requests (Breaks r)) i q n l s = startOrBreak (eqb (s .page .number) 0 && startsPage q r) q r n l s
-  obey (requests (Keeps r)) i q n l s = settles (perform p r l s) s
+  obey (requests (Lays r)) i q n l s = lay p r l s
+  obey (requests (Changes r)) i q n l s = settles (change p r l s) s
   obey (requests Ds) i q n l s = settles (defines i l s) s
+  obey (requests If) i q n l s = settles (decide p l s) s
 
   -- an expanded line
   unfoldable pub dealAgain : Line → State → Next

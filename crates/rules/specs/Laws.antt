@@ -5,6 +5,7 @@ pub mod Refusals
 -- of the parts of the rules, in document 01's order
 pub mod Session
 pub mod Ended
+pub mod Settings
 pub mod Numbers
 pub mod Registers
 pub mod Texts

@@ -9,10 +9,12 @@ use Rattle.rules.specs.declared.Name.{Name}
 use Rattle.rules.specs.declared.Mode.{Mode}
 use Rattle.rules.specs.declared.Mode.the-variants.{Plain, Copy}
 use Rattle.rules.specs.declared.Breaking.{Breaking}
-use Rattle.rules.specs.declared.Breaking.the-variants.{Br, Sp, Bp, Fi, Nf, Ce, In, Ti}
-use Rattle.rules.specs.declared.Unbreaking.the-variants.{Pl, Po, Ll, Ad, Na, Nr, De, Rm, Wh, If}
+use Rattle.rules.specs.declared.Breaking.the-variants.{Br, Sp, Bp, Sets}
+use Rattle.rules.specs.declared.LineSetting.the-variants.{Fi, Nf, Ce, In, Ti}
+use Rattle.rules.specs.declared.PageSetting.the-variants.{Pl, Po, Ll, Ad, Na}
+use Rattle.rules.specs.declared.TableChange.the-variants.{Nr, De, Rm, Wh}
 use Rattle.rules.specs.declared.Request.{Request}
-use Rattle.rules.specs.declared.Request.the-variants.{Breaks, Keeps, Ds}
+use Rattle.rules.specs.declared.Request.the-variants.{Breaks, Lays, Changes, Ds, If}
 
 -- a request and its name
 abbrev pub is : Char → Char → Request → Name × Request
@@ -21,10 +23,11 @@ is a b r = (twoBytes (byte a) (byte b), r)
 -- "Requests: br sp bp pl po ll in ti fi nf ad na ce nr ds de rm wh if"; "br sp bp fi nf ce in ti break"
 abbrev pub requests : List (Name × Request)
 requests =
-    is "b" "r" (Breaks Br) ∷ is "s" "p" (Breaks Sp) ∷ is "b" "p" (Breaks Bp) ∷ is "p" "l" (Keeps Pl) ∷ is "p" "o" (Keeps Po)
-    ∷ is "l" "l" (Keeps Ll) ∷ is "i" "n" (Breaks In) ∷ is "t" "i" (Breaks Ti) ∷ is "f" "i" (Breaks Fi) ∷ is "n" "f" (Breaks Nf)
-    ∷ is "a" "d" (Keeps Ad) ∷ is "n" "a" (Keeps Na) ∷ is "c" "e" (Breaks Ce) ∷ is "n" "r" (Keeps Nr) ∷ is "d" "s" Ds
-    ∷ is "d" "e" (Keeps De) ∷ is "r" "m" (Keeps Rm) ∷ is "w" "h" (Keeps Wh) ∷ is "i" "f" (Keeps If) ∷ []
+    is "b" "r" (Breaks Br) ∷ is "s" "p" (Breaks Sp) ∷ is "b" "p" (Breaks Bp) ∷ is "p" "l" (Lays Pl) ∷ is "p" "o" (Lays Po)
+    ∷ is "l" "l" (Lays Ll) ∷ is "i" "n" (Breaks (Sets In)) ∷ is "t" "i" (Breaks (Sets Ti)) ∷ is "f" "i" (Breaks (Sets Fi))
+    ∷ is "n" "f" (Breaks (Sets Nf)) ∷ is "a" "d" (Lays Ad) ∷ is "n" "a" (Lays Na) ∷ is "c" "e" (Breaks (Sets Ce))
+    ∷ is "n" "r" (Changes Nr) ∷ is "d" "s" Ds ∷ is "d" "e" (Changes De) ∷ is "r" "m" (Changes Rm) ∷ is "w" "h" (Changes Wh)
+    ∷ is "i" "f" If ∷ []
 
 -- the request of a name, if it names one
 unfoldable pub requestOf : Name → Option Request
@@ -45,11 +48,7 @@ abbrev pub traits : Breaking → Traits
 traits Br = record { starts = false; acts = false; again = true }
 traits Sp = record { starts = true; acts = true; again = true }
 traits Bp = record { starts = true; acts = true; again = false }
-traits Fi = record { starts = false; acts = true; again = true }
-traits Nf = record { starts = false; acts = true; again = true }
-traits Ce = record { starts = false; acts = true; again = true }
-traits In = record { starts = false; acts = true; again = true }
-traits Ti = record { starts = false; acts = true; again = true }
+traits (Sets r) = record { starts = false; acts = true; again = true }
 
 -- "The first page starts at the first text line, break, sp or bp": a break is a breaking request called with a period
 abbrev pub startsPage : (period : Bool) → Breaking → Bool
@@ -58,5 +57,7 @@ startsPage period r = period || traits r .starts
 -- "ds lines, are in copy mode"
 abbrev pub modeOf : Request → Mode
 modeOf (Breaks r) = Plain
-modeOf (Keeps r) = Plain
+modeOf (Lays r) = Plain
+modeOf (Changes r) = Plain
 modeOf Ds = Copy
+modeOf If = Plain

@@ -66,11 +66,8 @@ pub enum Mode {
     Copy,
 }
 
-// The requests that break.
-pub enum Breaking {
-    Br,
-    Sp,
-    Bp,
+// The requests that break and then set the layout.
+pub enum LineSetting {
     Fi,
     Nf,
     Ce,
@@ -78,23 +75,36 @@ pub enum Breaking {
     Ti,
 }
 
-// The requests that do not break, save ds.
-pub enum Unbreaking {
+// The requests that break.
+pub enum Breaking {
+    Br,
+    Sp,
+    Bp,
+    Sets(LineSetting),
+}
+
+// The requests that set the layout and do not break.
+pub enum PageSetting {
     Pl,
     Po,
     Ll,
     Ad,
     Na,
+}
+
+// The requests that change a table, by their arguments.
+pub enum TableChange {
     Nr,
     De,
     Rm,
     Wh,
-    If,
 }
 
-// Any request. ds stands apart, as its line is read in copy mode.
+// Any request, by its kind. ds and if stand alone: what follows their names is not parted into arguments.
 pub enum Request {
     Breaks(Breaking),
-    Keeps(Unbreaking),
+    Lays(PageSetting),
+    Changes(TableChange),
     Ds,
+    If,
 }

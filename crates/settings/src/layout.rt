@@ -1,4 +1,6 @@
 // The layout: all settings in force, and the printer.
+use super::lengths::Length;
+use super::lengths::NewSetting;
 use super::lengths::Setting;
 use measure::Cells;
 use measure::Pitch;
@@ -11,7 +13,8 @@ ghost use Rattle.rules.specs.Acts.{spacing as spacingOf};
 ghost use Rattle.rules.specs.Filling.{indentNow, begun as begunOf};
 ghost use Rattle.rules.specs.TextLines.{asItStands, counted as countedOf};
 ghost use Rattle.number.specs.Scales.Rounded.{downOf as roundedOf};
-ghost use Rattle.settings.specs.Layout.Layouts.{printerOf, TenToTheInch, SoundPrinter, totalOf, layoutOf, Limits, Laid, Room};
+ghost use Rattle.settings.specs.Lengths.Views.{settingOf};
+ghost use Rattle.settings.specs.Layout.Layouts.{printerOf, TenToTheInch, SoundPrinter, totalOf, layoutOf, lengthOf, withLength, setLength, newLayoutIs, Limits, Laid, Room};
 
 // What a session is told of its printer: the pitch, the cells of the starting line and the rows of the starting page.
 pub struct Printer {
@@ -101,6 +104,46 @@ pub fn with_centred(layout: Layout, centred: u32) -> Layout
     let mut new = layout;
     new.centred = centred;
     new
+}
+
+// One of the three lengths in cells.
+fn length_of(layout: Layout, which: Length) -> Setting
+    ensures { λ r. ⌜ settingOf r ≡ lengthOf which (layoutOf layout) ⌝ }
+{
+    let line = layout.line;
+    let indent = layout.indent;
+    let offset = layout.offset;
+    match which {
+        Length::Line => line,
+        Length::Indent => indent,
+        Length::Offset => offset,
+    }
+}
+
+// One of the three lengths in cells set anew.
+fn with_length(layout: Layout, which: Length, setting: Setting) -> Layout
+    ensures { λ r. ⌜ layoutOf r ≡ withLength which (settingOf setting) (layoutOf layout) ⌝ }
+{
+    let mut new = layout;
+    match which {
+        Length::Line => new.line = setting,
+        Length::Indent => new.indent = setting,
+        Length::Offset => new.offset = setting,
+    }
+    new
+}
+
+// ll, in and po.
+pub fn set_length(which: Length, layout: Layout, argument: &[u8], printer: Printer) -> NewLayout
+    requires { ⌜ SoundPrinter printer ⌝ }
+    ensures { λ r. ⌜ newLayoutIs r ≡ setLength (printerOf printer) which (now (argument .entry)) (layoutOf layout) ⌝ }
+{
+    let old = length_of(layout, which);
+    match super::lengths::set_length(which, old, argument, printer.pitch) {
+        NewSetting::Is(setting) => NewLayout::Is(with_length(layout, which, setting)),
+        NewSetting::Malformed => NewLayout::Malformed,
+        NewSetting::OutOfRange => NewLayout::OutOfRange,
+    }
 }
 
 // The rows that an sp asks for, 1 where its argument is missing.

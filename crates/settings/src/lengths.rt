@@ -8,14 +8,21 @@ ghost use mathlib.Core.Path.{_≡_};
 ghost use Rattle.measure.specs.Pitches.{Sized};
 ghost use Rattle.measure.specs.Counts.{acrossOf, downOf};
 ghost use Rattle.rules.specs.Numbers.{signed};
-ghost use Rattle.rules.specs.Settings.{inRange, lineRange, indentRange, offsetRange, pageRange, changed as changedOf};
-ghost use Rattle.settings.specs.Lengths.Views.{countIs, settingOf, newSettingIs, settingIn, newRowsIs, pageLengthIn, newTotalIs, totalIn};
+ghost use Rattle.rules.specs.Settings.{inRange, pageRange, changed as changedOf};
+ghost use Rattle.settings.specs.Lengths.Views.{countIs, settingOf, newSettingIs, rangeOf, settingIn, newRowsIs, pageLengthIn, newTotalIs, totalIn};
 ghost use Rattle.rules.specs.Refusals.{value};
 
 // A setting, and the value before the last setting.
 pub struct Setting {
     pub now: Cells,
     pub former: Cells,
+}
+
+// The lengths that are set in cells, each with the value before the last setting: ll, in and po.
+pub enum Length {
+    Line,
+    Indent,
+    Offset,
 }
 
 // A new setting, or why there is none: the number is malformed, or the value is out of range.
@@ -109,28 +116,16 @@ fn set(old: Setting, argument: &[u8], pitch: Pitch, low: u16, high: u16) -> NewS
     }
 }
 
-// ll: "1 to 240 cells"
-pub fn line_length(old: Setting, argument: &[u8], pitch: Pitch) -> NewSetting
+// One of the three lengths: "ll 1 to 240 cells, in .. 0 to 239, po 0 to 120".
+pub fn set_length(which: Length, old: Setting, argument: &[u8], pitch: Pitch) -> NewSetting
     requires { ⌜ Sized pitch ⌝ }
-    ensures { λ r. ⌜ newSettingIs r ≡ settingIn pitch lineRange (settingOf old) (now (argument .entry)) ⌝ }
+    ensures { λ r. ⌜ newSettingIs r ≡ settingIn pitch (rangeOf which) (settingOf old) (now (argument .entry)) ⌝ }
 {
-    set(old, argument, pitch, 1, 240)
-}
-
-// in: "0 to 239"
-pub fn indent(old: Setting, argument: &[u8], pitch: Pitch) -> NewSetting
-    requires { ⌜ Sized pitch ⌝ }
-    ensures { λ r. ⌜ newSettingIs r ≡ settingIn pitch indentRange (settingOf old) (now (argument .entry)) ⌝ }
-{
-    set(old, argument, pitch, 0, 239)
-}
-
-// po: "0 to 120"
-pub fn page_offset(old: Setting, argument: &[u8], pitch: Pitch) -> NewSetting
-    requires { ⌜ Sized pitch ⌝ }
-    ensures { λ r. ⌜ newSettingIs r ≡ settingIn pitch offsetRange (settingOf old) (now (argument .entry)) ⌝ }
-{
-    set(old, argument, pitch, 0, 120)
+    match which {
+        Length::Line => set(old, argument, pitch, 1, 240),
+        Length::Indent => set(old, argument, pitch, 0, 239),
+        Length::Offset => set(old, argument, pitch, 0, 120),
+    }
 }
 
 // "pl 1 to 500 rows and above the rows already used on the page"

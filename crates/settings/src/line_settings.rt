@@ -3,14 +3,14 @@ use super::layout::Layout;
 use super::layout::NewLayout;
 use super::layout::Printer;
 use super::layout::Total;
-use super::lengths::NewSetting;
+use super::lengths::Length;
 use super::lengths::NewTotal;
 use number::arithmetic::Value;
-use rules::Breaking;
+use rules::LineSetting;
 ghost use mathlib.Core.Path.{_≡_};
 ghost use Rattle.settings.specs.Lengths.Views.{printer};
-ghost use Rattle.rules.specs.Acts.{countOf};
-ghost use Rattle.settings.specs.Layout.Layouts.{printerOf, SoundPrinter, layoutOf, newLayoutIs, Ready, actedOf, Acted};
+ghost use Rattle.rules.specs.Acts.{countOf, setLine};
+ghost use Rattle.settings.specs.Layout.Layouts.{printerOf, SoundPrinter, layoutOf, newLayoutIs, Ready, LineSet};
 
 // ce: "n of 0 or less ends centring"
 fn count_of(n: i32) -> u32
@@ -25,7 +25,7 @@ fn count_of(n: i32) -> u32
 // ce, 1 where its argument is missing.
 fn centre(layout: Layout, argument: &[u8], printer: Printer) -> NewLayout
     requires { ⌜ SoundPrinter printer ⌝ }
-    ensures { λ r. ⌜ newLayoutIs r ≡ actedOf (printerOf printer) Breaking.Ce (now (argument .entry)) (layoutOf layout) ⌝ }
+    ensures { λ r. ⌜ newLayoutIs r ≡ setLine (printerOf printer) LineSetting.Ce (now (argument .entry)) (layoutOf layout) ⌝ }
 {
     if argument.len() == 0 {
         return NewLayout::Is(super::layout::with_centred(layout, 1));
@@ -36,26 +36,10 @@ fn centre(layout: Layout, argument: &[u8], printer: Printer) -> NewLayout
     }
 }
 
-// in.
-fn set_indent(layout: Layout, argument: &[u8], printer: Printer) -> NewLayout
-    requires { ⌜ SoundPrinter printer ⌝ }
-    ensures { λ r. ⌜ newLayoutIs r ≡ actedOf (printerOf printer) Breaking.In (now (argument .entry)) (layoutOf layout) ⌝ }
-{
-    match super::lengths::indent(layout.indent, argument, printer.pitch) {
-        NewSetting::Is(setting) => {
-            let mut new = layout;
-            new.indent = setting;
-            NewLayout::Is(new)
-        }
-        NewSetting::Malformed => NewLayout::Malformed,
-        NewSetting::OutOfRange => NewLayout::OutOfRange,
-    }
-}
-
 // ti: without an argument it does nothing.
 fn set_total(layout: Layout, argument: &[u8], printer: Printer) -> NewLayout
     requires { ⌜ SoundPrinter printer ⌝ }
-    ensures { λ r. ⌜ newLayoutIs r ≡ actedOf (printerOf printer) Breaking.Ti (now (argument .entry)) (layoutOf layout) ⌝ }
+    ensures { λ r. ⌜ newLayoutIs r ≡ setLine (printerOf printer) LineSetting.Ti (now (argument .entry)) (layoutOf layout) ⌝ }
 {
     if argument.len() == 0 {
         return NewLayout::Is(layout);
@@ -67,19 +51,21 @@ fn set_total(layout: Layout, argument: &[u8], printer: Printer) -> NewLayout
     }
 }
 
-// What a request that breaks makes of the layout, after its break; br, sp and bp leave it.
-pub fn act(request: Breaking, layout: Layout, argument: &[u8], printer: Printer) -> NewLayout
+// What a request makes of the layout after its break.
+pub fn set_line(
+    request: LineSetting,
+    layout: Layout,
+    argument: &[u8],
+    printer: Printer,
+) -> NewLayout
     requires { ⌜ Ready printer layout ⌝ }
-    ensures { λ r. ⌜ Acted printer request layout (now (argument .entry)) r ⌝ }
+    ensures { λ r. ⌜ LineSet printer request layout (now (argument .entry)) r ⌝ }
 {
     match request {
-        Breaking::Br => NewLayout::Is(layout),
-        Breaking::Sp => NewLayout::Is(layout),
-        Breaking::Bp => NewLayout::Is(layout),
-        Breaking::Fi => NewLayout::Is(super::layout::with_filling(layout, true)),
-        Breaking::Nf => NewLayout::Is(super::layout::with_filling(layout, false)),
-        Breaking::Ce => centre(layout, argument, printer),
-        Breaking::In => set_indent(layout, argument, printer),
-        Breaking::Ti => set_total(layout, argument, printer),
+        LineSetting::Fi => NewLayout::Is(super::layout::with_filling(layout, true)),
+        LineSetting::Nf => NewLayout::Is(super::layout::with_filling(layout, false)),
+        LineSetting::Ce => centre(layout, argument, printer),
+        LineSetting::In => super::layout::set_length(Length::Indent, layout, argument, printer),
+        LineSetting::Ti => set_total(layout, argument, printer),
     }
 }

@@ -3,15 +3,15 @@ use super::layout::Layout;
 use super::layout::NewLayout;
 use super::layout::Printer;
 use super::lengths::Count;
+use super::lengths::Length;
 use super::lengths::NewRows;
-use super::lengths::NewSetting;
 use measure::Rows;
-use rules::Unbreaking;
+use rules::PageSetting;
 ghost use mathlib.Core.Path.{_≡_};
 ghost use Rattle.measure.specs.Counts.{downOf};
 ghost use Rattle.settings.specs.Lengths.Views.{countIs, newRowsIs, printer};
-ghost use Rattle.rules.specs.Acts.{pageLength};
-ghost use Rattle.settings.specs.Layout.Layouts.{printerOf, SoundPrinter, layoutOf, newLayoutIs, Ready, performedOf, Performed};
+ghost use Rattle.rules.specs.Acts.{pageLength, setPage};
+ghost use Rattle.settings.specs.Layout.Layouts.{printerOf, SoundPrinter, layoutOf, newLayoutIs, Ready, PageSet};
 
 // A count as a page length.
 fn rows_from(count: Count) -> NewRows
@@ -36,9 +36,9 @@ fn new_page(used: Rows, old: Rows, argument: &[u8], printer: Printer) -> NewRows
 }
 
 // pl.
-fn set_page(layout: Layout, used: Rows, argument: &[u8], printer: Printer) -> NewLayout
+fn set_page_length(layout: Layout, used: Rows, argument: &[u8], printer: Printer) -> NewLayout
     requires { ⌜ SoundPrinter printer ⌝ }
-    ensures { λ r. ⌜ newLayoutIs r ≡ performedOf (printerOf printer) Unbreaking.Pl (downOf used) (now (argument .entry)) (layoutOf layout) ⌝ }
+    ensures { λ r. ⌜ newLayoutIs r ≡ setPage (printerOf printer) PageSetting.Pl (downOf used) (now (argument .entry)) (layoutOf layout) ⌝ }
 {
     match new_page(used, layout.page, argument, printer) {
         NewRows::Is(rows) => {
@@ -51,59 +51,22 @@ fn set_page(layout: Layout, used: Rows, argument: &[u8], printer: Printer) -> Ne
     }
 }
 
-// po. The rows used do not matter to it.
-fn set_offset(layout: Layout, argument: &[u8], printer: Printer) -> NewLayout
-    requires { ⌜ SoundPrinter printer ⌝ }
-    ensures { λ r. ⌜ newLayoutIs r ≡ performedOf (printerOf printer) Unbreaking.Po 0 (now (argument .entry)) (layoutOf layout) ⌝ }
-{
-    match super::lengths::page_offset(layout.offset, argument, printer.pitch) {
-        NewSetting::Is(setting) => {
-            let mut new = layout;
-            new.offset = setting;
-            NewLayout::Is(new)
-        }
-        NewSetting::Malformed => NewLayout::Malformed,
-        NewSetting::OutOfRange => NewLayout::OutOfRange,
-    }
-}
-
-// ll. The rows used do not matter to it.
-fn set_line(layout: Layout, argument: &[u8], printer: Printer) -> NewLayout
-    requires { ⌜ SoundPrinter printer ⌝ }
-    ensures { λ r. ⌜ newLayoutIs r ≡ performedOf (printerOf printer) Unbreaking.Ll 0 (now (argument .entry)) (layoutOf layout) ⌝ }
-{
-    match super::lengths::line_length(layout.line, argument, printer.pitch) {
-        NewSetting::Is(setting) => {
-            let mut new = layout;
-            new.line = setting;
-            NewLayout::Is(new)
-        }
-        NewSetting::Malformed => NewLayout::Malformed,
-        NewSetting::OutOfRange => NewLayout::OutOfRange,
-    }
-}
-
-// What a request that does not break makes of the layout; nr, de, rm, wh and if leave it.
-pub fn perform(
-    request: Unbreaking,
+// What a request that does not break makes of the layout.
+pub fn set_page(
+    request: PageSetting,
     layout: Layout,
     used: Rows,
     argument: &[u8],
     printer: Printer,
 ) -> NewLayout
     requires { ⌜ Ready printer layout ⌝ }
-    ensures { λ r. ⌜ Performed printer request layout (downOf used) (now (argument .entry)) r ⌝ }
+    ensures { λ r. ⌜ PageSet printer request layout (downOf used) (now (argument .entry)) r ⌝ }
 {
     match request {
-        Unbreaking::Pl => set_page(layout, used, argument, printer),
-        Unbreaking::Po => set_offset(layout, argument, printer),
-        Unbreaking::Ll => set_line(layout, argument, printer),
-        Unbreaking::Ad => NewLayout::Is(super::layout::with_adjusting(layout, true)),
-        Unbreaking::Na => NewLayout::Is(super::layout::with_adjusting(layout, false)),
-        Unbreaking::Nr => NewLayout::Is(layout),
-        Unbreaking::De => NewLayout::Is(layout),
-        Unbreaking::Rm => NewLayout::Is(layout),
-        Unbreaking::Wh => NewLayout::Is(layout),
-        Unbreaking::If => NewLayout::Is(layout),
+        PageSetting::Pl => set_page_length(layout, used, argument, printer),
+        PageSetting::Po => super::layout::set_length(Length::Offset, layout, argument, printer),
+        PageSetting::Ll => super::layout::set_length(Length::Line, layout, argument, printer),
+        PageSetting::Ad => NewLayout::Is(super::layout::with_adjusting(layout, true)),
+        PageSetting::Na => NewLayout::Is(super::layout::with_adjusting(layout, false)),
     }
 }

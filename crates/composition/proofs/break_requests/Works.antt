@@ -2,67 +2,36 @@
 use mathlib.Core.Path.{_≡_, refl, sym, ap, _∙_}
 use mathlib.Core.Bool.{Bool, true, false, _&&_, false≢true}
 use mathlib.Core.List.{List}
-use Prim.Native.Nat.{ℕ, _≤_}
+use Prim.Native.Nat.{ℕ, _<_}
 use native.Mathlib.Omega.{arith}
 use lib.IntN.{ℤ}
-use lib.ListN.{length}
-use Rattle.measure.specs.Counts.{acrossOf}
+use Rattle.measure.specs.Counts.{acrossOf, downOf}
 use Rattle.rules.specs.declared.Name.{Name}
 use Rattle.rules.specs.declared.Trap.{Trap}
 use Rattle.rules.specs.declared.Breaking.{Breaking}
+use Rattle.rules.specs.declared.LineSetting.{LineSetting}
 use Rattle.rules.specs.Printers as printers
 use Rattle.rules.specs.Refusals.{Judged, value, bad}
-use Rattle.rules.specs.Settings as rule
+use Rattle.rules.specs.Laws.Refusals.{Every, every-map}
 use Rattle.rules.specs.Texts.{Text}
 use Rattle.rules.specs.State.{State, Item}
 use Rattle.rules.specs.Rows.{goes, refuses, skip, startPage, break}
-use Rattle.rules.specs.Acts.{given, laidOut, spacing, act}
+use Rattle.rules.specs.Acts.{given, spacing, act}
 use Rattle.rules.specs.ControlLines.{startOrBreak, breakOrAct}
-use Rattle.texts.specs.Table.Table.{textsOf}
 use Rattle.traps.specs.declared.table.Planted.{Planted}
-use Rattle.traps.specs.Table.Table.{plantedOf}
 use Rattle.fill.specs.Collected.Filled.{lineOf}
 use Rattle.settings.specs.declared.layout.Printer.{Printer}
 use Rattle.settings.specs.declared.layout.NewLayout.{NewLayout}
-use Rattle.settings.specs.declared.layout.NewLayout.the-variants as new-layout
-use Rattle.settings.specs.Layout.Layouts.{printerOf, actedOf, Acted}
-use Rattle.settings.specs.Layout.LayoutLaws.{of-new}
+use Rattle.settings.specs.Layout.Layouts.{newLayoutIs, LineSet}
 use Rattle.page.specs.Springs.Held.{heldOf}
-use Rattle.page.proofs.springs.Stacks.{fits-few}
-use Rattle.composition.specs.PageRows.Desk.{Desk, desk, collectedIf, stateAt, Sound, Worked, settledBy}
-use Rattle.composition.specs.declared.break_requests.Work.{Work}
-use Rattle.composition.specs.BreakRequests.Acting.{workOf, spaces, actBy}
+use Rattle.composition.specs.PageRows.Desk.{Desk, collectedIf, stateAt, Sound}
+use Rattle.composition.specs.BreakRequests.Acting.{spaces}
 use Rattle.composition.specs.BreakRequests.Obeying.{heldLine, heldRequest, startsFirst, obeyed, line-held, request-held}
 
-module _ (fs ss : List ℕ) (n : ℕ) (planted : Planted) (d : Desk) (row : List ℕ) (s : Sound planted d) (few : d .stack .depth ≤ 16) (long : length row ≡ 872) where
-  -- a new layout is taken, or its refusal closes
-  pub lays : (p : Printer) (q : Breaking) (a : List ℕ) (new : NewLayout) → Acted p q (d .layout) a new
-      → let r = settledBy new (d .layout) (d .page) (d .collected) (d .stack) in
-      Worked (λ ts x. laidOut (actedOf (printerOf p) q a (x .layout)) x) fs ss n planted d (r .way) (r .written) (desk (r .layout) (r .page) (r .collected) (d .cells) (r .stack) (d .arena) (d .ends)) row
-  lays p q a (new-layout.Is y) h = record {
-    is = λ st ks ls i x. ap (λ (j : Judged rule.Layout). laidOut j (stateAt (textsOf st fs ss ks ls n) (plantedOf planted) d x)) (h .is);
-    good = λ st ks ls i k. k;
-    sound = record { limits = of-new (new-layout.Is y) y (h .limits) refl; above = omega (arith, s .above, of-new (new-layout.Is y) y (h .page) refl); numbered = s .numbered; few = s .few; line = s .line; indent = s .indent; next = s .next; columns = s .columns };
-    fits = fits-few (d .stack) (d .ends) few;
-    few = omega arith;
-    long = long;
-  }
-  lays p q a new-layout.Malformed h = record {
-    is = λ st ks ls i x. ap (λ (j : Judged rule.Layout). laidOut j (stateAt (textsOf st fs ss ks ls n) (plantedOf planted) d x)) (h .is);
-    good = λ st ks ls i k. k;
-    sound = s;
-    fits = fits-few (d .stack) (d .ends) few;
-    few = omega arith;
-    long = long;
-  }
-  lays p q a new-layout.OutOfRange h = record {
-    is = λ st ks ls i x. ap (λ (j : Judged rule.Layout). laidOut j (stateAt (textsOf st fs ss ks ls n) (plantedOf planted) d x)) (h .is);
-    good = λ st ks ls i k. k;
-    sound = s;
-    fits = fits-few (d .stack) (d .ends) few;
-    few = omega arith;
-    long = long;
-  }
+-- a new layout has the page length that it had
+pub page-above : (p : Printer) (q : LineSetting) (planted : Planted) (d : Desk) (a : List ℕ) (new : NewLayout) → Sound planted d → LineSet p q (d .layout) a new
+    → Every (λ y. downOf (d .page .used) < y .page) (newLayoutIs new)
+page-above p q planted d a new s h = every-map (h .page) (λ y e. omega (arith, s .above, e))
 
 -- sp of a number, and of a malformed one
 pub spaced-by : (p : printers.Printer) (a : List ℕ) (z : ℤ) (s : State) → value z ≡ spacing p a → skip z s ≡ spaces p a s
@@ -70,10 +39,6 @@ spaced-by p a z s e = ap (λ (j : Judged ℤ). given j s (λ n. skip n s)) e
 
 pub space-refused : (p : printers.Printer) (a : List ℕ) (s : State) → bad 6 ≡ spacing p a → refuses 6 s ≡ spaces p a s
 space-refused p a s e = ap (λ (j : Judged ℤ). given j s (λ n. skip n s)) e
-
--- what a request has to do is known
-pub work-known : (w : Work) (p : printers.Printer) (q : Breaking) (a : List ℕ) (s : State) → workOf q ≡ w → actBy w p q a s ≡ actBy (workOf q) p q a s
-work-known w p q a s e = ap (λ (v : Work). actBy v p q a s) (sym e)
 
 module _ (p : printers.Printer) (r : Breaking) (l : List ℕ) (d : Desk) (ps : List Trap) (ts : List Text) (x : State) where
   -- by whether there is a period and a line is collected

@@ -7,33 +7,38 @@ use native.Mathlib.Omega.{arith}
 use lib.Dec.{eqb}
 use Rattle.rules.specs.declared.Name.{Name}
 use Rattle.rules.specs.declared.Breaking.{Breaking}
-use Rattle.rules.specs.declared.Breaking.the-variants.{Br, Sp, Bp, Fi, Nf, Ce, In, Ti}
+use Rattle.rules.specs.declared.Breaking.the-variants.{Br, Sp, Bp, Sets}
+use Rattle.rules.specs.declared.LineSetting.{LineSetting}
+use Rattle.rules.specs.declared.LineSetting.the-variants.{Fi, Nf, Ce, In, Ti}
 use Rattle.rules.specs.Names.{twoBytes}
 use Rattle.input_stack.specs.declared.frames.What.{What}
 use Rattle.input_stack.specs.declared.frames.What.the-variants.{Reading, Text, Control, Ignored, Others, Acts, Ejects}
 use Rattle.input_stack.specs.declared.frames.Words.{Words}
 
 -- the number by which a request is held
+abbrev pub settingNumber : LineSetting → ℕ
+settingNumber Fi = 3
+settingNumber Nf = 4
+settingNumber Ce = 5
+settingNumber In = 6
+settingNumber Ti = 7
+
 abbrev pub numberOf : Breaking → ℕ
 numberOf Br = 0
 numberOf Sp = 1
 numberOf Bp = 2
-numberOf Fi = 3
-numberOf Nf = 4
-numberOf Ce = 5
-numberOf In = 6
-numberOf Ti = 7
+numberOf (Sets r) = settingNumber r
 
 -- the request of a number; a number that is none of theirs counts as the last
 abbrev pub requestOf : ℕ → Breaking
 requestOf zero = Br
 requestOf (suc zero) = Sp
 requestOf (suc (suc zero)) = Bp
-requestOf (suc (suc (suc zero))) = Fi
-requestOf (suc (suc (suc (suc zero)))) = Nf
-requestOf (suc (suc (suc (suc (suc zero))))) = Ce
-requestOf (suc (suc (suc (suc (suc (suc zero)))))) = In
-requestOf (suc (suc (suc (suc (suc (suc (suc n))))))) = Ti
+requestOf (suc (suc (suc zero))) = Sets Fi
+requestOf (suc (suc (suc (suc zero)))) = Sets Nf
+requestOf (suc (suc (suc (suc (suc zero))))) = Sets Ce
+requestOf (suc (suc (suc (suc (suc (suc zero)))))) = Sets In
+requestOf (suc (suc (suc (suc (suc (suc (suc n))))))) = Sets Ti
 
 -- a name in a word
 abbrev pub nameWord : Name → ℕ
@@ -108,7 +113,7 @@ unfolding whatOf
 what-rest a b c p q r t u v = by-rest (a % 256) (a / 256) b c p q r t u v
 
 -- Any other number is the last request.
-pub request-rest : (n : ℕ) → n ≢ 0 → n ≢ 1 → n ≢ 2 → n ≢ 3 → n ≢ 4 → n ≢ 5 → n ≢ 6 → requestOf n ≡ Ti
+pub request-rest : (n : ℕ) → n ≢ 0 → n ≢ 1 → n ≢ 2 → n ≢ 3 → n ≢ 4 → n ≢ 5 → n ≢ 6 → requestOf n ≡ Sets Ti
 request-rest zero p q r s t u v = absurd (p refl)
 request-rest (suc zero) p q r s t u v = absurd (q refl)
 request-rest (suc (suc zero)) p q r s t u v = absurd (r refl)
@@ -129,11 +134,11 @@ pub request-back : (r : Breaking) → requestOf (numberOf r) ≡ r
 request-back Br = refl
 request-back Sp = refl
 request-back Bp = refl
-request-back Fi = refl
-request-back Nf = refl
-request-back Ce = refl
-request-back In = refl
-request-back Ti = refl
+request-back (Sets Fi) = refl
+request-back (Sets Nf) = refl
+request-back (Sets Ce) = refl
+request-back (Sets In) = refl
+request-back (Sets Ti) = refl
 
 -- the name of an item has a second byte
 abbrev pub Named : What → Type 0

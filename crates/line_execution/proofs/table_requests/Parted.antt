@@ -11,8 +11,8 @@ use Rattle.state.specs.declared.Opened.{Opened}
 use Rattle.state.specs.WholeLaws.{OpeningIs}
 use Rattle.rules.specs.State.{State}
 use Rattle.rules.specs.StateSetters.{withRegisters, withTraps}
-use Rattle.rules.specs.Acts.{argument, perform, plantTrap}
-use Rattle.rules.specs.declared.Unbreaking.the-variants.{Nr, Wh, Rm, De}
+use Rattle.rules.specs.Acts.{argument, change, plantTrap}
+use Rattle.rules.specs.declared.TableChange.the-variants.{Nr, Wh, Rm, De}
 use Rattle.registers.specs.Table.Columns.{tableOf}
 use Rattle.texts.specs.Table.Table.{textsOf}
 use Rattle.traps.specs.declared.table.Planted.{Planted}
@@ -61,24 +61,24 @@ module _ (q : Printer) (line : List ℕ) (count : ℕ) (out ends : List ℕ) (p 
   abbrev given : ℕ → List ℕ
   given k = getD (argumentsOf out ends count) k []
 
-  pub assigns-line : assigns q (given 0) (given 1) (given 2) s ≡ perform (printerOf q) Nr line s
+  pub assigns-line : assigns q (given 0) (given 1) (given 2) s ≡ change (printerOf q) Nr line s
   assigns-line = assigns-known q (given 0) (argument 0 line) (given 1) (argument 1 line) (given 2) (argument 2 line) s (argument-is 0 p) (argument-is 1 p) (argument-is 2 p) ∙ assigns-nr q line s
 
-  pub plants-line : plantTrap (printerOf q) (given 0) (given 1) s ≡ perform (printerOf q) Wh line s
+  pub plants-line : plantTrap (printerOf q) (given 0) (given 1) s ≡ change (printerOf q) Wh line s
   plants-line = plants-known q (given 0) (argument 0 line) (given 1) (argument 1 line) s (argument-is 0 p) (argument-is 1 p) ∙ plants-wh (printerOf q) line s
 
-  pub removes-line : (m : List ℕ) → m ≡ given 0 → removes m s ≡ perform (printerOf q) Rm line s
+  pub removes-line : (m : List ℕ) → m ≡ given 0 → removes m s ≡ change (printerOf q) Rm line s
   removes-line m e = ap (λ (y : List ℕ). removes y s) (e ∙ argument-is 0 p) ∙ removes-rm (printerOf q) line s
 
 -- de of a line whose arguments were parted
 pub opened-line : (q : Printer) (line : List ℕ) (count : ℕ) (out ends : List ℕ) → PartedAll line 0 count out ends → {st fs ss ks ls : List ℕ} {n : ℕ} {k : Stack} {ps : List ℕ} (r : Opened) {st' fs' ss' ks' ls' : List ℕ} (o : Opening) (m : List ℕ)
     → m ≡ getD (argumentsOf out ends count) 0 []
     → OpensAs st fs ss ks ls n k ps (nameOf m) (opensText m) (r .changed) st' fs' ss' ks' ls' × OpeningIs (nameOf m) (r .changed) o (r .opening)
-    → OpensAs st fs ss ks ls n k ps (nameOf (argument 0 line)) (λ s. perform (printerOf q) De line s) (r .changed) st' fs' ss' ks' ls' × OpeningIs (nameOf (argument 0 line)) (r .changed) o (r .opening)
+    → OpensAs st fs ss ks ls n k ps (nameOf (argument 0 line)) (λ s. change (printerOf q) De line s) (r .changed) st' fs' ss' ks' ls' × OpeningIs (nameOf (argument 0 line)) (r .changed) o (r .opening)
 opened-line q line count out ends p {st} {fs} {ss} {ks} {ls} {n} {k} {ps} r {st'} {fs'} {ss'} {ks'} {ls'} o m e a =
     let f : m ≡ argument 0 line = e ∙ argument-is 0 p in
     let b : OpensAs st fs ss ks ls n k ps (nameOf (argument 0 line)) (opensText (argument 0 line)) (r .changed) st' fs' ss' ks' ls' =
     subst (λ (v : List ℕ). OpensAs st fs ss ks ls n k ps (nameOf v) (opensText v) (r .changed) st' fs' ss' ks' ls') f (a .0) in (
-      record { changes = changed-as (opensText (argument 0 line)) (λ s. perform (printerOf q) De line s) (b .changes) (λ s. opens-de (printerOf q) line s); opens = b .opens },
+      record { changes = changed-as (opensText (argument 0 line)) (λ s. change (printerOf q) De line s) (b .changes) (λ s. opens-de (printerOf q) line s); opens = b .opens },
       subst (λ (v : List ℕ). OpeningIs (nameOf v) (r .changed) o (r .opening)) f (a .1),
     )

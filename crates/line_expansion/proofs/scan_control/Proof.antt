@@ -5,7 +5,7 @@ use denote.Ref.{now}
 use borrow.Author.Needs.{needs}
 use Rattle.texts.specs.Table.Table.{textsOf}
 use Rattle.scan.specs.Arguments.Around.{argumentsOf}
-use Rattle.composition.proofs.no_break_requests.Keeps.{all-from}
+use Rattle.composition.proofs.no_break_requests.Follows.{all-from}
 use Rattle.settings.specs.Layout.Layouts.{printerOf, layoutOf}
 use Rattle.page.specs.Position.Landing.{pageOf}
 use Rattle.line_expansion.specs.DealingLaws.{expanded-as, call-dealt, request-dealt, unknown-dealt}

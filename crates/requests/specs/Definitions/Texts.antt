@@ -6,7 +6,7 @@ use mathlib.Core.Option.{some}
 use Prim.Native.Nat.{ℕ, _≤_}
 use lib.ListN.{length}
 use Rattle.rules.specs.declared.Name.{Name}
-use Rattle.rules.specs.declared.Unbreaking.the-variants.{De, Rm}
+use Rattle.rules.specs.declared.TableChange.the-variants.{De, Rm}
 use Rattle.rules.specs.Printers.{Printer}
 use Rattle.rules.specs.Names.{Named, one, tooLong, nameOf}
 use Rattle.rules.specs.Names as names
@@ -14,7 +14,7 @@ use Rattle.rules.specs.Refusals.{Judged, value, bad}
 use Rattle.rules.specs.Texts.{Text}
 use Rattle.rules.specs.State.{State, Item}
 use Rattle.rules.specs.StateSetters.{withStack, withTexts, withOpened}
-use Rattle.rules.specs.Acts.{argument, onName, writtenBack, defineText, openText, removeText, perform}
+use Rattle.rules.specs.Acts.{argument, onName, writtenBack, defineText, openText, removeText, change}
 use Rattle.texts.specs.Table.Table.{textsOf, Lies}
 use Rattle.texts.specs.Table.Changes.{Opens}
 use Rattle.input_stack.specs.declared.stack.Stack.{Stack}
@@ -113,10 +113,10 @@ pub record DefinesAs (st fs ss ks ls : List ℕ) (count : ℕ) (k : Stack) (ends
 
 -- These are the rules' rm and de.
 module _ (p : Printer) (l : List ℕ) (s : State) where
-  pub removes-rm : removes (argument 0 l) s ≡ perform p Rm l s
-  unfolding perform
+  pub removes-rm : removes (argument 0 l) s ≡ change p Rm l s
+  unfolding change
   removes-rm = refl
 
-  pub opens-de : opensText (argument 0 l) s ≡ perform p De l s
-  unfolding perform
+  pub opens-de : opensText (argument 0 l) s ≡ change p De l s
+  unfolding change
   opens-de = refl

@@ -6,7 +6,7 @@ use Prim.Native.Nat.{ℕ}
 use lib.IntN.{ℤ}
 use Rattle.rules.specs.declared.Name.{Name}
 use Rattle.rules.specs.declared.Register.{Register}
-use Rattle.rules.specs.declared.Unbreaking.the-variants.{Nr}
+use Rattle.rules.specs.declared.TableChange.the-variants.{Nr}
 use Rattle.rules.specs.Printers as printers
 use Rattle.rules.specs.Names.{nameOf}
 use Rattle.rules.specs.Refusals.{Judged, value, bad, _>>=_}
@@ -14,7 +14,7 @@ use Rattle.rules.specs.Numbers.{units, signed}
 use Rattle.rules.specs.Registers.{valueOr0, stepOr0}
 use Rattle.rules.specs.State.{State}
 use Rattle.rules.specs.StateSetters.{withRegisters}
-use Rattle.rules.specs.Acts.{argument, onName, newValue, newStep, writeRegister, perform}
+use Rattle.rules.specs.Acts.{argument, onName, newValue, newStep, writeRegister, change}
 use Rattle.registers.specs.Table.Columns.{tableOf, Table}
 use Rattle.settings.specs.declared.layout.Printer.{Printer}
 use Rattle.settings.specs.Layout.Layouts.{printerOf, SoundPrinter}
@@ -80,6 +80,6 @@ abbrev pub assigns : Printer → (name new step : List ℕ) → State → Judged
 assigns q m v l s = onName (nameOf m) s (writeRegister (printerOf q) v l s)
 
 -- That is the rules' nr.
-pub assigns-nr : (q : Printer) (l : List ℕ) (s : State) → assigns q (argument 0 l) (argument 1 l) (argument 2 l) s ≡ perform (printerOf q) Nr l s
-unfolding perform
+pub assigns-nr : (q : Printer) (l : List ℕ) (s : State) → assigns q (argument 0 l) (argument 1 l) (argument 2 l) s ≡ change (printerOf q) Nr l s
+unfolding change
 assigns-nr q l s = refl

@@ -2,12 +2,12 @@
 use mathlib.Core.Path.{_≡_, refl}
 use mathlib.Core.List.{List}
 use Prim.Native.Nat.{ℕ, zero, suc, _<_}
-use Rattle.rules.specs.declared.Unbreaking.the-variants.{Wh}
+use Rattle.rules.specs.declared.TableChange.the-variants.{Wh}
 use Rattle.rules.specs.Printers as printers
 use Rattle.rules.specs.Refusals.{Judged, value, bad}
 use Rattle.rules.specs.State.{State}
 use Rattle.rules.specs.StateSetters.{withTraps}
-use Rattle.rules.specs.Acts.{argument, plantTrap, perform}
+use Rattle.rules.specs.Acts.{argument, plantTrap, change}
 use Rattle.traps.specs.declared.table.Planted.{Planted}
 use Rattle.traps.specs.Table.Table.{Within, plantedOf}
 use Rattle.settings.specs.declared.layout.Printer.{Printer}
@@ -39,6 +39,6 @@ abbrev pub PlantedTo : (row name : List ℕ) → Planted → Printer → Plants 
 PlantedTo l m p q r = PlantsAs p (λ s. plantTrap (printerOf q) l m s) r
 
 -- That is the rules' wh.
-pub plants-wh : (p : printers.Printer) (l : List ℕ) (s : State) → plantTrap p (argument 0 l) (argument 1 l) s ≡ perform p Wh l s
-unfolding perform
+pub plants-wh : (p : printers.Printer) (l : List ℕ) (s : State) → plantTrap p (argument 0 l) (argument 1 l) s ≡ change p Wh l s
+unfolding change
 plants-wh p l s = refl

@@ -11,22 +11,21 @@ use Rattle.stream.specs.Machine.{works, asks, closed}
 use Rattle.rules.specs.Printers.{Printer}
 use Rattle.rules.specs.declared.Name.{Name}
 use Rattle.rules.specs.declared.Breaking.{Breaking}
-use Rattle.rules.specs.declared.Breaking.the-variants.{Br, Sp, Bp, Fi, Nf, Ce, In, Ti}
-use Rattle.rules.specs.declared.Request.the-variants.{Breaks, Keeps, Ds}
+use Rattle.rules.specs.declared.Breaking.the-variants.{Br, Sp, Bp, Sets}
+use Rattle.rules.specs.declared.Request.the-variants.{Breaks, Lays, Changes, Ds, If}
 use Rattle.rules.specs.declared.Mode.the-variants.{Plain, Copy}
 use Rattle.rules.specs.Refusals.{Judged, value, bad, _>>=_}
 use Rattle.rules.specs.Requests.{startsPage, modeOf}
 use Rattle.rules.specs.State.{State, Line, text, control, ignored, Item, reading, fresh, again, others, acts, ejects, Definition}
 use Rattle.rules.specs.StateSetters.{withStack, withStored, withLayout}
-use Rattle.rules.specs.Settings.{indentRange}
-use Rattle.rules.specs.LayoutSetters.{withCentred, withIndent}
+use Rattle.rules.specs.Settings.{Layout}
 use Rattle.rules.specs.Texts.{keepLine}
 use Rattle.rules.specs.Escapes.{Scanned, scanned, refused}
 use Rattle.rules.specs.Lines.{lineOf, isClosing}
 use Rattle.rules.specs.Filling.{Word, Collected, Placed, all, full, begin, begun, place, words, standing, after, gapAfter}
 use Rattle.rules.specs.Rows.{Next, break, skip, ejectIf, eject, ejectLast, endFrom, beginEnd, lastPage}
 use Rattle.rules.specs.TextLines.{Way, starts, blank, stands, fills, breaks, wayOf, asItStands, filled, fillFrom, fill, blankFrom, gapHere, textWay, textLine}
-use Rattle.rules.specs.Acts.{given, settles, argument, setting, indentTotal, spacing, centring, act, perform, defines}
+use Rattle.rules.specs.Acts.{given, settles, laidOut, argument, spacing, setLine, act, setPage, change, defines, decide}
 use Rattle.rules.specs.ControlLines.{Meaning, calls, requests, nothing, meaningOf, prefixOf, onScan, breakOrAct, startOrBreak, obey, dealAgain, expand, controlLine, freshLine, keepBody, bodyLine, dealFrom, deal}
 use Rattle.rules.specs.Session.{leave, readLine, work, workEnd, idle, stepFrom, step}
 
@@ -104,16 +103,15 @@ text-on l s = go (wayOf (s .page .number) (words l) (s .collected) (asItStands (
 
 -- control lines, lines and items
 module _ (p : Printer) where
+  laid-on : (j : Judged Layout) (s : State) → NeverAsks (laidOut j s)
+  laid-on j s = given-on j s _ (λ y. tt)
+
   act-on : (r : Breaking) (l : List ℕ) (s : State) → NeverAsks (act p r l s)
   unfolding act
   act-on Br l s = tt
   act-on Sp l s = given-on (spacing p (argument 0 l)) s _ (λ n. skip-on n s)
   act-on Bp l s = eject-on (s .page .number) s
-  act-on Fi l s = tt
-  act-on Nf l s = tt
-  act-on Ce l s = given-on (centring p (argument 0 l) >>= λ n. value (withCentred n (s .layout))) s _ (λ y. tt)
-  act-on In l s = given-on (setting p indentRange (s .layout .indent) (argument 0 l) >>= λ v. value (withIndent v (s .layout))) s _ (λ y. tt)
-  act-on Ti l s = given-on (indentTotal p (argument 0 l) (s .layout)) s _ (λ y. tt)
+  act-on (Sets r) l s = laid-on (setLine p r (argument 0 l) (s .layout)) s
 
   settles-on : (j : Judged State) (s : State) → NeverAsks (settles j s)
   settles-on j s = given-on j s _ (λ v. tt)
@@ -131,8 +129,10 @@ module _ (p : Printer) where
   obey-on nothing i q n l s = tt
   obey-on (calls t) i q n l s = tt
   obey-on (requests (Breaks r)) i q n l s = start-on (eqb (s .page .number) 0 && startsPage q r) q r n l s
-  obey-on (requests (Keeps r)) i q n l s = settles-on (perform p r l s) s
+  obey-on (requests (Lays r)) i q n l s = laid-on (setPage p r (s .page .used) (argument 0 l) (s .layout)) s
+  obey-on (requests (Changes r)) i q n l s = settles-on (change p r l s) s
   obey-on (requests Ds) i q n l s = settles-on (defines i l s) s
+  obey-on (requests If) i q n l s = settles-on (decide p l s) s
 
   again-on : (x : Line) (s : State) → NeverAsks (dealAgain p x s)
   unfolding dealAgain

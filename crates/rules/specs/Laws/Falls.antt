@@ -34,14 +34,14 @@ use Rattle.stream.specs.Answers.{Closing, done}
 use Rattle.rules.specs.Rows.{Next, linesOf, theEnd as endItem, pushIf, call, userText, springText, spring, startIf, startPage, endPage, withUsed, reach, down, break, rowsBelow, fewer, skip, heldIf, ejectIf, eject, lastPage, ejectLast, endFrom, beginEnd}
 use Rattle.rules.specs.TextLines.{breaksIf, wayOf, asItStands, counted, othersOf, nextGap, filled, fillFrom, fill, blankFrom, gapHere, textWay, textLine}
 use Rattle.rules.specs.declared.Breaking.{Breaking}
-use Rattle.rules.specs.declared.Breaking.the-variants.{Br, Sp, Bp, Fi, Nf, Ce, In, Ti}
-use Rattle.rules.specs.declared.Unbreaking.{Unbreaking}
-use Rattle.rules.specs.declared.Unbreaking.the-variants.{Pl, Po, Ll, Ad, Na, Nr, De, Rm, Wh, If}
-use Rattle.rules.specs.declared.Request.the-variants.{Breaks, Keeps, Ds}
+use Rattle.rules.specs.declared.Breaking.the-variants.{Br, Sp, Bp, Sets}
+use Rattle.rules.specs.declared.TableChange.{TableChange}
+use Rattle.rules.specs.declared.TableChange.the-variants.{Nr, De, Rm, Wh}
+use Rattle.rules.specs.declared.Request.the-variants.{Breaks, Lays, Changes, Ds, If}
 use Rattle.rules.specs.Requests.{traits, startsPage, modeOf}
-use Rattle.rules.specs.Settings.{Layout, changed, inRange, lineRange, indentRange, offsetRange}
-use Rattle.rules.specs.LayoutSetters.{withFilling, withAdjusting, withLine, withOffset, withPageLength}
-use Rattle.rules.specs.Acts.{given, settles, argument, onName, free, setting, pageLength, indentTotal, spacing, centring, laidOut, act, newValue, newStep, writeIf, writeRegister, writtenBack, defineText, defineFrom, openText, removeIf, removeText, plantAt, plantTrap, follows, ifLine, perform, defines}
+use Rattle.rules.specs.Settings.{Layout}
+use Rattle.rules.specs.Laws.Settings.{PageAbove, set-line-page, set-page-above}
+use Rattle.rules.specs.Acts.{given, settles, argument, onName, free, spacing, laidOut, act, newValue, newStep, writeIf, writeRegister, writtenBack, defineText, defineFrom, openText, removeIf, removeText, plantAt, plantTrap, follows, ifLine, change, defines, decide}
 use Rattle.rules.specs.ControlLines.{Meaning, calls, requests, nothing, meaningOf, prefixOf, heldAfter, heldFirst, breakOrAct, startOrBreak, obey, onScan, expand, controlLine, freshLine, keepBody, bodyLine, dealFrom, deal, dealAgain}
 use Rattle.rules.specs.Session.{leave, readLine, work, withBegun, gather, takeBy, takeByte, lastLine, readEnd, workEnd, idle, stepFrom, step}
 use Rattle.rules.specs.Load.{Good, lineLoad, freshLoad, itemLoad, stackLoad, collectedLoad, firstLoad, endLoad, baseLoad, weigh, load, byteLoad, formatter}
@@ -329,38 +329,23 @@ module _ (p : Printer) where
   layout-low s m g (here {a = y} e) h = under (withLayout y s) m (rw e g) (omega arith)
   layout-low s m g (refused {n = n}) h = refuse-low n s m g (omega arith)
 
-  total-same : (l : List ℕ) (y : Layout) → Every (λ v. v .page ≡ y .page) (indentTotal p l y)
-  total-same [] y = here refl
-  total-same (b ∷ l) y = every (cells (p .pitch) (b ∷ l)) _ (λ v. every (indentRange (changed (signed (b ∷ l)) (y .indent .now) v)) _ (λ n. here refl))
+  -- a new layout whose page is above the rows used
+  above-low : {j : Judged Layout} (s : State) (m : ℕ) → Good s → Every (PageAbove (s .page .used)) j
+      → baseLoad s + stackLoad (s .input .stack) + 1101 < m → Low (laidOut j s) m
+  above-low s m g (here {a = y} e) h = under (withLayout y s) m e (omega arith)
+  above-low s m g (refused {n = n}) h = refuse-low n s m g (omega arith)
 
   act-low : (r : Breaking) (l : List ℕ) (s : State) (m : ℕ) → Good s → baseLoad s + stackLoad (s .input .stack) + 1002 < m → Low (act p r l s) m
   unfolding act
   act-low Br l s m g h = under s m g (omega arith)
   act-low Sp l s m g h = given-low (spacing p (argument 0 l)) s (λ n. skip n s) m g (omega arith) (λ n. skip-low n s m g h)
   act-low Bp l s m g h = eject-low (s .page .number) s m g h
-  act-low Fi l s m g h = under (withLayout (withFilling true (s .layout)) s) m g (omega arith)
-  act-low Nf l s m g h = under (withLayout (withFilling false (s .layout)) s) m g (omega arith)
-  act-low Ce l s m g h = layout-low s m g (every (centring p (argument 0 l)) _ (λ n. here refl)) (omega arith)
-  act-low In l s m g h = layout-low s m g (every (setting p indentRange (s .layout .indent) (argument 0 l)) _ (λ n. here refl)) (omega arith)
-  act-low Ti l s m g h = layout-low s m g (total-same (argument 0 l) (s .layout)) (omega arith)
+  act-low (Sets r) l s m g h = layout-low s m g (set-line-page p r (argument 0 l) (s .layout)) (omega arith)
 
   -- requests that do not break: what does not change the page, the stack or the stored lines falls at once
   settles-low : {j : Judged State} (s : State) (m : ℕ) → Good s → 0 < m → Every (Under m) j → Low (settles j s) m
   settles-low s m g h (here u) = u
   settles-low s m g h (refused {n = n}) = refuse-low n s m g h
-
-  range-every : (low high : ℕ) (z : ℤ) → Every (λ n. (low ≤ n) × (n ≤ high)) (inRange low high z)
-  range-every low high (pos n) = kept-every (leb low n) (leb n high) refl refl
-    where
-      kept-every : (a b : Bool) → leb low n ≡ a → leb n high ≡ b → Every (λ n. (low ≤ n) × (n ≤ high)) (judge (a && b) 7 n)
-      kept-every true true e f = here (leb-true low n e, leb-true n high f)
-      kept-every true false e f = refused
-      kept-every false b e f = refused
-  range-every low high (negsuc n) = refused
-
-  page-every : (used old : ℕ) (l : List ℕ) → Every (λ n. (suc used ≤ n) × (n ≤ 500)) (pageLength p used old l)
-  page-every used old [] = range-every (suc used) 500 (pos (p .page))
-  page-every used old (b ∷ l) = every (rows (p .pitch) (b ∷ l)) _ (λ v. range-every (suc used) 500 (changed (signed (b ∷ l)) old v))
 
   name-every : (n : Named) (s : State) (k : Name → Judged State) (m : ℕ) → Good s → suc (baseLoad s + stackLoad (s .input .stack)) < m
       → ((n : Name) → Every (Under m) (k n)) → Every (Under m) (onName n s k)
@@ -410,30 +395,25 @@ module _ (p : Printer) where
   if-every [] r s m n g e h = here (under s m g (omega arith))
   if-every (b ∷ c) r s m n g e h = every (holds p (s .page .number) (b ∷ c)) _ (λ v. here (follows-low v r s m g (omega arith)))
 
-  perform-every : (r : Unbreaking) (l : List ℕ) (s : State) (m : ℕ) → Good s → baseLoad s + stackLoad (s .input .stack) + lineLoad (length l) < m
-      → Every (Under m) (perform p r l s)
-  unfolding perform
-  perform-every Pl l s m g h =
-      every-of _ (page-every (s .page .used) (s .layout .page) (argument 0 l))
-      (λ n e. here (under (withLayout (withPageLength n (s .layout)) s) m (e .0, e .1) (omega arith)))
-  perform-every Po l s m g h =
-      every (setting p offsetRange (s .layout .offset) (argument 0 l)) _ (λ v. here (under (withLayout (withOffset v (s .layout)) s) m g (omega arith)))
-  perform-every Ll l s m g h =
-      every (setting p lineRange (s .layout .line) (argument 0 l)) _ (λ v. here (under (withLayout (withLine v (s .layout)) s) m g (omega arith)))
-  perform-every Ad l s m g h = here (under (withLayout (withAdjusting true (s .layout)) s) m g (omega arith))
-  perform-every Na l s m g h = here (under (withLayout (withAdjusting false (s .layout)) s) m g (omega arith))
-  perform-every Nr l s m g h =
-      name-every (nameOf (argument 0 l)) s (writeRegister p (argument 1 l) (argument 2 l) s) m g (omega arith)
-      (λ n. register-every (argument 1 l) (argument 2 l) s n m g (omega arith))
-  perform-every De l s m g h =
-      name-every (nameOf (argument 0 l)) s (openText s) m g (omega arith)
+  change-every : (r : TableChange) (l : List ℕ) (s : State) (m : ℕ) → Good s → suc (baseLoad s + stackLoad (s .input .stack)) < m
+      → Every (Under m) (change p r l s)
+  unfolding change
+  change-every Nr l s m g h =
+      name-every (nameOf (argument 0 l)) s (writeRegister p (argument 1 l) (argument 2 l) s) m g h
+      (λ n. register-every (argument 1 l) (argument 2 l) s n m g h)
+  change-every De l s m g h =
+      name-every (nameOf (argument 0 l)) s (openText s) m g h
       (λ n. every (free s n) _ (λ k. every (openMacro k (s .tables .texts)) _
-      (λ ts. here (under (withOpened (some (record { name = k; body = [] })) (withTexts ts s)) m g (omega arith)))))
-  perform-every Rm l s m g h =
-      name-every (nameOf (argument 0 l)) s (removeText s) m g (omega arith)
-      (λ n. remove-every (isThere (textOf n (s .tables .texts))) s n m g (omega arith))
-  perform-every Wh l s m g h = plant-every (argument 0 l) (argument 1 l) s m g (omega arith)
-  perform-every If l s m g h = if-every (condition l .part) (condition l .rest) s m (length l) g (condition-short l) h
+      (λ ts. here (under (withOpened (some (record { name = k; body = [] })) (withTexts ts s)) m g h))))
+  change-every Rm l s m g h =
+      name-every (nameOf (argument 0 l)) s (removeText s) m g h
+      (λ n. remove-every (isThere (textOf n (s .tables .texts))) s n m g h)
+  change-every Wh l s m g h = plant-every (argument 0 l) (argument 1 l) s m g h
+
+  decide-every : (l : List ℕ) (s : State) (m : ℕ) → Good s → baseLoad s + stackLoad (s .input .stack) + lineLoad (length l) < m
+      → Every (Under m) (decide p l s)
+  unfolding decide
+  decide-every l s m g h = if-every (condition l .part) (condition l .rest) s m (length l) g (condition-short l) h
 
   -- control lines
   held-load : (t : Bool) (i : Item) (k : List Item) → stackLoad (heldIf t i ++ k) ≤ itemLoad i + stackLoad k
@@ -460,8 +440,10 @@ module _ (p : Printer) where
   obey-low nothing i q n l s m g h = under s m g (omega arith)
   obey-low (calls t) i q n l s m g h = call-low t (arguments l) [] s m g (omega arith)
   obey-low (requests (Breaks r)) i q n l s m g h = request-low (eqb (s .page .number) 0) (startsPage q r) q r n l s m g refl h
-  obey-low (requests (Keeps r)) i q n l s m g h = settles-low s m g (omega arith) (perform-every r l s m g h)
+  obey-low (requests (Lays r)) i q n l s m g h = above-low s m g (set-page-above p r (s .page .used) (argument 0 l) (s .layout) g) (omega arith)
+  obey-low (requests (Changes r)) i q n l s m g h = settles-low s m g (omega arith) (change-every r l s m g (omega arith))
   obey-low (requests Ds) i q n l s m g h = settles-low s m g (omega arith) (define-every (first l) i s m g (omega arith))
+  obey-low (requests If) i q n l s m g h = settles-low s m g (omega arith) (decide-every l s m g h)
 
   again-low : (x : Line) (s : State) (m : ℕ) → Good s → baseLoad s + stackLoad (s .input .stack) + itemLoad (again x) < m → Low (dealAgain p x s) m
   unfolding dealAgain

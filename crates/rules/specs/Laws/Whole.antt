@@ -24,7 +24,7 @@ use Rattle.rules.specs.State.{onStack}
 use Rattle.rules.specs.Rows.{lines, spring, down, break, skip, eject, beginEnd, ejectLast}
 use Rattle.rules.specs.TextLines.{fill, textLine}
 use Rattle.rules.specs.Lines.{lineOf, holds}
-use Rattle.rules.specs.Acts.{act, perform, defines}
+use Rattle.rules.specs.Acts.{act, change, defines, decide}
 use Rattle.rules.specs.ControlLines.{deal, dealAgain}
 use Rattle.rules.specs.Session.{takeByte, readEnd, step}
 use Rattle.rules.specs.Load.{load}
@@ -32,7 +32,7 @@ use Rattle.rules.specs.Pages.{pages}
 
 -- the pages at ten to the inch; whoever unfolds this unfolds every rule
 unfoldable pub pagesHere : List ℕ → Pages
-unfolding halfUp scaleOf firstWhere requestOf evaluate lookup setValue shown textOf remove live defineStringIn openMacro keepLineIn escaped scan arguments first stringText condition word words width span place gaps spread spelled printed trimmed seenAt nearestTrap plant removeTrap onStack lines spring down break skip eject beginEnd ejectLast fill textLine lineOf holds act perform defines deal dealAgain takeByte readEnd step load pages
+unfolding halfUp scaleOf firstWhere requestOf evaluate lookup setValue shown textOf remove live defineStringIn openMacro keepLineIn escaped scan arguments first stringText condition word words width span place gaps spread spelled printed trimmed seenAt nearestTrap plant removeTrap onStack lines spring down break skip eject beginEnd ejectLast fill textLine lineOf holds act change defines decide deal dealAgain takeByte readEnd step load pages
 pagesHere d = pages tenToTheInch d
 
 -- A worked fact: a document with its pages and closing answer, an expression with its value, or one that is rounded to cells.

@@ -12,17 +12,19 @@ use Rattle.rules.specs.Numbers.{rows, units}
 use Rattle.rules.specs.Settings.{pageRange}
 use Rattle.rules.specs.LayoutSetters.{withCentred}
 use Rattle.rules.specs.Settings as rule
-use Rattle.rules.specs.Acts.{countOf, setting, pageLength, indentTotal, spacing, centring}
+use Rattle.rules.specs.Laws.Refusals.{every-map}
+use Rattle.rules.specs.Laws.Settings.{set-line-page, set-page-above}
+use Rattle.rules.specs.Acts.{countOf, setting, pageLength, indentTotal, spacing, centring, setLine, setPage}
 use Rattle.rules.specs.Filling.{begun}
 use Rattle.rules.specs.TextLines.{counted}
-use Rattle.rules.specs.declared.Breaking.{Breaking}
-use Rattle.rules.specs.declared.Unbreaking.{Unbreaking}
+use Rattle.rules.specs.declared.LineSetting.{LineSetting}
+use Rattle.rules.specs.declared.PageSetting.{PageSetting}
 use Rattle.settings.specs.declared.layout.Printer.{Printer}
 use Rattle.settings.specs.declared.layout.Layout.{Layout}
 use Rattle.settings.specs.declared.layout.NewLayout.{NewLayout}
 use Rattle.settings.specs.Lengths.Views.{printer, settingIn, pageLengthIn}
-use Rattle.settings.specs.Layout.Layouts.{printerOf, layoutOf, Limits, Laid, newLayoutIs, Ready, actedOf, Acted, performedOf, Performed}
-use Rattle.settings.specs.Layout.LayoutLaws.{acted-limits, acted-page, performed-limits, performed-above}
+use Rattle.settings.specs.Layout.Layouts.{printerOf, layoutOf, Limits, Laid, newLayoutIs, Ready, LineSet, PageSet}
+use Rattle.settings.specs.Layout.LayoutLaws.{set-line-limits, set-page-limits}
 
 -- "n of 0 or less" is none, as a count below 0 is
 pub count-is : (z : ℤ) → natOf z ≡ countOf z
@@ -38,19 +40,19 @@ pub none-counted : (y : rule.Layout) → y .centred ≡ 0 → begun y ≡ counte
 none-counted y h = ap (λ (n : ℕ). withCentred n (begun y)) (omega arith)
 
 -- what a request made, by its equation
-pub acts : (p : Printer) (q : Breaking) (y : Layout) (l : List ℕ) (r : NewLayout) → Ready p y → newLayoutIs r ≡ actedOf (printerOf p) q l (layoutOf y) → Acted p q y l r
-acts p q y l r h e = record {
+pub line-set : (p : Printer) (q : LineSetting) (y : Layout) (l : List ℕ) (r : NewLayout) → Ready p y → newLayoutIs r ≡ setLine (printerOf p) q l (layoutOf y) → LineSet p q y l r
+line-set p q y l r h e = record {
   is = e;
-  limits = rw e (acted-limits (printerOf p) q l (layoutOf y) (h .limits));
-  page = rw e (acted-page (printerOf p) q l (layoutOf y));
+  limits = rw e (set-line-limits (printerOf p) q l (layoutOf y) (h .limits));
+  page = rw e (set-line-page (printerOf p) q l (layoutOf y));
 }
 
-pub performs : (p : Printer) (q : Unbreaking) (y : Layout) (used : ℕ) (l : List ℕ) (r : NewLayout) → Ready p y
-    → newLayoutIs r ≡ performedOf (printerOf p) q used l (layoutOf y) → Performed p q y used l r
-performs p q y used l r h e = record {
+pub page-set : (p : Printer) (q : PageSetting) (y : Layout) (used : ℕ) (l : List ℕ) (r : NewLayout) → Ready p y
+    → newLayoutIs r ≡ setPage (printerOf p) q used l (layoutOf y) → PageSet p q y used l r
+page-set p q y used l r h e = record {
   is = e;
-  limits = rw e (performed-limits (printerOf p) q used l (layoutOf y) (h .limits));
-  above = λ k. rw e (performed-above (printerOf p) q used l (layoutOf y) k);
+  limits = rw e (set-page-limits (printerOf p) q used l (layoutOf y) (h .limits));
+  above = λ k. rw e (every-map (set-page-above (printerOf p) q used l (layoutOf y) (k, h .limits .page-most)) (λ z i. i .0));
 }
 
 module _ (p : printers.Printer) where

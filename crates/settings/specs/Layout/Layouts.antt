@@ -1,6 +1,5 @@
--- The settings as a whole, in the rules' terms, and what a request makes of them by itself: the rules' `act` and `perform` are these in a state (LayoutLaws). Assumes nothing.
+-- The settings as a whole, in the rules' terms, and what a request makes of them. Assumes nothing.
 use mathlib.Core.Path.{_≡_}
-use mathlib.Core.Bool.{true, false}
 use mathlib.Core.Option.{Option, none, some, Option·getD}
 use mathlib.Core.List.{List}
 use Prim.Native.Nat.{ℕ, _≤_, _<_}
@@ -11,22 +10,22 @@ use Rattle.rules.specs.Printers.{tenToTheInch}
 use Rattle.rules.specs.Printers as printers
 use Rattle.rules.specs.Refusals.{Judged, value, bad, _>>=_}
 use Rattle.rules.specs.Laws.Refusals.{Every}
-use Rattle.rules.specs.Settings.{Across, Down, lineRange, indentRange, offsetRange}
-use Rattle.rules.specs.LayoutSetters.{layout, withLine, withIndent, withOffset, withPageLength, withFilling, withAdjusting, withCentred}
+use Rattle.rules.specs.Settings.{Across, Down}
+use Rattle.rules.specs.LayoutSetters.{layout, withLine, withIndent, withOffset}
 use Rattle.rules.specs.Settings as rule
-use Rattle.rules.specs.Acts.{setting, pageLength, indentTotal, centring}
+use Rattle.rules.specs.Acts.{setting, setLine, setPage}
 use Rattle.rules.specs.Filling.{roomNow}
-use Rattle.rules.specs.declared.Breaking.{Breaking}
-use Rattle.rules.specs.declared.Breaking.the-variants.{Br, Sp, Bp, Fi, Nf, Ce, In, Ti}
-use Rattle.rules.specs.declared.Unbreaking.{Unbreaking}
-use Rattle.rules.specs.declared.Unbreaking.the-variants.{Pl, Po, Ll, Ad, Na, Nr, De, Rm, Wh, If}
+use Rattle.rules.specs.declared.LineSetting.{LineSetting}
+use Rattle.rules.specs.declared.PageSetting.{PageSetting}
+use Rattle.settings.specs.declared.lengths.Length.{Length}
+use Rattle.settings.specs.declared.lengths.Length.the-variants.{Line, Indent, Offset}
 use Rattle.settings.specs.declared.layout.Printer.{Printer}
 use Rattle.settings.specs.declared.layout.Total.{Total}
 use Rattle.settings.specs.declared.layout.Total.the-variants as total
 use Rattle.settings.specs.declared.layout.Layout.{Layout}
 use Rattle.settings.specs.declared.layout.NewLayout.{NewLayout}
 use Rattle.settings.specs.declared.layout.NewLayout.the-variants as new-layout
-use Rattle.settings.specs.Lengths.Views.{settingOf}
+use Rattle.settings.specs.Lengths.Views.{settingOf, rangeOf}
 
 -- the rules' printer
 abbrev pub printerOf : Printer → printers.Printer
@@ -82,41 +81,33 @@ pub record Ready (p : Printer) (y : Layout) : Type 0 where
   pub printer : SoundPrinter p
   pub limits : Limits (layoutOf y)
 
--- the layout after a request that breaks; l is its argument
-abbrev pub actedOf : printers.Printer → Breaking → List ℕ → rule.Layout → Judged rule.Layout
-actedOf p Br l y = value y
-actedOf p Sp l y = value y
-actedOf p Bp l y = value y
-actedOf p Fi l y = value (withFilling true y)
-actedOf p Nf l y = value (withFilling false y)
-actedOf p Ce l y = centring p l >>= λ n. value (withCentred n y)
-actedOf p In l y = setting p indentRange (y .indent) l >>= λ v. value (withIndent v y)
-actedOf p Ti l y = indentTotal p l y
-
--- what `act` gives: a layout within the limits, with the page length as it was, or a refusal
-pub record Acted (p : Printer) (q : Breaking) (y : Layout) (l : List ℕ) (r : NewLayout) : Type 0 where
-  pub is : newLayoutIs r ≡ actedOf (printerOf p) q l (layoutOf y)
+-- what a request gives after its break: a layout within the limits, with the page length as it was, or a refusal
+pub record LineSet (p : Printer) (q : LineSetting) (y : Layout) (l : List ℕ) (r : NewLayout) : Type 0 where
+  pub is : newLayoutIs r ≡ setLine (printerOf p) q l (layoutOf y)
   pub limits : Every Limits (newLayoutIs r)
   pub page : Every (λ z. z .page ≡ downOf (y .page)) (newLayoutIs r)
 
--- the layout after a request that does not break; l is its argument
-abbrev pub performedOf : printers.Printer → Unbreaking → (used : Down) → List ℕ → rule.Layout → Judged rule.Layout
-performedOf p Pl u l y = pageLength p u (y .page) l >>= λ n. value (withPageLength n y)
-performedOf p Po u l y = setting p offsetRange (y .offset) l >>= λ v. value (withOffset v y)
-performedOf p Ll u l y = setting p lineRange (y .line) l >>= λ v. value (withLine v y)
-performedOf p Ad u l y = value (withAdjusting true y)
-performedOf p Na u l y = value (withAdjusting false y)
-performedOf p Nr u l y = value y
-performedOf p De u l y = value y
-performedOf p Rm u l y = value y
-performedOf p Wh u l y = value y
-performedOf p If u l y = value y
-
--- what `perform` gives: a layout within the limits, with the page length above the rows used if it was, or a refusal
-pub record Performed (p : Printer) (q : Unbreaking) (y : Layout) (used : Down) (l : List ℕ) (r : NewLayout) : Type 0 where
-  pub is : newLayoutIs r ≡ performedOf (printerOf p) q used l (layoutOf y)
+-- what a request that does not break gives: a layout within the limits, with the page length above the rows used if it was, or a refusal
+pub record PageSet (p : Printer) (q : PageSetting) (y : Layout) (used : Down) (l : List ℕ) (r : NewLayout) : Type 0 where
+  pub is : newLayoutIs r ≡ setPage (printerOf p) q used l (layoutOf y)
   pub limits : Every Limits (newLayoutIs r)
   pub above : used < downOf (y .page) → Every (λ z. used < z .page) (newLayoutIs r)
+
+-- one of the three lengths in cells
+abbrev pub lengthOf : Length → rule.Layout → rule.Setting
+lengthOf Line y = y .line
+lengthOf Indent y = y .indent
+lengthOf Offset y = y .offset
+
+-- and that one set anew
+abbrev pub withLength : Length → rule.Setting → rule.Layout → rule.Layout
+withLength Line v y = withLine v y
+withLength Indent v y = withIndent v y
+withLength Offset v y = withOffset v y
+
+-- ll, in and po: the rules' `setLine` and `setPage` of them
+abbrev pub setLength : printers.Printer → Length → List ℕ → rule.Layout → Judged rule.Layout
+setLength p x l y = setting p (rangeOf x) (lengthOf x y) l >>= λ v. value (withLength x v y)
 
 -- "Room is ll minus indent, 0 if that is negative"
 pub record Room (y : rule.Layout) (r : Cells) : Type 0 where

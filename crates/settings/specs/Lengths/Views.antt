@@ -13,6 +13,8 @@ use Rattle.rules.specs.Acts.{setting}
 use Rattle.settings.specs.declared.lengths.Setting.{Setting}
 use Rattle.settings.specs.declared.lengths.Count.{Count}
 use Rattle.settings.specs.declared.lengths.Count.the-variants as count
+use Rattle.settings.specs.declared.lengths.Length.{Length}
+use Rattle.settings.specs.declared.lengths.Length.the-variants.{Line, Indent, Offset}
 use Rattle.settings.specs.declared.lengths.NewSetting.{NewSetting}
 use Rattle.settings.specs.declared.lengths.NewSetting.the-variants as new-setting
 use Rattle.settings.specs.declared.lengths.NewRows.{NewRows}
@@ -37,6 +39,12 @@ abbrev pub newSettingIs : NewSetting → Judged rule.Setting
 newSettingIs (new-setting.Is s) = value (settingOf s)
 newSettingIs new-setting.Malformed = bad 6
 newSettingIs new-setting.OutOfRange = bad 7
+
+-- "ll 1 to 240 cells, in and the ti total 0 to 239, po 0 to 120"
+abbrev pub rangeOf : Length → ℤ → Judged ℕ
+rangeOf Line = rule.lineRange
+rangeOf Indent = rule.indentRange
+rangeOf Offset = rule.offsetRange
 
 abbrev pub settingIn : Pitch → (ℤ → Judged ℕ) → rule.Setting → List ℕ → Judged rule.Setting
 settingIn p = setting (printer p 0)

@@ -7,7 +7,7 @@ use denote.Ref.{now}
 use borrow.Author.Needs.{needs}
 use Rattle.rules.specs.State.{again, control}
 use Rattle.input_stack.specs.declared.frames.What.the-variants as what
-use Rattle.composition.proofs.no_break_requests.Keeps.{all-from, followed-none, followed-line}
+use Rattle.composition.proofs.no_break_requests.Follows.{all-from, followed-none, followed-line}
 use Rattle.composition.proofs.no_break_requests.follow.Statement.{statement}
 use Rattle.composition.proofs.no_break_requests.follow.Tie as tie
 
