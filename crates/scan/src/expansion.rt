@@ -27,7 +27,7 @@ ghost use Rattle.scan.specs.Escapes.Readings.{actionIn};
 ghost use Rattle.scan.specs.Output.Writes.{Room, WroteTo, CopiedTo};
 ghost use Rattle.scan.specs.Arguments.Around.{Arguments, Begins, beginOf, argumentsOf, givenAt, around};
 ghost use Rattle.scan.specs.Expansion.Acts.{wroteAs, ShownTo, EnteredTo, Ready, ActsTo};
-ghost use Rattle.scan.specs.Expansion.Expansion.{NextIs, ExpandsTo, ScannedTo};
+ghost use Rattle.scan.specs.Expansion.Expansion.{NextIs, CarriedOut, ExpandsTo, ScannedTo};
 
 // The bytes up to a backslash or the end of the text.
 fn copy_plain(
@@ -310,8 +310,100 @@ enum Progress {
     Refused(u8),
 }
 
-// A text, within so many others, is expanded behind the bytes written: the bytes of its strings are read where they lie
-// in the store.
+// An escape, in a text within so many others, is carried out: its action is done, and the bytes of the string that it
+// enters are read where they lie in the store.
+fn carry_out(
+    what: What,
+    depth: usize,
+    left: usize,
+    store: &[u8],
+    text_firsts: &ByteColumn,
+    text_seconds: &ByteColumn,
+    kinds: &ByteColumn,
+    lengths: &LengthColumn,
+    texts: usize,
+    firsts: &ByteColumn,
+    seconds: &ByteColumn,
+    values: &mut NumberColumn,
+    steps: &NumberColumn,
+    count: usize,
+    shown: Shown,
+    arguments: &[u8],
+    ends: &ArgumentEnds,
+    given: usize,
+    mode: Mode,
+    out: &mut LineBytes,
+    written: usize,
+    limit: usize,
+) -> Progress
+    requires { ⌜ Ready (now store) (now «text_firsts») (now «text_seconds») (now kinds) (now lengths) texts (now firsts) (now seconds) (now values) (now steps) count (now arguments) (now ends) given × Room (now out) written limit × (depth ≤ 8) ⌝ }
+    ensures { λ r. ⌜ CarriedOut r (around shown (now (store .entry)) (now («text_firsts» .entry)) (now («text_seconds» .entry)) (now (kinds .entry)) (now (lengths .entry)) texts (now (arguments .entry)) (now (ends .entry)) given) mode (actionIn what) depth left (now (out .entry)) written limit (now (firsts .entry)) (now (seconds .entry)) (now (values .entry)) (now (steps .entry)) count (now (out .exit)) (now (values .exit)) ⌝ }
+{
+    match act(
+        store,
+        text_firsts,
+        text_seconds,
+        kinds,
+        lengths,
+        texts,
+        firsts,
+        seconds,
+        &mut *values,
+        steps,
+        count,
+        shown,
+        arguments,
+        ends,
+        given,
+        mode,
+        depth,
+        what,
+        &mut *out,
+        written,
+        limit,
+    ) {
+        Acted::Wrote(n) => Progress::Over(left, n),
+        Acted::Enters(name) => {
+            let string = texts::table::text_bytes(
+                store,
+                text_firsts,
+                text_seconds,
+                kinds,
+                lengths,
+                texts,
+                name,
+            );
+            expand_text(
+                string,
+                depth + 1,
+                left,
+                store,
+                text_firsts,
+                text_seconds,
+                kinds,
+                lengths,
+                texts,
+                firsts,
+                seconds,
+                &mut *values,
+                steps,
+                count,
+                shown,
+                arguments,
+                ends,
+                given,
+                mode,
+                &mut *out,
+                written,
+                limit,
+            )
+        }
+        Acted::Ends => Progress::Ended(written),
+        Acted::Refused(k) => Progress::Refused(k),
+    }
+}
+
+// A text, within so many others, is expanded behind the bytes written.
 fn expand_text(
     text: &[u8],
     depth: usize,
@@ -348,7 +440,10 @@ fn expand_text(
                 return Progress::Over(over, filled);
             }
             Next::Escape(end, after, filled, what) => {
-                match act(
+                match carry_out(
+                    what,
+                    depth,
+                    after,
                     store,
                     text_firsts,
                     text_seconds,
@@ -365,68 +460,19 @@ fn expand_text(
                     ends,
                     given,
                     mode,
-                    depth,
-                    what,
                     &mut *out,
                     filled,
                     limit,
                 ) {
-                    Acted::Wrote(next) => {
+                    Progress::Over(over, next) => {
                         i = end;
-                        rest = after;
+                        rest = over;
                         n = next;
                     }
-                    Acted::Enters(name) => {
-                        let string = texts::table::text_bytes(
-                            store,
-                            text_firsts,
-                            text_seconds,
-                            kinds,
-                            lengths,
-                            texts,
-                            name,
-                        );
-                        match expand_text(
-                            string,
-                            depth + 1,
-                            after,
-                            store,
-                            text_firsts,
-                            text_seconds,
-                            kinds,
-                            lengths,
-                            texts,
-                            firsts,
-                            seconds,
-                            &mut *values,
-                            steps,
-                            count,
-                            shown,
-                            arguments,
-                            ends,
-                            given,
-                            mode,
-                            &mut *out,
-                            filled,
-                            limit,
-                        ) {
-                            Progress::Over(over, next) => {
-                                i = end;
-                                rest = over;
-                                n = next;
-                            }
-                            Progress::Ended(next) => {
-                                return Progress::Ended(next);
-                            }
-                            Progress::Refused(k) => {
-                                return Progress::Refused(k);
-                            }
-                        }
+                    Progress::Ended(next) => {
+                        return Progress::Ended(next);
                     }
-                    Acted::Ends => {
-                        return Progress::Ended(filled);
-                    }
-                    Acted::Refused(k) => {
+                    Progress::Refused(k) => {
                         return Progress::Refused(k);
                     }
                 }
@@ -437,6 +483,9 @@ fn expand_text(
         }
     }
 }
+
+// "4: .. past 8,192 bytes scanned for one line".
+const SCAN_LIMIT: usize = 8192;
 
 // How many more the first is, or 0.
 fn less(a: usize, b: usize) -> usize
@@ -480,7 +529,7 @@ pub fn expand(
     ensures { λ r. ⌜ ScannedTo r (around shown (now (store .entry)) (now («text_firsts» .entry)) (now («text_seconds» .entry)) (now (kinds .entry)) (now (lengths .entry)) texts (now (arguments .entry)) (now (ends .entry)) given) mode prefix (now (line .entry)) (now (firsts .entry)) (now (seconds .entry)) (now (values .entry)) (now (steps .entry)) count (now (out .entry)) (now (out .exit)) (now (values .exit)) ⌝ }
 {
     let limit = less(LINE_SIZE, prefix);
-    let left = less(8192, prefix);
+    let left = less(SCAN_LIMIT, prefix);
     match expand_text(
         line,
         0,

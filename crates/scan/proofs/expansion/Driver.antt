@@ -9,7 +9,7 @@ use Rattle.rules.specs.declared.Mode.{Mode}
 use Rattle.rules.specs.declared.Name.{Name}
 use Rattle.rules.specs.Texts.{textOf}
 use Rattle.texts.specs.Table.Places.{bytesOr}
-use Rattle.rules.specs.Escapes.{Surroundings, scanned, run, scan}
+use Rattle.rules.specs.Escapes.{Surroundings, scanned, run, scan, Action}
 use Rattle.registers.specs.Table.Columns.{Table, tableOf}
 use Rattle.scan.specs.declared.escapes.What.{What}
 use Rattle.scan.specs.declared.expansion.Acted.the-variants as acted
@@ -20,7 +20,7 @@ use Rattle.scan.specs.declared.expansion.Scanned.the-variants as answer
 use Rattle.scan.specs.Output.Runs.{from, total}
 use Rattle.scan.specs.Output.Writes.{Room}
 use Rattle.scan.specs.Expansion.Acts.{behind, ActsTo}
-use Rattle.scan.specs.Expansion.Expansion.{Filled, ReadOver, ReadEscape, StopsIn, progressOf, ExpandsTo, ScannedTo}
+use Rattle.scan.specs.Expansion.Expansion.{Filled, ReadOver, ReadEscape, StopsIn, progressOf, CarriedOut, ExpandsTo, ScannedTo}
 use Rattle.scan.proofs.output.Buffers.{later}
 use Rattle.scan.proofs.expansion.Escapes.{before-nothing}
 
@@ -31,6 +31,32 @@ fill-none r = record { room = r; more = omega arith; kept = refl }
 pub fill-more : {out : List ℕ} {written limit n : ℕ} {out' : List ℕ} {k : ℕ} {out'' : List ℕ} → Filled out written limit n out' → Filled out' n limit k out'' → Filled out written limit k out''
 fill-more {out} {written} {limit} {n} {out'} {k} {out''} f g =
     record { room = g .room; more = omega (arith, f .more, g .more); kept = g .kept ∙ later out' out n k (g .more) (f .kept) }
+
+-- an escape is carried out by its action, and by the text of the string that it enters
+module _ {w : Surroundings} {m : Mode} {a : Action} {depth left : ℕ} {out : List ℕ} {written limit : ℕ} {fs ss : List ℕ} {vs ts : List ℤ} {count : ℕ} {out1 : List ℕ} {vs1 : List ℤ} where
+  pub wrote : {n : ℕ} → ActsTo (acted.Wrote n) w m out written limit depth a fs ss vs ts count out1 vs1
+      → CarriedOut (Over left n) w m a depth left out written limit fs ss vs ts count out1 vs1
+  wrote x = let s = x .acted .sound in record { is = x .acted .is left; table = x .table; sound = record { room = s .0; more = s .1; kept = s .2 } }
+
+  pub ends : Room out written limit → ActsTo acted.Ends w m out written limit depth a fs ss vs ts count out1 vs1
+      → CarriedOut (Ended written) w m a depth left out written limit fs ss vs ts count out1 vs1
+  ends r x = record { is = x .acted .is left; table = x .table; sound = rw (x .acted .sound) (fill-none r) }
+
+  pub refuses : {k : ℕ} → ActsTo (acted.Refused k) w m out written limit depth a fs ss vs ts count out1 vs1
+      → CarriedOut (Refused k) w m a depth left out written limit fs ss vs ts count out1 vs1
+  refuses x = record { is = x .acted .is left; table = x .table; sound = x .acted .sound }
+
+  pub enters : {name : Name} {p : Progress} {string out2 : List ℕ} {vs2 : List ℤ} → ActsTo (acted.Enters name) w m out written limit depth a fs ss vs ts count out1 vs1
+      → string ≡ bytesOr (textOf name (w .texts))
+      → ExpandsTo p w m string (depth + 1) left out1 written limit fs ss vs1 ts count out2 vs2
+      → CarriedOut p w m a depth left out written limit fs ss vs ts count out2 vs2
+  enters x b y = record {
+    is = λ t u e.
+        x .acted .is left t u e ∙ ap (λ s. total w m out1 written limit left (s ∷ t ∷ u) (tableOf fs ss vs1 ts count)) (sym b)
+        ∙ y .is (t ∷ u) (omega arith);
+    table = y .table;
+    sound = rw (x .acted .sound .0) at (y .sound);
+  }
 
 -- what the rules make of the text is what they make of it from i on
 pub record Going (w : Surroundings) (m : Mode) (text : List ℕ) (depth left : ℕ) (out : List ℕ) (written limit : ℕ) (fs ss : List ℕ) (vs ts : List ℤ) (count : ℕ) (i l n : ℕ) (out' : List ℕ) (vs' : List ℤ) : Type 0 where
@@ -61,47 +87,17 @@ module _ {w : Surroundings} {m : Mode} {text : List ℕ} {depth left : ℕ} {out
       so-far = fill-more (g .filled) (r .filled)
 
       module _ {out3 : List ℕ} {vs3 : List ℤ} where
-        pub wrote : {n3 : ℕ} → ActsTo (acted.Wrote n3) w m out2 n2 limit depth (actionIn what) fs ss vs1 ts count out3 vs3
-            → Going w m text depth left out written limit fs ss vs ts count end l2 n3 out3 vs3
-        wrote a = record {
-          is = λ u e. here u e ∙ a .acted .is l2 (drop end text) u e;
-          high = r .high;
-          filled = let s = a .acted .sound in fill-more so-far (record { room = s .0; more = s .1; kept = s .2 });
-          table = a .table;
-        }
+        pub goes-on : {l3 n3 : ℕ} → CarriedOut (Over l3 n3) w m (actionIn what) depth l2 out2 n2 limit fs ss vs1 ts count out3 vs3
+            → Going w m text depth left out written limit fs ss vs ts count end l3 n3 out3 vs3
+        goes-on x = record { is = λ u e. here u e ∙ x .is (drop end text) u e; high = r .high; filled = fill-more so-far (x .sound); table = x .table }
 
-        pub refuses : {k : ℕ} → ActsTo (acted.Refused k) w m out2 n2 limit depth (actionIn what) fs ss vs1 ts count out3 vs3
+        pub ended : {n3 : ℕ} → CarriedOut (Ended n3) w m (actionIn what) depth l2 out2 n2 limit fs ss vs1 ts count out3 vs3
+            → ExpandsTo (Ended n3) w m text depth left out written limit fs ss vs ts count out3 vs3
+        ended x = record { is = λ u e. here u e ∙ x .is (drop end text) u e; table = x .table; sound = fill-more so-far (x .sound) }
+
+        pub refused : {k : ℕ} → CarriedOut (Refused k) w m (actionIn what) depth l2 out2 n2 limit fs ss vs1 ts count out3 vs3
             → ExpandsTo (Refused k) w m text depth left out written limit fs ss vs ts count out3 vs3
-        refuses a = record { is = λ u e. here u e ∙ a .acted .is l2 (drop end text) u e; table = a .table; sound = a .acted .sound }
-
-        pub ends : ActsTo acted.Ends w m out2 n2 limit depth (actionIn what) fs ss vs1 ts count out3 vs3
-            → ExpandsTo (Ended n2) w m text depth left out written limit fs ss vs ts count out3 vs3
-        ends a = record { is = λ u e. here u e ∙ a .acted .is l2 (drop end text) u e; table = a .table; sound = rw (a .acted .sound) so-far }
-
-        module _ {name : Name} (a : ActsTo (acted.Enters name) w m out2 n2 limit depth (actionIn what) fs ss vs1 ts count out3 vs3) where
-          module _ {p : Progress} {string out4 : List ℕ} {vs4 : List ℤ} (b : string ≡ bytesOr (textOf name (w .texts)))
-              (x : ExpandsTo p w m string (depth + 1) l2 out3 n2 limit fs ss vs3 ts count out4 vs4) where
-            inside : (u : List (List ℕ)) → length u ≡ depth
-                → total w m out written limit left (text ∷ u) (tableOf fs ss vs ts count) ≡ progressOf p w m out4 limit (drop end text ∷ u) (tableOf fs ss vs4 ts count)
-            inside u e =
-                here u e ∙ a .acted .is l2 (drop end text) u e ∙ ap (λ t. total w m out3 n2 limit l2 (t ∷ drop end text ∷ u) (tableOf fs ss vs3 ts count)) (sym b)
-                ∙ x .is (drop end text ∷ u) (omega arith)
-
-          before-it : Filled out written limit n2 out3
-          before-it = rw (a .acted .sound .0) so-far
-
-          module _ {string out4 : List ℕ} {vs4 : List ℤ} (b : string ≡ bytesOr (textOf name (w .texts))) where
-            pub string-over : {l3 n3 : ℕ} → ExpandsTo (Over l3 n3) w m string (depth + 1) l2 out3 n2 limit fs ss vs3 ts count out4 vs4
-                → Going w m text depth left out written limit fs ss vs ts count end l3 n3 out4 vs4
-            string-over x = record { is = λ u e. inside b x u e; high = r .high; filled = fill-more before-it (x .sound); table = x .table }
-
-            pub string-ended : {n3 : ℕ} → ExpandsTo (Ended n3) w m string (depth + 1) l2 out3 n2 limit fs ss vs3 ts count out4 vs4
-                → ExpandsTo (Ended n3) w m text depth left out written limit fs ss vs ts count out4 vs4
-            string-ended x = record { is = λ u e. inside b x u e; table = x .table; sound = fill-more before-it (x .sound) }
-
-            pub string-refused : {k : ℕ} → ExpandsTo (Refused k) w m string (depth + 1) l2 out3 n2 limit fs ss vs3 ts count out4 vs4
-                → ExpandsTo (Refused k) w m text depth left out written limit fs ss vs ts count out4 vs4
-            string-refused x = record { is = λ u e. inside b x u e; table = x .table; sound = x .sound }
+        refused x = record { is = λ u e. here u e ∙ x .is (drop end text) u e; table = x .table; sound = x .sound }
 
 -- the whole line
 module _ {w : Surroundings} {m : Mode} {line : List ℕ} {left : ℕ} {out : List ℕ} {limit : ℕ} {fs ss : List ℕ} {vs ts : List ℤ} {count : ℕ} {out' : List ℕ} {vs' : List ℤ} where

@@ -6,7 +6,7 @@ use lib.ListN.{length, take, drop}
 use lib.IntN.{ℤ}
 use Rattle.rules.specs.declared.Register.{Register}
 use Rattle.rules.specs.declared.Mode.{Mode}
-use Rattle.rules.specs.Escapes.{Surroundings, scanned, refused}
+use Rattle.rules.specs.Escapes.{Surroundings, scanned, refused, Action}
 use Rattle.rules.specs.Escapes as rules
 use Rattle.registers.specs.Table.Columns.{Table, tableOf}
 use Rattle.scan.specs.declared.escapes.What.{What}
@@ -61,6 +61,13 @@ abbrev pub SoundProgress : Progress → (out : List ℕ) → (written limit : �
 SoundProgress (Over l n) out written limit out' = Filled out written limit n out'
 SoundProgress (Ended n) out written limit out' = Filled out written limit n out'
 SoundProgress (Refused k) out written limit out' = length out' ≡ 512
+
+-- an escape is carried out as the rules say, in a text that is within as many others as the depth
+pub record CarriedOut (r : Progress) (w : Surroundings) (m : Mode) (a : Action) (depth left : ℕ) (out : List ℕ) (written limit : ℕ) (fs ss : List ℕ) (vs ts : List ℤ) (count : ℕ) (out' : List ℕ) (vs' : List ℤ) : Type 0 where
+  pub is : (t : List ℕ) (u : List (List ℕ)) → length u ≡ depth
+      → behind w m out written limit a left (t ∷ u) (tableOf fs ss vs ts count) ≡ progressOf r w m out' limit (t ∷ u) (tableOf fs ss vs' ts count)
+  pub table : Table fs ss vs' ts count
+  pub sound : SoundProgress r out written limit out'
 
 -- a text is expanded as the rules say, in whatever texts it stands, as many as the depth
 pub record ExpandsTo (r : Progress) (w : Surroundings) (m : Mode) (text : List ℕ) (depth left : ℕ) (out : List ℕ) (written limit : ℕ) (fs ss : List ℕ) (vs ts : List ℤ) (count : ℕ) (out' : List ℕ) (vs' : List ℤ) : Type 0 where
