@@ -29,6 +29,12 @@ ghost use Rattle.texts.specs.Table.Places.{placeOf};
 ghost use Rattle.page.specs.Springs.Held.{isText};
 ghost use Rattle.record_checks.specs.Soundness.Checks.{Lent, isSetting, isLength, isTotal, isLayout, isPage, isCollected, isSheet, areArguments, isAt, isItem, isFrame, isDepth, isStack, isOpening, areTexts, isSound};
 
+// The cells of a line, as a width is counted.
+const LINE_CELLS: u32 = LINE_SIZE as u32;
+
+// The bytes of a line, as a frame counts its own.
+const FRAME_SIZE: u16 = LINE_SIZE as u16;
+
 // A setting and the value before it: at most so many cells.
 fn is_setting(setting: Setting, most: u32) -> bool
     ensures { λ r. ⌜ r ≡ isSetting most setting ⌝ }
@@ -105,7 +111,7 @@ fn is_collected(collected: Collected) -> bool
         return false;
     }
     let room = collected.room;
-    if 512 < measure::across(room) {
+    if LINE_CELLS < measure::across(room) {
         return false;
     }
     let indent = collected.indent;
@@ -197,7 +203,7 @@ fn is_item(
     }
 }
 
-// A frame within its 512 bytes, of an item that keeps to its limits.
+// A frame within its bytes, of an item that keeps to its limits.
 fn is_frame(
     entry: Entry,
     frame: usize,
@@ -210,7 +216,7 @@ fn is_frame(
     ensures { λ r. ⌜ r ≡ isFrame (namesOf (now (firsts .entry)) (now (seconds .entry)) count) entry (take 9 (drop (frame * 13 + 4) (now (ends .entry)))) ⌝ }
 {
     let size = entry.size;
-    if 512 < size {
+    if FRAME_SIZE < size {
         return false;
     }
     let what = entry.what;
