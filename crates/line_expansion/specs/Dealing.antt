@@ -19,10 +19,15 @@ use Rattle.rules.specs.Rows.{Next, goes, refuses}
 use Rattle.rules.specs.TextLines.{textLine}
 use Rattle.rules.specs.ControlLines.{meaningOf, obey, keepBody, bodyLine, deal}
 use Rattle.registers.specs.Table.Columns.{tableOf, Table}
+use Rattle.rules.specs.declared.Mode.the-variants.{Plain}
+use Rattle.rules.specs.Requests.{modeOf}
 use Rattle.line_syntax.specs.declared.lines.Meaning.{Meaning}
+use Rattle.line_syntax.specs.declared.lines.Meaning.the-variants as meaning
 use Rattle.line_syntax.specs.Lines.Meanings.{MeaningIs}
 use Rattle.scan.specs.declared.expansion.Scanned.{Scanned}
 use Rattle.scan.specs.declared.expansion.Scanned.the-variants as scan
+use Rattle.line_expansion.specs.declared.Expansion.{Expansion}
+use Rattle.line_expansion.specs.declared.Expansion.the-variants.{In, Ignored}
 use Rattle.line_expansion.specs.declared.Dealt.{Dealt}
 use Rattle.line_expansion.specs.declared.Dealt.the-variants.{Closes, Keeps, Words, Control, Nothing, Refused}
 
@@ -59,6 +64,12 @@ wordsAs (scan.Refused k) = Refused k
 abbrev pub controlAs : Scanned → (period : Bool) → Name → Meaning → Dealt
 controlAs (scan.Line n) q k m = Control q k m n
 controlAs (scan.Refused i) q k m = Refused i
+
+-- how what follows a name is expanded, by what the name means
+abbrev pub expansionOf : Meaning → Expansion
+expansionOf (meaning.Calls k) = In Plain
+expansionOf (meaning.Requests i) = In (modeOf i)
+expansionOf meaning.Nothing = Ignored
 
 -- what is left to do with the expanded line
 abbrev pub dealtOf : Printer → Dealt → (out : List ℕ) → State → Next

@@ -31,10 +31,11 @@ use Rattle.rules.specs.declared.Request.{Request}
 use Rattle.scan.specs.declared.expansion.Scanned.{Scanned}
 use Rattle.scan.specs.declared.expansion.Scanned.the-variants as scan
 use Rattle.scan.specs.Expansion.Expansion.{ScannedTo}
+use Rattle.line_expansion.specs.declared.Expansion.the-variants.{In, Ignored}
 use Rattle.line_expansion.specs.declared.Dealt.{Dealt}
 use Rattle.line_expansion.specs.declared.Dealt.the-variants.{Closes, Nothing}
 use Rattle.state.specs.Whole.{surroundings}
-use Rattle.line_expansion.specs.Dealing.{scene, keptAs, wordsAs, controlAs, dealtOf, SoundDealt, DealtTo}
+use Rattle.line_expansion.specs.Dealing.{scene, keptAs, wordsAs, controlAs, expansionOf, dealtOf, SoundDealt, DealtTo}
 
 module _ (p : Printer) (y : Layout) (g : Page) (ts : List Text) (args : List (List ℕ)) (line : List ℕ) (fs ss : List ℕ) (vs us : List ℤ) (count : ℕ) where
   abbrev before : Option Definition → State → State
@@ -124,17 +125,26 @@ module _ (p : Printer) (y : Layout) (g : Page) (ts : List Text) (args : List (Li
   pub keeps-dealt : (r : Scanned) (out out' : List ℕ) (vs' : List ℤ) → Expanded r Copy 0 line out out' vs' → isClosing line ≡ false → Deals (keptAs r) true out' vs'
   keeps-dealt r out out' vs' a e = open-dealt (keptAs r) out' vs' (a .table) (a .long) (keeps-sound r Copy 0 line out out' vs' a) (keeps-is r out out' vs' a e)
 
-  pub call-dealt : (q : Bool) (k : Name) (rest : List ℕ) (h : Kind) (c : Called ts k h) (r : Scanned) (out out' : List ℕ) (vs' : List ℤ) → Expanded r Plain (prefixOf k) rest out out' vs'
+  call-dealt : (q : Bool) (k : Name) (rest : List ℕ) (h : Kind) (c : Called ts k h) (r : Scanned) (out out' : List ℕ) (vs' : List ℤ) → Expanded r Plain (prefixOf k) rest out out' vs'
       → lineOf line ≡ control q k rest → Deals (controlAs r q k (meaning.Calls h)) false out' vs'
   call-dealt q k rest h c r out out' vs' a e =
       closed-dealt (controlAs r q k (meaning.Calls h)) out' vs' (a .table) (a .long) (control-sound r Plain (prefixOf k) rest out out' vs' q k (meaning.Calls h) a c)
       (control-is q k rest (calls (c .text)) Plain (meaning.Calls h) r out out' vs' a e (called-means c) (λ s. refl))
 
-  pub request-dealt : (q : Bool) (k : Name) (rest : List ℕ) (i : Request) → textMeaning (textOf k ts) k ≡ requests i → (r : Scanned) (out out' : List ℕ) (vs' : List ℤ)
+  request-dealt : (q : Bool) (k : Name) (rest : List ℕ) (i : Request) → textMeaning (textOf k ts) k ≡ requests i → (r : Scanned) (out out' : List ℕ) (vs' : List ℤ)
       → Expanded r (modeOf i) (prefixOf k) rest out out' vs' → lineOf line ≡ control q k rest → Deals (controlAs r q k (meaning.Requests i)) false out' vs'
   request-dealt q k rest i f r out out' vs' a e =
       closed-dealt (controlAs r q k (meaning.Requests i)) out' vs' (a .table) (a .long) (control-sound r (modeOf i) (prefixOf k) rest out out' vs' q k (meaning.Requests i) a f)
       (control-is q k rest (requests i) (modeOf i) (meaning.Requests i) r out out' vs' a e f (λ s. refl))
+
+  -- a control line whose name means something, in either mode
+  pub control-dealt : (q : Bool) (k : Name) (rest : List ℕ) (u : lines.Meaning) → MeaningIs ts k u → (m : Mode) → expansionOf u ≡ In m → (r : Scanned) (out out' : List ℕ) (vs' : List ℤ)
+      → Expanded r m (prefixOf k) rest out out' vs' → lineOf line ≡ control q k rest → Deals (controlAs r q k u) false out' vs'
+  control-dealt q k rest (meaning.Calls h) c m f r out out' vs' a e =
+      let i : m ≡ Plain = cc in call-dealt q k rest h c r out out' vs' (rw i at a) e
+  control-dealt q k rest (meaning.Requests i) c m f r out out' vs' a e =
+      let j : m ≡ modeOf i = cc in request-dealt q k rest i c r out out' vs' (rw j at a) e
+  control-dealt q k rest meaning.Nothing c m f r out out' vs' a e = let z : _≡_ {A = ℕ} 0 1 = cc in absurd (omega arith)
 
   module _ (out : List ℕ) (t : Table fs ss vs us count) (l : length out ≡ 512) where
     -- lines that are ignored unexpanded
@@ -142,10 +152,15 @@ module _ (p : Printer) (y : Layout) (g : Page) (ts : List Text) (args : List (Li
     unfolding deal
     ignored-dealt e = closed-dealt Nothing out vs t l tt (λ x. sym (ap (λ (v : Line). freshLine p v args (before none x)) e))
 
-    pub unknown-dealt : (q : Bool) (k : Name) (rest : List ℕ) → lineOf line ≡ control q k rest → textMeaning (textOf k ts) k ≡ nothing → Deals Nothing false out vs
+    unknown-dealt : (q : Bool) (k : Name) (rest : List ℕ) → lineOf line ≡ control q k rest → textMeaning (textOf k ts) k ≡ nothing → Deals Nothing false out vs
     unfolding deal
     unknown-dealt q k rest e f =
         closed-dealt Nothing out vs t l tt (λ x. sym (ap (λ (v : Meaning). controlLine p v args q k rest (before none x)) f) ∙ sym (ap (λ (v : Line). freshLine p v args (before none x)) e))
+
+    pub unexpanded-dealt : (q : Bool) (k : Name) (rest : List ℕ) (u : lines.Meaning) → MeaningIs ts k u → expansionOf u ≡ Ignored → lineOf line ≡ control q k rest → Deals Nothing false out vs
+    unexpanded-dealt q k rest (meaning.Calls h) c f e = let z : _≡_ {A = ℕ} 0 1 = cc in absurd (omega arith)
+    unexpanded-dealt q k rest (meaning.Requests i) c f e = let z : _≡_ {A = ℕ} 0 1 = cc in absurd (omega arith)
+    unexpanded-dealt q k rest meaning.Nothing c f e = unknown-dealt q k rest e c
 
     -- a definition is closed
     pub closes-dealt : isClosing line ≡ true → Deals Closes true out vs

@@ -23,7 +23,7 @@ ghost use Rattle.scan.specs.Expansion.Expansion.{ScannedTo};
 ghost use Rattle.texts.specs.Table.Table.{textsOf};
 ghost use Rattle.texts.specs.Lines.Lines.{nextLine, TopInside};
 ghost use Rattle.state.specs.Whole.{seenAt, surroundings, Shows};
-ghost use Rattle.line_expansion.specs.Dealing.{keptAs, wordsAs, controlAs, DealtTo};
+ghost use Rattle.line_expansion.specs.Dealing.{keptAs, wordsAs, controlAs, expansionOf, DealtTo};
 ghost use Rattle.rules.specs.Lines.{lineOf};
 ghost use Rattle.rules.specs.State.{control};
 ghost use mathlib.Core.Bool.{true, false};
@@ -202,7 +202,24 @@ fn scan_body(
     ))
 }
 
-// A control line: "lines with names .. unknown .. are ignored unexpanded".
+// How what follows a name is expanded, if it is.
+enum Expansion {
+    In(Mode),
+    Ignored,
+}
+
+// "lines with names .. unknown .. are ignored unexpanded".
+fn expansion_of(meaning: Meaning) -> Expansion
+    ensures { λ r. ⌜ r ≡ expansionOf meaning ⌝ }
+{
+    match meaning {
+        Meaning::Calls(_) => Expansion::In(Mode::Plain),
+        Meaning::Requests(request) => Expansion::In(line_syntax::lines::mode_of(request)),
+        Meaning::Nothing => Expansion::Ignored,
+    }
+}
+
+// A control line: what follows its name is expanded, unless the line is ignored.
 fn scan_control(
     line: &[u8],
     period: bool,
@@ -230,8 +247,6 @@ fn scan_control(
     requires { ⌜ Shows (layoutOf layout) (pageOf page) × scanning.Ready (now store) (now «text_firsts») (now «text_seconds») (now kinds) (now lengths) texts (now firsts) (now seconds) (now values) (now steps) count (now arguments) (now ends) given × Room (now out) 0 512 × (at ≤ length (now line)) × (lineOf (now line) ≡ control period name (drop at (now line))) ⌝ }
     ensures { λ r. ⌜ DealtTo r (printerOf printer) (layoutOf layout) (pageOf page) (textsOf (now (store .entry)) (now («text_firsts» .entry)) (now («text_seconds» .entry)) (now (kinds .entry)) (now (lengths .entry)) texts) false (argumentsOf (now (arguments .entry)) (now (ends .entry)) given) (now (line .entry)) (now (firsts .entry)) (now (seconds .entry)) (now (values .entry)) (now (steps .entry)) count (now (out .exit)) (now (values .exit)) ⌝ }
 {
-    let rest = &line[at..];
-    let prefix = line_syntax::lines::prefix_of(name);
     let meaning = line_syntax::lines::meaning_of(
         store,
         text_firsts,
@@ -241,62 +256,34 @@ fn scan_control(
         texts,
         name,
     );
-    match meaning {
-        Meaning::Calls(_) => {
-            let scanned = expand(
-                rest,
-                Mode::Plain,
-                prefix,
-                printer,
-                layout,
-                page,
-                store,
-                text_firsts,
-                text_seconds,
-                kinds,
-                lengths,
-                texts,
-                firsts,
-                seconds,
-                values,
-                steps,
-                count,
-                arguments,
-                ends,
-                given,
-                out,
-            );
-            control_as(scanned, period, name, meaning)
-        }
-        Meaning::Requests(request) => {
-            let mode = line_syntax::lines::mode_of(request);
-            let scanned = expand(
-                rest,
-                mode,
-                prefix,
-                printer,
-                layout,
-                page,
-                store,
-                text_firsts,
-                text_seconds,
-                kinds,
-                lengths,
-                texts,
-                firsts,
-                seconds,
-                values,
-                steps,
-                count,
-                arguments,
-                ends,
-                given,
-                out,
-            );
-            control_as(scanned, period, name, meaning)
-        }
-        Meaning::Nothing => Dealt::Nothing,
-    }
+    let expansion = expansion_of(meaning);
+    let Expansion::In(mode) = expansion else {
+        return Dealt::Nothing;
+    };
+    let scanned = expand(
+        &line[at..],
+        mode,
+        line_syntax::lines::prefix_of(name),
+        printer,
+        layout,
+        page,
+        store,
+        text_firsts,
+        text_seconds,
+        kinds,
+        lengths,
+        texts,
+        firsts,
+        seconds,
+        values,
+        steps,
+        count,
+        arguments,
+        ends,
+        given,
+        out,
+    );
+    control_as(scanned, period, name, meaning)
 }
 
 // A line as it was taken, where no definition is open.
