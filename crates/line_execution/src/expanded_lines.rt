@@ -17,11 +17,13 @@ use texts::table::Kept;
 ghost use mathlib.Core.Path.{_≡_};
 ghost use mathlib.Core.Bool.{false};
 ghost use lib.ListN.{length};
+ghost use Rattle.texts.specs.Table.Table.{Lies};
+ghost use Rattle.texts.specs.Table.Changes.{Opens, ClosedTo};
 ghost use Rattle.settings.specs.Layout.Layouts.{printerOf};
 ghost use Rattle.state.specs.Whole.{Whole, textsIn, Did};
 ghost use Rattle.state.specs.Statuses.{wholeOf, Begins};
 ghost use Rattle.line_expansion.specs.Dealing.{dealtOf, SoundDealt};
-ghost use Rattle.line_execution.specs.ExpandedLines.Steps.{closedTo, keptTo};
+ghost use Rattle.line_execution.specs.ExpandedLines.Steps.{closedTo, keptTo, LineKept};
 
 // A definition is closed: so many texts, and none open.
 fn closed(texts: usize, status: Status) -> Step
@@ -58,6 +60,43 @@ fn kept(answer: Kept, status: Status) -> Step
     }
 }
 
+// The open definition becomes a text.
+fn close(
+    status: Status,
+    store: &[u8],
+    text_firsts: &mut ByteColumn,
+    text_seconds: &mut ByteColumn,
+    kinds: &mut ByteColumn,
+    lengths: &mut LengthColumn,
+) -> Step
+    requires { ⌜ Lies (now store) (now «text_firsts») (now «text_seconds») (now kinds) (now lengths) (status .texts) × Opens (now store) (now lengths) (status .texts) (status .opening .length) ⌝ }
+    ensures { λ r. ⌜ (r ≡ closedTo (r .status .texts) status) × ClosedTo (now (store .entry)) (now («text_firsts» .entry)) (now («text_seconds» .entry)) (now (kinds .entry)) (now (lengths .entry)) (status .texts) (status .opening .length) (status .opening .name) (r .status .texts) (now («text_firsts» .exit)) (now («text_seconds» .exit)) (now (kinds .exit)) (now (lengths .exit)) ⌝ }
+{
+    let opening = status.opening;
+    let name = opening.name;
+    let texts = texts::definitions::close_macro(
+        store,
+        text_firsts,
+        text_seconds,
+        kinds,
+        lengths,
+        status.texts,
+        opening.length,
+        name,
+    );
+    closed(texts, status)
+}
+
+// A line goes to the end of the open definition.
+fn keep(line: &[u8], status: Status, store: &mut [u8], lengths: &LengthColumn) -> Step
+    requires { ⌜ Opens (now store) (now lengths) (status .texts) (status .opening .length) ⌝ }
+    ensures { λ r. ⌜ LineKept status (now (store .entry)) (now (lengths .entry)) (now (line .entry)) r (now (store .exit)) ⌝ }
+{
+    let opening = status.opening;
+    let answer = texts::definitions::keep_line(store, lengths, status.texts, opening.length, line);
+    kept(answer, status)
+}
+
 // What is left to do with a line, once it is expanded.
 pub fn finish(
     dealt: Dealt,
@@ -88,33 +127,9 @@ pub fn finish(
     let collected = status.collected;
     let planted = status.planted;
     let stack = status.stack;
-    let opening = status.opening;
     match dealt {
-        Dealt::Closes => {
-            let name = opening.name;
-            let texts = texts::definitions::close_macro(
-                &*store,
-                text_firsts,
-                text_seconds,
-                kinds,
-                lengths,
-                status.texts,
-                opening.length,
-                name,
-            );
-            closed(texts, status)
-        }
-        Dealt::Keeps(n) => {
-            let line = fill::words::slice(out, 0, n);
-            let answer = texts::definitions::keep_line(
-                store,
-                &*lengths,
-                status.texts,
-                opening.length,
-                line,
-            );
-            kept(answer, status)
-        }
+        Dealt::Closes => close(status, &*store, text_firsts, text_seconds, kinds, lengths),
+        Dealt::Keeps(n) => keep(fill::words::slice(out, 0, n), status, store, &*lengths),
         Dealt::Words(n) => {
             let outcome = composition::text_lines::text_line(
                 out,

@@ -1,8 +1,11 @@
 -- What a line of an open definition makes of a status. Assumes nothing.
+use mathlib.Core.Path.{_≡_}
 use mathlib.Core.Bool.{true}
+use mathlib.Core.List.{List}
 use Prim.Native.Nat.{ℕ}
 use Rattle.texts.specs.declared.table.Kept.{Kept}
 use Rattle.texts.specs.declared.table.Kept.the-variants as kept
+use Rattle.texts.specs.Table.Changes.{KeptTo}
 use Rattle.page.specs.declared.springs.Way.the-variants.{On, Refused}
 use Rattle.state.specs.declared.Status.{Status}
 use Rattle.state.specs.declared.Step.{Step}
@@ -17,3 +20,9 @@ closedTo n s = stayed On (withTexts n noOpening s)
 abbrev pub keptTo : Kept → Status → Step
 keptTo (kept.Longer n) s = stayed On (withTexts (s .texts) (record { there = true; name = s .opening .name; length = n }) s)
 keptTo kept.Full s = stayed (Refused 11) s
+
+-- the store of texts answers whether a line is kept, and the step goes by that
+pub record LineKept (s : Status) (st ls line : List ℕ) (r : Step) (st' : List ℕ) : Type 0 where
+  pub answer : Kept
+  pub is : r ≡ keptTo answer s
+  pub kept : KeptTo st ls (s .texts) (s .opening .length) line answer st'
