@@ -1,4 +1,5 @@
 // The parts of a place are read from plain words.
+use super::places;
 use composition::page_rows::Collected;
 use measure::Cells;
 use measure::Rows;
@@ -15,7 +16,7 @@ use source_line::Source;
 use state::Opening;
 use traps::table::Planted;
 ghost use mathlib.Core.Path.{_≡_};
-ghost use Prim.Native.Nat.{_+_, _<_, min};
+ghost use Prim.Native.Nat.{_+_, _*_, _<_, min};
 ghost use lib.ListN.{length};
 ghost use Rattle.record_words.specs.Decoding.Words.{Short, wordAt, countAt, isSet, cellsAt, rowsAt, settingAt, nameOf, nameAt, totalBy, layoutIn, pageIn, collectedIn, countsIn, openingIn, sourceIn, waitingIn, closingBy, closingIn, trapAt, plantedIn};
 
@@ -136,14 +137,17 @@ pub fn layout(words: &RecordWords) -> Layout
     ensures { λ r. ⌜ r ≡ layoutIn (now (words .entry)) ⌝ }
 {
     Layout {
-        line: setting_at(words, 0),
-        indent: setting_at(words, 2),
-        offset: setting_at(words, 4),
-        page: rows_at(words, 6),
-        total: total_by(flag_at(words, 7), cells_at(words, 8)),
-        filling: flag_at(words, 9),
-        adjusting: flag_at(words, 10),
-        centred: count_at(words, 11),
+        line: setting_at(words, places::LINE_LENGTH),
+        indent: setting_at(words, places::INDENT),
+        offset: setting_at(words, places::OFFSET),
+        page: rows_at(words, places::PAGE_LENGTH),
+        total: total_by(
+            flag_at(words, places::HAS_TOTAL),
+            cells_at(words, places::TOTAL),
+        ),
+        filling: flag_at(words, places::FILLING),
+        adjusting: flag_at(words, places::ADJUSTING),
+        centred: count_at(words, places::CENTRED),
     }
 }
 
@@ -151,9 +155,9 @@ pub fn page(words: &RecordWords) -> Page
     ensures { λ r. ⌜ r ≡ pageIn (now (words .entry)) ⌝ }
 {
     Page {
-        number: count_at(words, 12),
-        used: rows_at(words, 13),
-        last: flag_at(words, 14),
+        number: count_at(words, places::PAGE_NUMBER),
+        used: rows_at(words, places::ROWS_USED),
+        last: flag_at(words, places::IS_LAST_PAGE),
     }
 }
 
@@ -161,11 +165,11 @@ pub fn collected(words: &RecordWords) -> Collected
     ensures { λ r. ⌜ r ≡ collectedIn (now (words .entry)) ⌝ }
 {
     Collected {
-        there: flag_at(words, 15),
-        indent: cells_at(words, 16),
-        room: cells_at(words, 17),
-        length: size_at(words, 18),
-        next: size_at(words, 19),
+        there: flag_at(words, places::HAS_LINE),
+        indent: cells_at(words, places::LINE_INDENT),
+        room: cells_at(words, places::LINE_ROOM),
+        length: size_at(words, places::LINE_CELLS),
+        next: size_at(words, places::NEXT_GAP),
     }
 }
 
@@ -173,9 +177,9 @@ pub fn counts_in(words: &RecordWords) -> Counts
     ensures { λ r. ⌜ r ≡ countsIn (now (words .entry)) ⌝ }
 {
     Counts {
-        depth: size_at(words, 20),
-        texts: size_at(words, 21),
-        registers: size_at(words, 22),
+        depth: size_at(words, places::STACK_DEPTH),
+        texts: size_at(words, places::TEXT_COUNT),
+        registers: size_at(words, places::REGISTER_COUNT),
     }
 }
 
@@ -183,9 +187,9 @@ pub fn opening(words: &RecordWords) -> Opening
     ensures { λ r. ⌜ (r ≡ openingIn (now (words .entry))) × Short (r .length) ⌝ }
 {
     Opening {
-        there: flag_at(words, 23),
-        name: name_at(words, 24),
-        length: size_at(words, 25),
+        there: flag_at(words, places::HAS_OPENING),
+        name: name_at(words, places::OPENING_NAME),
+        length: size_at(words, places::OPENING_LENGTH),
     }
 }
 
@@ -193,10 +197,10 @@ pub fn source(words: &RecordWords) -> Source
     ensures { λ r. ⌜ r ≡ sourceIn (now (words .entry)) ⌝ }
 {
     Source {
-        line: count_at(words, 26),
-        length: size_at(words, 27),
-        ended: flag_at(words, 28),
-        stored: short_at(words, 29),
+        line: count_at(words, places::SOURCE_LINES),
+        length: size_at(words, places::GATHERED_LENGTH),
+        ended: flag_at(words, places::IS_ENDED),
+        stored: short_at(words, places::STORED_LINES),
     }
 }
 
@@ -204,8 +208,8 @@ pub fn waiting(words: &RecordWords) -> Waiting
     ensures { λ r. ⌜ r ≡ waitingIn (now (words .entry)) ⌝ }
 {
     Waiting {
-        at: size_at(words, 30),
-        end: size_at(words, 31),
+        at: size_at(words, places::WAITING_FROM),
+        end: size_at(words, places::WAITING_END),
     }
 }
 
@@ -224,15 +228,22 @@ fn closing_by(there: bool, tag: u32, number: u8, line: u32) -> Closing
 pub fn closing(words: &RecordWords) -> Closing
     ensures { λ r. ⌜ r ≡ closingIn (now (words .entry)) ⌝ }
 {
-    let there = flag_at(words, 32);
-    let tag = count_at(words, 32);
-    closing_by(there, tag, byte_at(words, 33), count_at(words, 34))
+    let there = flag_at(words, places::CLOSING_TAG);
+    let tag = count_at(words, places::CLOSING_TAG);
+    closing_by(
+        there,
+        tag,
+        byte_at(words, places::REFUSAL_NUMBER),
+        count_at(words, places::REFUSAL_LINE),
+    )
 }
 
-fn trap_at(words: &RecordWords, at: usize) -> Trap
-    requires { ⌜ at < 67 ⌝ }
-    ensures { λ r. ⌜ r ≡ trapAt (now (words .entry)) at ⌝ }
+// A trap by its number, from 0.
+fn trap_at(words: &RecordWords, i: usize) -> Trap
+    requires { ⌜ i < 16 ⌝ }
+    ensures { λ r. ⌜ r ≡ trapAt (now (words .entry)) (36 + 2 * i) ⌝ }
 {
+    let at = places::TRAPS + 2 * i;
     Trap {
         place: rows_at(words, at),
         name: name_at(words, at + 1),
@@ -243,25 +254,25 @@ pub fn planted(words: &RecordWords) -> Planted
     ensures { λ r. ⌜ r ≡ plantedIn (now (words .entry)) ⌝ }
 {
     let traps = [
-        trap_at(words, 36),
-        trap_at(words, 38),
-        trap_at(words, 40),
-        trap_at(words, 42),
-        trap_at(words, 44),
-        trap_at(words, 46),
-        trap_at(words, 48),
-        trap_at(words, 50),
-        trap_at(words, 52),
-        trap_at(words, 54),
-        trap_at(words, 56),
-        trap_at(words, 58),
-        trap_at(words, 60),
-        trap_at(words, 62),
-        trap_at(words, 64),
-        trap_at(words, 66),
+        trap_at(words, 0),
+        trap_at(words, 1),
+        trap_at(words, 2),
+        trap_at(words, 3),
+        trap_at(words, 4),
+        trap_at(words, 5),
+        trap_at(words, 6),
+        trap_at(words, 7),
+        trap_at(words, 8),
+        trap_at(words, 9),
+        trap_at(words, 10),
+        trap_at(words, 11),
+        trap_at(words, 12),
+        trap_at(words, 13),
+        trap_at(words, 14),
+        trap_at(words, 15),
     ];
     Planted {
         traps,
-        count: size_at(words, 35),
+        count: size_at(words, places::TRAP_COUNT),
     }
 }

@@ -1,5 +1,6 @@
 // The parts of a record that are no arrays, read from 68 plain words and written as them. Any words are read as parts.
 use super::decoding::Counts;
+use super::places;
 use composition::page_rows::Collected;
 use input_stack::stack::Stack;
 use measure::Cells;
@@ -14,13 +15,14 @@ use rules::arrays::RECORD_WORDS;
 use rules::arrays::RecordWords;
 use settings::layout::Layout;
 use settings::layout::Total;
+use settings::lengths::Setting;
 use source_line::Source;
 use state::Opening;
 use state::Status;
 use traps::table::Planted;
 ghost use mathlib.Core.Path.{_≡_};
 ghost use mathlib.Core.List.{[], _∷_};
-ghost use Prim.Native.Nat.{_+_, _<_, _≤_};
+ghost use Prim.Native.Nat.{_+_, _*_, _<_, _≤_};
 ghost use lib.ListN.{length, set};
 ghost use lib.Seq.{sets};
 ghost use Rattle.record_words.specs.Decoding.Words.{Short, wordOf, flagWord, nameWord, totalTag, totalValue, layoutWords, pageWords, collectedWords, countsWords, openingWords, sourceWords, waitingWords, closingWords, plantedWords, Named, AllNamed, numberOf, Written, placeIn, PlaceWritten};
@@ -76,17 +78,25 @@ fn put_name(words: &mut RecordWords, at: usize, name: Name)
     put_count(words, at, name.first as usize * 256 + name.second as usize);
 }
 
+fn put_setting(words: &mut RecordWords, at: usize, setting: Setting)
+    requires { ⌜ at < 67 ⌝ }
+    ensures { λ _. ⌜ now (words .exit) ≡ set (set (now (words .entry)) at (setting .now .0)) (at + 1) (setting .former .0) ⌝ }
+{
+    put_cells(words, at, setting.now);
+    put_cells(words, at + 1, setting.former);
+}
+
 fn put_total(words: &mut RecordWords, total: Total)
     ensures { λ _. ⌜ now (words .exit) ≡ sets (now (words .entry)) 7 (totalTag total ∷ totalValue total ∷ []) ⌝ }
 {
     match total {
         Total::Is(count) => {
-            put_flag(words, 7, true);
-            put_cells(words, 8, count);
+            put_flag(words, places::HAS_TOTAL, true);
+            put_cells(words, places::TOTAL, count);
         }
         Total::Nothing => {
-            put_flag(words, 7, false);
-            put_count(words, 8, 0);
+            put_flag(words, places::HAS_TOTAL, false);
+            put_count(words, places::TOTAL, 0);
         }
     }
 }
@@ -98,76 +108,73 @@ fn put_layout(words: &mut RecordWords, layout: Layout)
     let indent = layout.indent;
     let offset = layout.offset;
     let total = layout.total;
-    put_cells(words, 0, line.now);
-    put_cells(words, 1, line.former);
-    put_cells(words, 2, indent.now);
-    put_cells(words, 3, indent.former);
-    put_cells(words, 4, offset.now);
-    put_cells(words, 5, offset.former);
-    put_rows(words, 6, layout.page);
+    put_setting(words, places::LINE_LENGTH, line);
+    put_setting(words, places::INDENT, indent);
+    put_setting(words, places::OFFSET, offset);
+    put_rows(words, places::PAGE_LENGTH, layout.page);
     put_total(words, total);
-    put_flag(words, 9, layout.filling);
-    put_flag(words, 10, layout.adjusting);
-    put_count(words, 11, layout.centred as usize);
+    put_flag(words, places::FILLING, layout.filling);
+    put_flag(words, places::ADJUSTING, layout.adjusting);
+    put_count(words, places::CENTRED, layout.centred as usize);
 }
 
 fn put_page(words: &mut RecordWords, page: Page)
     ensures { λ _. ⌜ now (words .exit) ≡ sets (now (words .entry)) 12 (pageWords page) ⌝ }
 {
-    put_count(words, 12, page.number as usize);
-    put_rows(words, 13, page.used);
-    put_flag(words, 14, page.last);
+    put_count(words, places::PAGE_NUMBER, page.number as usize);
+    put_rows(words, places::ROWS_USED, page.used);
+    put_flag(words, places::IS_LAST_PAGE, page.last);
 }
 
 fn put_collected(words: &mut RecordWords, collected: Collected)
     ensures { λ _. ⌜ now (words .exit) ≡ sets (now (words .entry)) 15 (collectedWords collected) ⌝ }
 {
-    put_flag(words, 15, collected.there);
-    put_cells(words, 16, collected.indent);
-    put_cells(words, 17, collected.room);
-    put_count(words, 18, collected.length);
-    put_count(words, 19, collected.next);
+    put_flag(words, places::HAS_LINE, collected.there);
+    put_cells(words, places::LINE_INDENT, collected.indent);
+    put_cells(words, places::LINE_ROOM, collected.room);
+    put_count(words, places::LINE_CELLS, collected.length);
+    put_count(words, places::NEXT_GAP, collected.next);
 }
 
 fn put_counts(words: &mut RecordWords, counts: Counts)
     ensures { λ _. ⌜ now (words .exit) ≡ sets (now (words .entry)) 20 (countsWords counts) ⌝ }
 {
-    put_count(words, 20, counts.depth);
-    put_count(words, 21, counts.texts);
-    put_count(words, 22, counts.registers);
+    put_count(words, places::STACK_DEPTH, counts.depth);
+    put_count(words, places::TEXT_COUNT, counts.texts);
+    put_count(words, places::REGISTER_COUNT, counts.registers);
 }
 
 fn put_opening(words: &mut RecordWords, opening: Opening)
     ensures { λ _. ⌜ (now (words .exit) ≡ sets (now (words .entry)) 23 (openingWords opening)) × Named (opening .name) ⌝ }
 {
-    put_flag(words, 23, opening.there);
-    put_name(words, 24, opening.name);
-    put_count(words, 25, opening.length);
+    put_flag(words, places::HAS_OPENING, opening.there);
+    put_name(words, places::OPENING_NAME, opening.name);
+    put_count(words, places::OPENING_LENGTH, opening.length);
 }
 
 fn put_source(words: &mut RecordWords, source: Source)
     ensures { λ _. ⌜ (now (words .exit) ≡ sets (now (words .entry)) 26 (sourceWords source)) × (source .stored ≤ 65535) ⌝ }
 {
-    put_count(words, 26, source.line as usize);
-    put_count(words, 27, source.length);
-    put_flag(words, 28, source.ended);
-    put_count(words, 29, source.stored as usize);
+    put_count(words, places::SOURCE_LINES, source.line as usize);
+    put_count(words, places::GATHERED_LENGTH, source.length);
+    put_flag(words, places::IS_ENDED, source.ended);
+    put_count(words, places::STORED_LINES, source.stored as usize);
 }
 
 fn put_waiting(words: &mut RecordWords, waiting: Waiting)
     ensures { λ _. ⌜ now (words .exit) ≡ sets (now (words .entry)) 30 (waitingWords waiting) ⌝ }
 {
-    put_count(words, 30, waiting.at);
-    put_count(words, 31, waiting.end);
+    put_count(words, places::WAITING_FROM, waiting.at);
+    put_count(words, places::WAITING_END, waiting.end);
 }
 
 // The tag, the number and the line of a closing answer.
 fn put_answer(words: &mut RecordWords, tag: usize, number: usize, line: usize)
     ensures { λ _. ⌜ now (words .exit) ≡ sets (now (words .entry)) 32 (wordOf tag ∷ wordOf number ∷ wordOf line ∷ []) ⌝ }
 {
-    put_count(words, 32, tag);
-    put_count(words, 33, number);
-    put_count(words, 34, line);
+    put_count(words, places::CLOSING_TAG, tag);
+    put_count(words, places::REFUSAL_NUMBER, number);
+    put_count(words, places::REFUSAL_LINE, line);
 }
 
 fn put_closing(words: &mut RecordWords, closing: Closing)
@@ -180,10 +187,12 @@ fn put_closing(words: &mut RecordWords, closing: Closing)
     }
 }
 
-fn put_trap(words: &mut RecordWords, at: usize, trap: Trap)
-    requires { ⌜ at < 67 ⌝ }
-    ensures { λ _. ⌜ (now (words .exit) ≡ set (set (now (words .entry)) at (trap .place .0)) (at + 1) (nameWord (trap .name))) × Named (trap .name) ⌝ }
+// A trap by its number, from 0.
+fn put_trap(words: &mut RecordWords, i: usize, trap: Trap)
+    requires { ⌜ i < 16 ⌝ }
+    ensures { λ _. ⌜ (now (words .exit) ≡ set (set (now (words .entry)) (36 + 2 * i) (trap .place .0)) (36 + 2 * i + 1) (nameWord (trap .name))) × Named (trap .name) ⌝ }
 {
+    let at = places::TRAPS + 2 * i;
     put_rows(words, at, trap.place);
     put_name(words, at + 1, trap.name);
 }
@@ -191,11 +200,11 @@ fn put_trap(words: &mut RecordWords, at: usize, trap: Trap)
 fn put_planted(words: &mut RecordWords, planted: Planted)
     ensures { λ _. ⌜ (now (words .exit) ≡ sets (now (words .entry)) 35 (plantedWords planted)) × (length (planted .traps) ≡ 16) × AllNamed (planted .traps) ⌝ }
 {
-    put_count(words, 35, planted.count);
+    put_count(words, places::TRAP_COUNT, planted.count);
     let mut i: usize = 0;
     while i < 16 {
         let trap = planted.traps[i];
-        put_trap(words, 36 + 2 * i, trap);
+        put_trap(words, i, trap);
         i += 1;
     }
 }
@@ -288,5 +297,5 @@ pub fn write_place(words: &mut RecordWords, place: Place)
 pub fn write_length(words: &mut RecordWords, length: usize)
     ensures { λ _. ⌜ now (words .exit) ≡ set (now (words .entry)) 27 (wordOf length) ⌝ }
 {
-    put_count(words, 27, length);
+    put_count(words, places::GATHERED_LENGTH, length);
 }

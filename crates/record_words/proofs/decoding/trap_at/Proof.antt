@@ -3,6 +3,12 @@ use borrow.Author.Needs.{needs}
 use Rattle.record_words.proofs.decoding.trap_at.Statement.{statement}
 use Rattle.record_words.proofs.decoding.trap_at.Tie as tie
 
+mul-at : tie.Need-mul-at
+mul-at c = search needs
+
+add-at : tie.Need-add-at
+add-at c = search needs
+
 rows-at-requires : tie.Need-rows-at-requires
 rows-at-requires c κs = search needs
 
@@ -16,4 +22,4 @@ returns : tie.Need-returns
 returns c = rw (c .name-at .ensures, c .before .rows-at .ensures)
 
 pub trap-at-spec : {M : Type 1} → statement M
-trap-at-spec = tie.close (tie.spec rows-at-requires add-name-at name-at-requires returns)
+trap-at-spec = tie.close (tie.spec mul-at add-at rows-at-requires add-name-at name-at-requires returns)

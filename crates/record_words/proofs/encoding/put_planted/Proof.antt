@@ -33,12 +33,6 @@ mul-trap c = omega arith
 element-copy-out-trap : tie.Need-element-copy-out-trap Inv-loop μ-loop
 element-copy-out-trap c = omega arith
 
-mul-put-trap : tie.Need-mul-put-trap Inv-loop μ-loop
-mul-put-trap c = omega arith
-
-add-put-trap : tie.Need-add-put-trap Inv-loop μ-loop
-add-put-trap c = omega arith
-
 put-trap-requires : tie.Need-put-trap-requires Inv-loop μ-loop
 put-trap-requires c κs = omega arith
 
@@ -77,8 +71,6 @@ put-planted-spec =
     loop-holds
     mul-trap
     element-copy-out-trap
-    mul-put-trap
-    add-put-trap
     put-trap-requires
     add-i
     loop-less

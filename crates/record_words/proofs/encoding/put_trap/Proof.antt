@@ -3,6 +3,12 @@ use borrow.Author.Needs.{needs}
 use Rattle.record_words.proofs.encoding.put_trap.Statement.{statement}
 use Rattle.record_words.proofs.encoding.put_trap.Tie as tie
 
+mul-at : tie.Need-mul-at
+mul-at c = search needs
+
+add-at : tie.Need-add-at
+add-at c = search needs
+
 put-rows-requires : tie.Need-put-rows-requires
 put-rows-requires c κs = search needs
 
@@ -16,4 +22,4 @@ returns : tie.Need-returns
 returns c = (rw (c .put-name .ensures .0, c .before .before .put-rows .ensures), c .put-name .ensures .1)
 
 pub put-trap-spec : {M : Type 1} → statement M
-put-trap-spec = tie.close (tie.spec put-rows-requires add-put-name put-name-requires returns)
+put-trap-spec = tie.close (tie.spec mul-at add-at put-rows-requires add-put-name put-name-requires returns)
