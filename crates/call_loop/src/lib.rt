@@ -20,7 +20,7 @@ use state::Status;
 use stream::Answer;
 ghost use Prim.Native.Nat.{_<_};
 ghost use Rattle.record.specs.View.{Legal};
-ghost use Rattle.record.specs.Turns.{recordOf, resting, placeIn, Turns, Turned, Runs, replyFrom};
+ghost use Rattle.record.specs.Turns.{recordOf, resting, placeOf, placeIn, Turns, Turned, Runs, replyFrom};
 ghost use Rattle.record.specs.declared.Record.{Record};
 ghost use mathlib.Core.Path.{_≡_};
 
@@ -124,6 +124,31 @@ fn take_turn(
     }
 }
 
+// A call that ends with an answer.
+fn ran(
+    answer: Answer,
+    status: Status,
+    source: Source,
+    waiting: Waiting,
+    closing: Closing,
+    taken: usize,
+    written: usize,
+) -> Ran
+    ensures { λ r. ⌜ (r .answer ≡ answer) × (r .place ≡ placeOf status source waiting closing) × (r .taken ≡ taken) × (r .written ≡ written) ⌝ }
+{
+    Ran {
+        answer,
+        place: Place {
+            status,
+            source,
+            waiting,
+            closing,
+        },
+        taken,
+        written,
+    }
+}
+
 // The turns of a call.
 pub fn run(
     block: &[u8],
@@ -161,31 +186,19 @@ pub fn run(
         waiting = wrote.waiting;
         written = wrote.written;
         if waiting.at < waiting.end {
-            return Ran {
-                answer: Answer::NeedsRoom,
-                place: Place {
-                    status,
-                    source,
-                    waiting,
-                    closing,
-                },
+            return ran(
+                Answer::NeedsRoom,
+                status,
+                source,
+                waiting,
+                closing,
                 taken,
                 written,
-            };
+            );
         }
         let ended = record::closed(closing);
         if let Stop::With(answer) = ended {
-            return Ran {
-                answer,
-                place: Place {
-                    status,
-                    source,
-                    waiting,
-                    closing,
-                },
-                taken,
-                written,
-            };
+            return ran(answer, status, source, waiting, closing, taken, written);
         }
         let turned = take_turn(
             block,
@@ -215,17 +228,7 @@ pub fn run(
         taken = turned.taken;
         let stop = turned.stop;
         if let Stop::With(answer) = stop {
-            return Ran {
-                answer,
-                place: Place {
-                    status,
-                    source,
-                    waiting,
-                    closing,
-                },
-                taken,
-                written,
-            };
+            return ran(answer, status, source, waiting, closing, taken, written);
         }
     }
 }
