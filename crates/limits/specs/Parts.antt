@@ -16,9 +16,9 @@ use Rattle.rules.specs.Laws.Texts.{Distinct}
 use Rattle.rules.specs.Settings.{Setting}
 use Rattle.rules.specs.LayoutSetters.{withLine, withCentred}
 use Rattle.rules.specs.Filling.{Collected}
-use Rattle.rules.specs.State.{Item, reading, fresh, again, others, acts, ejects, Definition, State, refuse, close}
+use Rattle.rules.specs.State.{Item, reading, fresh, again, others, acts, ejects, Definition, Tables, State, refuse, close}
 use Rattle.rules.specs.StateSetters.{withStack, withLayout, withCollected, withRegisters, withTexts, withOpened, withTraps}
-use Rattle.limits.specs.Within.{Ranged, Gone, BoundedTrap, OverText, Layer, Layered, limitOf, Deep, NextLine, OpenOver, Refusal, Within}
+use Rattle.limits.specs.Within.{Ranged, Gone, BoundedTrap, OverText, Layer, Layered, limitOf, Deep, NextLine, OpenOver, Refusal, Answered, Limited, Within}
 
 -- the numbers of refusals
 pub is-2 : Refusal 2
@@ -140,49 +140,54 @@ held-deep i e k t h d = omega (arith, held-limit i k t, over-limit k h)
 pub popped-deep : (i : Item) (e : Bool) (k : List Item) → Deep e (i ∷ k) → Deep e k
 popped-deep i e k d = omega (arith, limit-most (i ∷ k), limit-least k)
 
+-- a change of the tables, of the settings, or of the stack and the answer leaves the other limits as they are
+module _ {t : Tables} {ll : Setting} {ce : ℕ} {g : List ℕ} {l : ℕ} {k : List Item} {e : Bool} {c : Option Closing} (h : Limited t ll ce g l k e c) where
+  tables-changed : {u : Tables} → BoundedTable (u .registers) → Single (u .traps) → Each BoundedTrap (u .traps) → Distinct (u .texts) → Gone (u .opened) (u .texts) → OpenOver (u .opened) c k → Limited u ll ce g l k e c
+  tables-changed rs ts ps xs n o =
+      record { registers = rs; traps = ts; places = ps; texts = xs; gone = n; line = h .line; centred = h .centred; gathered = h .gathered; stack = h .stack; depth = h .depth; opened = o; closing = h .closing }
+
+  settings-changed : {v : Setting} {n : ℕ} → Ranged v → n ≤ 1000000000 → Limited t v n g l k e c
+  settings-changed r m =
+      record { registers = h .registers; traps = h .traps; places = h .places; texts = h .texts; gone = h .gone; line = r; centred = m; gathered = h .gathered; stack = h .stack; depth = h .depth; opened = h .opened; closing = h .closing }
+
+  stack-changed : {j : List Item} {a : Option Closing} → Layered j → Deep e j → OpenOver (t .opened) a j → Answered a l → Limited t ll ce g l j e a
+  stack-changed y d o x =
+      record { registers = h .registers; traps = h .traps; places = h .places; texts = h .texts; gone = h .gone; line = h .line; centred = h .centred; gathered = h .gathered; stack = y; depth = d; opened = o; closing = x }
+
 module _ (s : State) (h : Within s) where
   pub registers-kept : (rs : List Register) → BoundedTable rs → Within (withRegisters rs s)
-  registers-kept rs b =
-      record { registers = b; traps = h .traps; places = h .places; texts = h .texts; gone = h .gone; line = h .line; centred = h .centred; gathered = h .gathered; stack = h .stack; depth = h .depth; opened = h .opened; closing = h .closing }
+  registers-kept rs b = tables-changed h b (h .traps) (h .places) (h .texts) (h .gone) (h .opened)
 
   pub traps-kept : (ts : List Trap) → Single ts → Each BoundedTrap ts → Within (withTraps ts s)
-  traps-kept ts d b =
-      record { registers = h .registers; traps = d; places = b; texts = h .texts; gone = h .gone; line = h .line; centred = h .centred; gathered = h .gathered; stack = h .stack; depth = h .depth; opened = h .opened; closing = h .closing }
+  traps-kept ts d b = tables-changed h (h .registers) d b (h .texts) (h .gone) (h .opened)
 
   pub texts-kept : (ts : List Text) → Distinct ts → Gone (s .tables .opened) ts → Within (withTexts ts s)
-  texts-kept ts d g =
-      record { registers = h .registers; traps = h .traps; places = h .places; texts = d; gone = g; line = h .line; centred = h .centred; gathered = h .gathered; stack = h .stack; depth = h .depth; opened = h .opened; closing = h .closing }
+  texts-kept ts d g = tables-changed h (h .registers) (h .traps) (h .places) d g (h .opened)
 
   pub opened-kept : (o : Option Definition) (ts : List Text) → Distinct ts → Gone o ts → OpenOver o (s .closing) (s .input .stack)
       → Within (withOpened o (withTexts ts s))
-  opened-kept o ts d g n =
-      record { registers = h .registers; traps = h .traps; places = h .places; texts = d; gone = g; line = h .line; centred = h .centred; gathered = h .gathered; stack = h .stack; depth = h .depth; opened = n; closing = h .closing }
+  opened-kept o ts d g n = tables-changed h (h .registers) (h .traps) (h .places) d g n
 
   pub line-kept : (v : Setting) → Ranged v → Within (withLayout (withLine v (s .layout)) s)
-  line-kept v l =
-      record { registers = h .registers; traps = h .traps; places = h .places; texts = h .texts; gone = h .gone; line = l; centred = h .centred; gathered = h .gathered; stack = h .stack; depth = h .depth; opened = h .opened; closing = h .closing }
+  line-kept v l = settings-changed h l (h .centred)
 
   pub centred-kept : (n : ℕ) → n ≤ 1000000000 → Within (withLayout (withCentred n (s .layout)) s)
-  centred-kept n m =
-      record { registers = h .registers; traps = h .traps; places = h .places; texts = h .texts; gone = h .gone; line = h .line; centred = m; gathered = h .gathered; stack = h .stack; depth = h .depth; opened = h .opened; closing = h .closing }
+  centred-kept n m = settings-changed h (h .line) m
 
   pub stack-kept : (k : List Item) → Layered k → Deep (s .page .last) k → OpenOver (s .tables .opened) (s .closing) k → Within (withStack k s)
-  stack-kept k l d o =
-      record { registers = h .registers; traps = h .traps; places = h .places; texts = h .texts; gone = h .gone; line = h .line; centred = h .centred; gathered = h .gathered; stack = l; depth = d; opened = o; closing = h .closing }
+  stack-kept k l d o = stack-changed h l d o (h .closing)
 
+  -- no limit is one of the collected line
   pub collected-kept : (o : Option Collected) → Within (withCollected o s)
-  collected-kept o =
-      record { registers = h .registers; traps = h .traps; places = h .places; texts = h .texts; gone = h .gone; line = h .line; centred = h .centred; gathered = h .gathered; stack = h .stack; depth = h .depth; opened = h .opened; closing = h .closing }
+  collected-kept o = h
 
   -- done closes
   pub done-kept : Within (close done s)
-  done-kept =
-      record { registers = h .registers; traps = h .traps; places = h .places; texts = h .texts; gone = h .gone; line = h .line; centred = h .centred; gathered = h .gathered; stack = h .stack; depth = h .depth; opened = closed-over (s .tables .opened) done (s .input .stack); closing = tt }
+  done-kept = stack-changed h (h .stack) (h .depth) (closed-over (s .tables .opened) done (s .input .stack)) tt
 
 -- A refusal closes, whatever lies on the stack.
 pub refuse-popped : (s : State) (k : List Item) (n : ℕ) → Refusal n → Within s → Layered k → Deep (s .page .last) k → Within (refuse n (withStack k s))
-refuse-popped s k n r h l d =
-    record { registers = h .registers; traps = h .traps; places = h .places; texts = h .texts; gone = h .gone; line = h .line; centred = h .centred; gathered = h .gathered; stack = l; depth = d; opened = closed-over (s .tables .opened) _ k; closing = (r, refl) }
+refuse-popped s k n r h l d = stack-changed h l d (closed-over (s .tables .opened) _ k) (r, refl)
 
 pub refuse-kept : (s : State) (n : ℕ) → Refusal n → Within s → Within (refuse n s)
 refuse-kept s n r h = refuse-popped s (s .input .stack) n r h (h .stack) (h .depth)
