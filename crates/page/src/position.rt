@@ -65,8 +65,8 @@ pub fn rows_below(page: Page, length: Rows, planted: Planted) -> Rows
     requires { ⌜ Sound page length planted ⌝ }
     ensures { λ r. ⌜ downOf r ≡ below (pageOf page) (downOf length) (plantedOf planted) ⌝ }
 {
-    let row = traps::nearest::nearest_lent(planted, length, page.used, length);
-    measure::rows_down((row - measure::down(page.used) as usize) as u16)
+    let row = traps::nearest::nearest(planted, length, page.used, length);
+    measure::rows_down((measure::down(row) - measure::down(page.used)) as u16)
 }
 
 // The blank rows that an sp writes: "sp stops at the nearest trap or page end and drops the rest; 0 or less moves nothing."

@@ -1,18 +1,23 @@
 // The trap that a row of the page meets, and the nearest below it.
 use super::table::Found;
 use super::table::Planted;
-use super::table::Row;
 use measure::Rows;
 use rules::Trap;
 ghost use mathlib.Core.Path.{_≡_};
 ghost use Prim.Native.Nat.{_≤_};
 ghost use lib.ListN.{take};
-ghost use Rattle.measure.specs.Counts.{downOf};
+ghost use Rattle.measure.specs.Counts.{downOf, rowsDown};
 ghost use Rattle.rules.specs.Traps.{rowOf, isRow, nearer, seenAt, nearestTrap};
 ghost use Rattle.traps.specs.Table.Table.{Within, plantedOf, rowIs, foundIs};
 
+// Where a trap stands on a page.
+enum Row {
+    At(usize),
+    Asleep,
+}
+
 // The row of a trap on a page of that many rows: one below 0 is counted up from the page end.
-pub fn row_of(place: Rows, page: usize) -> Row
+fn row_of(place: Rows, page: usize) -> Row
     ensures { λ r. ⌜ rowIs r ≡ rowOf page (place .0) ⌝ }
 {
     let n = place.0;
@@ -84,37 +89,8 @@ fn closer(trap: Trap, page: usize, row: usize, best: usize) -> usize
     }
 }
 
-fn nearest_in(p: Planted, page: usize, row: usize, best: usize) -> usize
-    requires { ⌜ Within p ⌝ }
-    ensures { λ r. ⌜ r ≡ nearestTrap page row best (plantedOf p) ⌝ }
-{
-    let traps = p.traps;
-    let count = p.count;
-    let mut found = best;
-    let mut i: usize = 0;
-    while i < count {
-        let trap = traps[i];
-        found = closer(trap, page, row, found);
-        i += 1;
-    }
-    found
-}
-
-// The first row below this one that has a trap, or else `best`.
-pub fn nearest(p: Planted, page: Rows, row: Rows, best: Rows) -> usize
-    requires { ⌜ Within p ⌝ }
-    ensures { λ r. ⌜ r ≡ nearestTrap (downOf page) (downOf row) (downOf best) (plantedOf p) ⌝ }
-{
-    nearest_in(
-        p,
-        measure::down(page) as usize,
-        measure::down(row) as usize,
-        measure::down(best) as usize,
-    )
-}
-
-// The same over traps that the caller lends.
-pub fn nearest_of(traps: &[Trap], page: usize, row: usize, best: usize) -> usize
+// The first row below this one that has a trap, or else `best`, over lent traps.
+fn nearest_of(traps: &[Trap], page: usize, row: usize, best: usize) -> usize
     ensures { λ r. ⌜ r ≡ nearestTrap page row best (now (traps .entry)) ⌝ }
 {
     let mut found = best;
@@ -134,17 +110,18 @@ fn nearest_front(traps: [Trap; 16], count: usize, page: usize, row: usize, best:
     nearest_of(&traps[..count], page, row, best)
 }
 
-// `nearest` by way of the lent traps.
-pub fn nearest_lent(p: Planted, page: Rows, row: Rows, best: Rows) -> usize
+// The first row below this one that has a trap, or else `best`.
+pub fn nearest(p: Planted, page: Rows, row: Rows, best: Rows) -> Rows
     requires { ⌜ Within p ⌝ }
-    ensures { λ r. ⌜ r ≡ nearestTrap (downOf page) (downOf row) (downOf best) (plantedOf p) ⌝ }
+    ensures { λ r. ⌜ r ≡ rowsDown (nearestTrap (downOf page) (downOf row) (downOf best) (plantedOf p)) ⌝ }
 {
     let traps = p.traps;
-    nearest_front(
+    let found = nearest_front(
         traps,
         p.count,
         measure::down(page) as usize,
         measure::down(row) as usize,
         measure::down(best) as usize,
-    )
+    );
+    Rows(found as i32)
 }

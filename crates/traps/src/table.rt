@@ -13,12 +13,6 @@ pub struct Planted {
     pub count: usize,
 }
 
-// Where a trap stands on a page.
-pub enum Row {
-    At(usize),
-    Asleep,
-}
-
 // The name of the trap at a row, if it has one.
 pub enum Found {
     Text(Name),

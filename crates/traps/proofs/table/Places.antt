@@ -16,7 +16,7 @@ use Rattle.rules.specs.declared.Trap.{Trap}
 use Rattle.rules.specs.Numbers.{equalZ}
 use Rattle.rules.specs.Traps.{someIf, rowOf}
 use Rattle.rules.specs.Laws.Traps.{equal-self, equal-one}
-use Rattle.traps.specs.declared.table.Row.{Row}
+use Rattle.traps.specs.declared.nearest.Row.{Row}
 use Rattle.traps.specs.Table.Table.{rowIs}
 
 -- a place below 0, and any other

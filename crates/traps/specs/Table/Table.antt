@@ -12,8 +12,8 @@ use Rattle.rules.specs.Numbers.{equalZ}
 use Rattle.rules.specs.Traps.{plant}
 use Rattle.traps.specs.declared.table.Planted.{Planted}
 use Rattle.traps.specs.declared.table.Planting.{Planting}
-use Rattle.traps.specs.declared.table.Row.{Row}
-use Rattle.traps.specs.declared.table.Row.the-variants.{At, Asleep}
+use Rattle.traps.specs.declared.nearest.Row.{Row}
+use Rattle.traps.specs.declared.nearest.Row.the-variants.{At, Asleep}
 use Rattle.traps.specs.declared.table.Found.{Found}
 use Rattle.traps.specs.declared.table.Found.the-variants.{Text, Nothing}
 
