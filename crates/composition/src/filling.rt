@@ -8,6 +8,7 @@ use fill::words::Next;
 use fill::words::WordAt;
 use input_stack::frames::What;
 use input_stack::stack::Stack;
+use measure::Cells;
 use measure::Rows;
 use page::position::Page;
 use page::springs::Held;
@@ -126,7 +127,7 @@ fn overflow(
         indent,
         &mut *row,
     );
-    let length = fill::collected::begin_line(line, 0, o.from, at, &mut *cells);
+    let length = fill::collected::begin_line(line, Cells(0), o.from, at, &mut *cells);
     let fresh = Collected {
         there: true,
         indent: settings::layout::indent_now(layout),
@@ -204,7 +205,7 @@ fn fill_placed(
 
 // The first word starts a line, and the others follow it.
 fn fill_new(
-    lead: usize,
+    lead: Cells,
     found: WordAt,
     gap: u8,
     line: &LineBytes,
@@ -224,8 +225,8 @@ fn fill_new(
 ) -> Outcome
     ghost { Desk }
     requires { λ q. ⌜ desk layout page collected (now cells) stack (now arena) (now ends) ≡ q ⌝ }
-    requires { λ q. ⌜ Begins planted q (now line) (now row) (now firsts) (now seconds) texts × Starts (now line) to lead gap found × (collected .there ≡ false) ⌝ }
-    ensures { λ q r. ⌜ Worked (λ ts s. rule.fill (leadingWord lead (part (now (line .entry)) (found .from) (found .to)) ∷ words (part (now (line .entry)) (found .to) to)) gap s) (now (firsts .entry)) (now (seconds .entry)) texts planted q (r .way) (r .written) (desk (r .layout) (r .page) (r .collected) (now (cells .exit)) (r .stack) (now (arena .exit)) (now (ends .exit))) (now (row .exit)) ⌝ }
+    requires { λ q. ⌜ Begins planted q (now line) (now row) (now firsts) (now seconds) texts × Starts (now line) to (acrossOf lead) gap found × (collected .there ≡ false) ⌝ }
+    ensures { λ q r. ⌜ Worked (λ ts s. rule.fill (leadingWord (acrossOf lead) (part (now (line .entry)) (found .from) (found .to)) ∷ words (part (now (line .entry)) (found .to) to)) gap s) (now (firsts .entry)) (now (seconds .entry)) texts planted q (r .way) (r .written) (desk (r .layout) (r .page) (r .collected) (now (cells .exit)) (r .stack) (now (arena .exit)) (now (ends .exit))) (now (row .exit)) ⌝ }
 {
     let at = found.to;
     let indent = settings::layout::indent_now(layout);
@@ -316,7 +317,7 @@ pub fn fill_rest(
         );
     }
     fill_new(
-        0,
+        Cells(0),
         found,
         gap,
         line,
@@ -361,10 +362,11 @@ pub fn fill_line(
     let Next::Found(found) = fill::words::next_word(line, 0, to) else {
         return stay(Way::On, layout, page, collected, stack);
     };
-    let gap = fill::words::gap_after(line, 0, to) as u8;
+    let behind = fill::words::gap_after(line, 0, to);
+    let gap = fill::words::count(behind) as u8;
     if collected.there {
         let room = collected.room;
-        let next = collected.next;
+        let next = fill::words::as_cells(collected.next);
         let placed = fill::collected::place(line, 0, to, next, &mut *cells, collected.length, room);
         return fill_placed(
             placed,

@@ -20,10 +20,10 @@ ghost use Rattle.fill.specs.Collected.Filled.{Line, PlacedTo};
 // A collected line that is full: its cells, and the word that did not fit, with the gap that is lost.
 pub struct Overflow {
     pub length: usize,
-    pub gap: usize,
+    pub gap: Cells,
     pub from: usize,
     pub to: usize,
-    pub width: usize,
+    pub width: Cells,
 }
 
 // What placing words gave: the cells collected with all of them, or a full line.
@@ -87,17 +87,18 @@ fn put_gap(cells: &mut LineBytes, count: usize, gap: usize) -> usize
 // The first word of a collected line. "Leading spaces .. stand as fixed blanks."
 pub fn begin_line(
     line: &LineBytes,
-    lead: usize,
+    lead: Cells,
     from: usize,
     to: usize,
     cells: &mut LineBytes,
 ) -> usize
-    requires { ⌜ Places (now line) from to × (lead ≤ from) × (length (now cells) ≡ 512) ⌝ }
-    ensures { λ r. ⌜ Written (now (cells .entry)) 0 (printed (replicate lead fixedBlank ++ part (now (line .entry)) from to)) (now (cells .exit)) r ⌝ }
+    requires { ⌜ Places (now line) from to × (acrossOf lead ≤ from) × (length (now cells) ≡ 512) ⌝ }
+    ensures { λ r. ⌜ Written (now (cells .entry)) 0 (printed (replicate (acrossOf lead) fixedBlank ++ part (now (line .entry)) from to)) (now (cells .exit)) r ⌝ }
     ensures { λ r. ⌜ Places (now (cells .exit)) 0 r ⌝ }
 {
-    put_run(&mut *cells, 0, lead, b' ');
-    put_word(line, from, to, &mut *cells, lead)
+    let n = super::words::count(lead);
+    put_run(&mut *cells, 0, n, b' ');
+    put_word(line, from, to, &mut *cells, n)
 }
 
 // Words join the collected line until one does not fit. The first one's gap is given, the others have their own.
@@ -105,28 +106,29 @@ pub fn place(
     line: &LineBytes,
     at: usize,
     to: usize,
-    gap: usize,
+    gap: Cells,
     cells: &mut LineBytes,
     length: usize,
     room: Cells,
 ) -> Placed
-    requires { ⌜ Places (now line) at to × (gap ≤ 512) × Line (now cells) length (acrossOf room) ⌝ }
-    ensures { λ r. ⌜ PlacedTo (now (line .entry)) at to (after gap (words (part (now (line .entry)) at to))) (now (cells .entry)) length (acrossOf room) r (now (cells .exit)) ⌝ }
+    requires { ⌜ Places (now line) at to × (acrossOf gap ≤ 512) × Line (now cells) length (acrossOf room) ⌝ }
+    ensures { λ r. ⌜ PlacedTo (now (line .entry)) at to (after (acrossOf gap) (words (part (now (line .entry)) at to))) (now (cells .entry)) length (acrossOf room) r (now (cells .exit)) ⌝ }
 {
     let limit = super::words::count(room);
     let mut from = super::words::skip_spaces(line, at, to);
-    let mut before = gap;
+    let mut before = super::words::count(gap);
     let mut n = length;
     while from < to {
         let word = super::words::word_end(line, from, to);
         let end = word.to;
-        if limit < n + before + word.width {
+        let width = word.width;
+        if limit < n + before + super::words::count(width) {
             return Placed::Full(Overflow {
                 length: n,
-                gap: before,
+                gap: super::words::as_cells(before),
                 from,
                 to: end,
-                width: word.width,
+                width,
             });
         }
         n = put_gap(&mut *cells, n, before);
@@ -150,5 +152,6 @@ pub fn place_others(
     ensures { λ r. ⌜ PlacedTo (now (line .entry)) at to (words (part (now (line .entry)) at to)) (now (cells .entry)) length (acrossOf room) r (now (cells .exit)) ⌝ }
 {
     let from = super::words::skip_spaces(line, at, to);
-    place(line, from, to, from - at, &mut *cells, length, room)
+    let gap = super::words::as_cells(from - at);
+    place(line, from, to, gap, &mut *cells, length, room)
 }

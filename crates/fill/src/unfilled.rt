@@ -22,28 +22,14 @@ fn count_rows(rows: Rows) -> usize
     measure::down(rows) as usize
 }
 
-// What is left of a room, none if more is taken.
-pub fn spare(room: usize, taken: usize) -> usize
-    ensures { λ r. ⌜ r ≡ room - taken ⌝ }
+// What is left of a count, none if more is taken.
+pub fn spare(count: usize, taken: usize) -> usize
+    ensures { λ r. ⌜ r ≡ count - taken ⌝ }
 {
-    if room < taken {
+    if count < taken {
         return 0;
     }
-    room - taken
-}
-
-// The width of a part of a line.
-fn width_of(line: &LineBytes, at: usize, to: usize) -> usize
-    requires { ⌜ Places (now line) at to ⌝ }
-    ensures { λ r. ⌜ r ≡ width (part (now (line .entry)) at to) ⌝ }
-{
-    let mut i = at;
-    let mut n = 0;
-    while i < to {
-        n += super::words::cell_of(line[i]);
-        i += 1;
-    }
-    n
+    count - taken
 }
 
 // "left blanks half the spare room, cut down, none if the line is wider"
@@ -52,7 +38,8 @@ fn left_blanks(line: &LineBytes, at: usize, to: usize, centred: bool, room: usiz
     ensures { λ r. ⌜ r ≡ left (oneIf centred) (room - width (part (now (line .entry)) at to)) ⌝ }
 {
     if centred {
-        return spare(room, width_of(line, at, to)) / 2;
+        let width = super::words::width_of(line, at, to);
+        return spare(room, super::words::count(width)) / 2;
     }
     0
 }

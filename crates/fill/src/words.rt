@@ -3,7 +3,7 @@ use measure::Cells;
 use rules::MARK;
 use rules::arrays::LineBytes;
 ghost use mathlib.Core.Path.{_≡_};
-ghost use Rattle.measure.specs.Counts.{acrossOf};
+ghost use Rattle.measure.specs.Counts.{acrossOf, cellsAcross};
 ghost use Prim.Native.Nat.{_+_, _-_, _≤_};
 ghost use lib.Dec.{eqb};
 ghost use lib.ListN.{length};
@@ -15,15 +15,15 @@ ghost use Rattle.fill.specs.Words.Words.{spaces, WordEndIs, nextOf, Good
 // The place behind a word, and the word's width.
 pub struct WordEnd {
     pub to: usize,
-    pub width: usize,
+    pub width: Cells,
 }
 
 // A word of a line: the gap before it, where it stands, and its width.
 pub struct WordAt {
-    pub gap: usize,
+    pub gap: Cells,
     pub from: usize,
     pub to: usize,
-    pub width: usize,
+    pub width: Cells,
 }
 
 // The next word, if there is one.
@@ -57,7 +57,7 @@ pub fn skip_spaces(line: &LineBytes, at: usize, to: usize) -> usize
 }
 
 // "a mark of no width"
-pub fn cell_of(byte: u8) -> usize
+fn cell_of(byte: u8) -> usize
     ensures { λ r. ⌜ r ≡ countIf (eqb byte mark) 0 ⌝ }
     ensures { λ r. ⌜ r ≤ 1 ⌝ }
 {
@@ -74,12 +74,32 @@ pub fn word_end(line: &LineBytes, at: usize, to: usize) -> WordEnd
     while i < to {
         let byte = line[i];
         if byte == b' ' {
-            return WordEnd { to: i, width };
+            return WordEnd {
+                to: i,
+                width: as_cells(width),
+            };
         }
         width += cell_of(byte);
         i += 1;
     }
-    WordEnd { to: i, width }
+    WordEnd {
+        to: i,
+        width: as_cells(width),
+    }
+}
+
+// The width of a part of a line.
+pub fn width_of(line: &LineBytes, at: usize, to: usize) -> Cells
+    requires { ⌜ Places (now line) at to ⌝ }
+    ensures { λ r. ⌜ r ≡ cellsAcross (width (part (now (line .entry)) at to)) ⌝ }
+{
+    let mut i = at;
+    let mut n = 0;
+    while i < to {
+        n += cell_of(line[i]);
+        i += 1;
+    }
+    as_cells(n)
 }
 
 // The first word of a part of a line.
@@ -93,11 +113,12 @@ pub fn next_word(line: &LineBytes, at: usize, to: usize) -> Next
         return Next::Nothing;
     }
     let end = word_end(line, from, to);
+    let width = end.width;
     Next::Found(WordAt {
-        gap: from - at,
+        gap: as_cells(from - at),
         from,
         to: end.to,
-        width: end.width,
+        width,
     })
 }
 
@@ -138,33 +159,41 @@ pub fn trim_end(line: &LineBytes, at: usize, to: usize) -> usize
 }
 
 // "the gap between input lines is 1, or 2 after a line ending in . ? !"
-fn gap_behind(byte: u8) -> usize
-    ensures { λ r. ⌜ r ≡ gapIf (isStop byte) ⌝ }
-    ensures { λ r. ⌜ r ≤ 2 ⌝ }
+fn gap_behind(byte: u8) -> Cells
+    ensures { λ r. ⌜ r ≡ cellsAcross (gapIf (isStop byte)) ⌝ }
+    ensures { λ r. ⌜ acrossOf r ≤ 2 ⌝ }
 {
     if byte == b'.' {
-        return 2;
+        return Cells(2);
     }
     if byte == b'?' {
-        return 2;
+        return Cells(2);
     }
     if byte == b'!' {
-        return 2;
+        return Cells(2);
     }
-    1
+    Cells(1)
 }
 
 // The gap that a line's ending asks for.
-pub fn gap_after(line: &LineBytes, at: usize, to: usize) -> usize
+pub fn gap_after(line: &LineBytes, at: usize, to: usize) -> Cells
     requires { ⌜ Places (now line) at to ⌝ }
-    ensures { λ r. ⌜ r ≡ gapAfter (words (part (now (line .entry)) at to)) ⌝ }
-    ensures { λ r. ⌜ r ≤ 2 ⌝ }
+    ensures { λ r. ⌜ r ≡ cellsAcross (gapAfter (words (part (now (line .entry)) at to))) ⌝ }
+    ensures { λ r. ⌜ acrossOf r ≤ 2 ⌝ }
 {
     let end = trim_end(line, at, to);
     if end == at {
-        return 1;
+        return Cells(1);
     }
     gap_behind(line[end - 1])
+}
+
+// So many cells of a line.
+pub fn as_cells(count: usize) -> Cells
+    requires { ⌜ count ≤ 512 ⌝ }
+    ensures { λ r. ⌜ r ≡ cellsAcross count ⌝ }
+{
+    measure::cells_across(count as u16)
 }
 
 // A count of cells as a plain number.

@@ -98,15 +98,15 @@ module _ (ts : List Text) (ps : List Trap) (y y' : Layout) (g : Page) (c fresh :
   at v w = withCollected w (withLayout v (stateAt ts ps (desk y g c cells k arena ends) x))
 
   pub overflowed : layoutOf y' ≡ begun (layoutOf y) → h ≡ othersHeld ws gap → bytes ≡ part line (o .to) to
-      → collectedOf fresh cells' ≡ some (withNext (nextGap ws gap) (begin (layoutOf y) (word (o .gap) (part line (o .from) (o .to))))) → text ≡ fullRow (layoutOf y) line₁
+      → collectedOf fresh cells' ≡ some (withNext (nextGap ws gap) (begin (layoutOf y) (word (acrossOf (o .gap)) (part line (o .from) (o .to))))) → text ≡ fullRow (layoutOf y) line₁
       → filled (placedOf (acrossOf (c .indent)) (acrossOf (c .room)) cells (c .next) line to (placed.Full o)) gap (stateAt ts ps (desk y g c cells k arena ends) x)
       ≡ works text (down 1 (heldOf ts h bytes) (stateAt ts ps (desk y' g fresh cells' k arena ends) x))
   overflowed a b e f t =
       let held : heldOf ts h bytes ≡ othersOf ws gap = ap (λ (v : Held). heldOf ts v bytes) b ∙ held-others ts ws gap bytes (ap words e) in
       sym (ap (λ (v : rule.Layout). works text (down 1 (heldOf ts h bytes) (at v (collectedOf fresh cells')))) a
       ∙ ap (λ (v : Option filling.Collected). works text (down 1 (heldOf ts h bytes) (at (begun (layoutOf y)) v))) f
-      ∙ ap (λ (v : List Item). works text (down 1 v (at (begun (layoutOf y)) (some (withNext (nextGap ws gap) (begin (layoutOf y) (word (o .gap) (part line (o .from) (o .to))))))))) held
-      ∙ ap (λ (v : List ℕ). works v (down 1 (othersOf ws gap) (at (begun (layoutOf y)) (some (withNext (nextGap ws gap) (begin (layoutOf y) (word (o .gap) (part line (o .from) (o .to))))))))) t)
+      ∙ ap (λ (v : List Item). works text (down 1 v (at (begun (layoutOf y)) (some (withNext (nextGap ws gap) (begin (layoutOf y) (word (acrossOf (o .gap)) (part line (o .from) (o .to))))))))) held
+      ∙ ap (λ (v : List ℕ). works v (down 1 (othersOf ws gap) (at (begun (layoutOf y)) (some (withNext (nextGap ws gap) (begin (layoutOf y) (word (acrossOf (o .gap)) (part line (o .from) (o .to))))))))) t)
 
 -- the words that fitted are collected
 pub collected-all : (ts : List Text) (ps : List Trap) (y : Layout) (g : Page) (c : Collected) (cells line row : List ℕ) (k : Stack) (arena ends : List ℕ) (n gap to : ℕ) (x : State)

@@ -7,6 +7,7 @@ use native.Mathlib.Omega.{arith}
 use lib.ListN.{length, take, drop, replicate, length-append}
 use lib.Seq.{sets, length-take-le, drop-drop}
 use borrow.Author.Tests.{le-leb, lt-leb}
+use Rattle.measure.specs.Counts.{acrossOf, cellsAcross}
 use Rattle.rules.specs.Bytes.{space}
 use Rattle.rules.specs.Filling.{Word, word, words, after, width, printed, gapCells, joinByte}
 use Rattle.rules.specs.Filling as rules
@@ -102,8 +103,11 @@ module _ (line : List ℕ) (at to gap : ℕ) (entry : List ℕ) (count room : �
           let d : drop (run (part line from to)) (part line from to) ≡ part line (w .to) to = part-drop line from to (run (part line from to)) ∙ ap (λ (i : ℕ). part line i to) (sym (e .place)) in
           gap-word 0 (part line from to) (q .starts) (omega (arith, long)) ∙ rw (bytes-is, d)
 
-      pub word-width : w .width ≡ width (part line from (w .to))
-      word-width = e .width ∙ ap width bytes-is
+      word-is : w .width ≡ cellsAcross (width (part line from (w .to)))
+      word-is = e .width ∙ ap (λ (b : List ℕ). cellsAcross (width b)) bytes-is
+
+      pub word-width : acrossOf (w .width) ≡ width (part line from (w .to))
+      word-width = ap acrossOf word-is
 
       pub word-some : from < w .to
       word-some = omega (arith, run-some (part line from to) (q .starts) (omega (arith, long)), e .place)
@@ -116,23 +120,23 @@ module _ (line : List ℕ) (at to gap : ℕ) (entry : List ℕ) (count room : �
       count-is = length-take-le n cells (omega arith)
 
       -- the word does not fit
-      pub placed-full : room < n + before + w .width
-          → PlacedTo line at to (after gap (words (part line at to))) entry count room (Full (record { length = n; gap = before; from = from; to = w .to; width = w .width })) cells
+      pub placed-full : room < n + before + acrossOf (w .width)
+          → PlacedTo line at to (after gap (words (part line at to))) entry count room (Full (record { length = n; gap = cellsAcross before; from = from; to = w .to; width = w .width })) cells
       placed-full f = record {
         is = λ i j. sym (next-is i j ∙ place-stops (lineOf i room cells n j) (word before (part line from (w .to))) (words (part line (w .to) to))
             (lt-leb (length (take n cells) + before + width (part line from (w .to))) room (omega (arith, count-is, word-width))));
         rest = q .rest;
         cells = q .kept;
-        good = (q .low, word-some, e .high, word-width);
+        good = (q .low, word-some, e .high, word-is, refl);
       }
 
       -- it fits
-      pub placing-next : (cells1 cells2 : List ℕ) (n1 n2 from2 : ℕ) → n + before + w .width ≤ room → Written cells n (gapCells before) cells1 n1
+      pub placing-next : (cells1 cells2 : List ℕ) (n1 n2 from2 : ℕ) → n + before + acrossOf (w .width) ≤ room → Written cells n (gapCells before) cells1 n1
           → Written cells1 n1 (printed (part line from (w .to))) cells2 n2 → from2 ≡ w .to + spaces (part line (w .to) to) → from2 ≤ to
           → Placing line at to gap entry count room cells2 from2 (from2 - w .to) n2
       placing-next cells1 cells2 n1 n2 from2 f g v s t =
           let bs = gapCells before ++ printed (part line from (w .to)) in
-          let m : length bs ≡ before + w .width = omega (arith, length-append (gapCells before) (printed (part line from (w .to))), gapCells-length before, printed-length (part line from (w .to)), word-width) in
+          let m : length bs ≡ before + acrossOf (w .width) = omega (arith, length-append (gapCells before) (printed (part line from (w .to))), gapCells-length before, printed-length (part line from (w .to)), word-width) in
           let a : cells2 ≡ sets cells n bs = v .is ∙ rw (g .is, g .end) (sym (sets-append (gapCells before) (printed (part line from (w .to))) cells n)) in
           let o : n2 ≡ n + length bs = omega (arith, v .end, g .end, length-append (gapCells before) (printed (part line from (w .to)))) in
           let r : n + length bs ≤ length cells = omega arith in
@@ -156,7 +160,7 @@ module _ (line : List ℕ) (at to gap : ℕ) (entry : List ℕ) (count room : �
 -- the same words, read from further in front
 good-before : (line : List ℕ) (at from to : ℕ) (r : Placed) → at ≤ from → GoodPlaced line from to r → GoodPlaced line at to r
 good-before line at from to (All n) h g = tt
-good-before line at from to (Full o) h g = (omega (arith, g .0), g .1, g .2, g .3)
+good-before line at from to (Full o) h g = (omega (arith, g .0), g .1, g .2, g .3, g .4)
 
 pub placed-others : (line : List ℕ) (at to from : ℕ) (entry : List ℕ) (count room : ℕ) (r : Placed) (exit : List ℕ) → at ≤ from → from ≡ at + spaces (part line at to)
     → PlacedTo line from to (after (from - at) (words (part line from to))) entry count room r exit → PlacedTo line at to (words (part line at to)) entry count room r exit

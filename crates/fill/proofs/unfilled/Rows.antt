@@ -130,16 +130,6 @@ pub adjusted-same : (t : Bool) (i j r : ℕ) (cs : List ℕ) (n g h : ℕ) → a
 adjusted-same true i j r cs n g h = refl
 adjusted-same false i j r cs n g h = refl
 
--- one byte more of a width; the end
-module _ (l : List ℕ) (i to w : ℕ) (k : to ≤ length l) where
-  pub width-next : i < to → w + width (part l i to) ≡ w + countIf (eqb (getD l i 0) mark) 0 + width (part l (i + 1) to)
-  unfolding width
-  width-next h = rw (part-cons l i to h k) (omega (arith, count-if (eqb (getD l i 0) mark) (width (part l (i + 1) to))))
-
-  pub width-done : to ≤ i → w ≡ w + width (part l i to)
-  unfolding width
-  width-done h = rw (part-none l i to h) (omega arith)
-
 pub left-few : (t : Bool) (s : ℕ) → left (oneIf t) s ≤ s
 left-few true s = div-le-self s 2
 left-few false s = omega arith

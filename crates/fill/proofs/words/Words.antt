@@ -65,6 +65,16 @@ module _ (l : List ℕ) (i to w : ℕ) (k : to ≤ length l) where
   unfolding run width
   width-end h = rw (part-none l i to h) (omega arith)
 
+-- one byte more of a width; the end
+module _ (l : List ℕ) (i to w : ℕ) (k : to ≤ length l) where
+  pub width-next : i < to → w + width (part l i to) ≡ w + countIf (eqb (getD l i 0) mark) 0 + width (part l (i + 1) to)
+  unfolding width
+  width-next h = rw (part-cons l i to h k) (omega (arith, count-if (eqb (getD l i 0) mark) (width (part l (i + 1) to))))
+
+  pub width-done : to ≤ i → w ≡ w + width (part l i to)
+  unfolding width
+  width-done h = rw (part-none l i to h) (omega arith)
+
 -- bounds
 pub spaces-few : (l : List ℕ) → spaces l ≤ length l
 unfolding spaces

@@ -3,6 +3,7 @@ use mathlib.Core.Path.{_≡_}
 use mathlib.Core.List.{List}
 use Prim.Native.Nat.{ℕ, _≤_, _<_}
 use lib.ListN.{length, take, drop}
+use Rattle.measure.specs.Counts.{acrossOf, cellsAcross}
 use Rattle.rules.specs.Filling.{Collected, Word, word, words, width}
 use Rattle.rules.specs.Filling as rules
 use Rattle.fill.specs.Words.Parts.{part}
@@ -27,12 +28,12 @@ countOf (Full o) = o .length
 -- the rules' answer: the line, and if it is full the word that did not fit and the other words
 abbrev pub placedOf : (indent room : ℕ) → (cells : List ℕ) → (next : ℕ) → (line : List ℕ) → (to : ℕ) → Placed → rules.Placed
 placedOf i r cs g line to (All n) = rules.all (lineOf i r cs n g)
-placedOf i r cs g line to (Full o) = rules.full (lineOf i r cs (o .length) g) (word (o .gap) (part line (o .from) (o .to))) (words (part line (o .to) to))
+placedOf i r cs g line to (Full o) = rules.full (lineOf i r cs (o .length) g) (word (acrossOf (o .gap)) (part line (o .from) (o .to))) (words (part line (o .to) to))
 
--- where the word that did not fit stands, and its width
+-- where the word that did not fit stands, its width, and that its gap is a count
 abbrev pub GoodPlaced : (line : List ℕ) → (at to : ℕ) → Placed → Type 0
 GoodPlaced line at to (All n) = Unit {0}
-GoodPlaced line at to (Full o) = (at ≤ o .from) × (o .from < o .to) × (o .to ≤ to) × (o .width ≡ width (part line (o .from) (o .to)))
+GoodPlaced line at to (Full o) = (at ≤ o .from) × (o .from < o .to) × (o .to ≤ to) × (o .width ≡ cellsAcross (width (part line (o .from) (o .to)))) × (o .gap ≡ cellsAcross (acrossOf (o .gap)))
 
 -- words joined the collected line until one did not fit; the cells behind it are as before
 pub record PlacedTo (line : List ℕ) (at to : ℕ) (ws : List Word) (entry : List ℕ) (count room : ℕ) (r : Placed) (exit : List ℕ) : Type 0 where

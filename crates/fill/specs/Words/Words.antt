@@ -2,9 +2,10 @@
 use mathlib.Core.Path.{_≡_}
 use mathlib.Core.Bool.{Bool, true, false}
 use mathlib.Core.List.{List, [], _∷_}
-use Prim.Native.Nat.{ℕ, suc, _+_, _≤_, _<_}
+use Prim.Native.Nat.{ℕ, suc, _+_, _-_, _≤_, _<_}
 use lib.Dec.{eqb}
 use lib.ListN.{take}
+use Rattle.measure.specs.Counts.{acrossOf, cellsAcross}
 use Rattle.rules.specs.Bytes.{space}
 use Rattle.rules.specs.Filling.{Word, word, words, width}
 use Rattle.fill.specs.Words.Parts.{part}
@@ -34,21 +35,22 @@ run (b ∷ bs) = sucUnless (eqb b space) (run bs)
 -- the run without spaces at the front, its end and its width
 pub record WordEndIs (line : List ℕ) (at to : ℕ) (r : WordEnd) : Type 0 where
   pub place : r .to ≡ at + run (part line at to)
-  pub width : r .width ≡ width (take (run (part line at to)) (part line at to))
+  pub width : r .width ≡ cellsAcross (width (take (run (part line at to)) (part line at to)))
   pub low : at ≤ r .to
   pub high : r .to ≤ to
 
 -- the words of a line by its first one and the place behind that
 abbrev pub nextOf : (line : List ℕ) → (to : ℕ) → Next → List Word
-nextOf line to (Found w) = word (w .gap) (part line (w .from) (w .to)) ∷ words (part line (w .to) to)
+nextOf line to (Found w) = word (acrossOf (w .gap)) (part line (w .from) (w .to)) ∷ words (part line (w .to) to)
 nextOf line to Nothing = []
 
 -- where a word stands, and its width
 pub record WordIs (line : List ℕ) (at to : ℕ) (w : WordAt) : Type 0 where
-  pub gap : at + w .gap ≡ w .from
+  pub low : at ≤ w .from
+  pub gap : w .gap ≡ cellsAcross (w .from - at)
   pub some : w .from < w .to
   pub high : w .to ≤ to
-  pub width : w .width ≡ width (part line (w .from) (w .to))
+  pub width : w .width ≡ cellsAcross (width (part line (w .from) (w .to)))
 
 abbrev pub GoodNext : (line : List ℕ) → (at to : ℕ) → Next → Type 0
 GoodNext line at to (Found w) = WordIs line at to w

@@ -69,8 +69,8 @@ returns c =
     let bs = part (now (a .line)) (a .found .from) (a .found .to) in
     worked-as _ (now (a .firsts)) (now (a .seconds)) (a .texts) (a .planted) d _ (u .result) fresh _ _ _ _ _ (c .fill-placed .ensures)
     (λ ts x. begun-filled ts (plantedOf (a .planted)) (a .layout) (a .page) (a .collected) (now (a .cells)) (a .stack) (now (a .arena)) (now (a .ends)) (a .gap) x (u .result) fresh _
-    (leadingWord (a .lead) bs) (words (part (now (a .line)) (a .found .to) (a .to))) _ _ (y .pre .2) (u .ensures .is) (p .is (acrossOf (i .result)) 1)
-    (line-begun (layoutOf (a .layout)) (i .result) (r .result) _ (n .result) 1 1 0 (replicate (a .lead) fixedBlank ++ bs) (i .ensures) (r .ensures .is) (written-front _ _ _ _ (n .ensures .0) (omega (arith, n .ensures .1 .few, b .sound .line .long))) refl))
+    (leadingWord (acrossOf (a .lead)) bs) (words (part (now (a .line)) (a .found .to) (a .to))) _ _ (y .pre .2) (u .ensures .is) (p .is (acrossOf (i .result)) 1)
+    (line-begun (layoutOf (a .layout)) (i .result) (r .result) _ (n .result) 1 1 0 (replicate (acrossOf (a .lead)) fixedBlank ++ bs) (i .ensures) (r .ensures .is) (written-front _ _ _ _ (n .ensures .0) (omega (arith, n .ensures .1 .few, b .sound .line .long))) refl))
 
 pub fill-new-spec : {M : Type 1} → statement M
 fill-new-spec =

@@ -78,7 +78,7 @@ returns c =
     (w .ensures .1) (w .ensures .0 .long ∙ b .long)
     (λ ts x. overflowed ts (plantedOf (a .planted)) (a .layout) (u .result) (a .page) (a .collected) fresh (now (a .cells)) _ (now (a .line)) (a .stack) (now (a .arena)) (now (a .ends)) (a .o) (a .gap) (a .to) (h .result) (now (l .result)) _ x
     (u .ensures .is) (h .ensures) (l .ensures)
-    (ap some (line-begun (layoutOf (a .layout)) (i .result) (r .result) _ (n .result) (g .result) (nextGap ws (a .gap)) (a .o .gap) (part (now (a .line)) (a .o .from) (a .o .to)) (i .ensures) (r .ensures .is) (written-front _ _ _ _ (n .ensures .0) (omega (arith, n .ensures .1 .few, q .collected .long))) (g .ensures)))
+    (ap some (line-begun (layoutOf (a .layout)) (i .result) (r .result) _ (n .result) (g .result) (nextGap ws (a .gap)) (acrossOf (a .o .gap)) (part (now (a .line)) (a .o .from) (a .o .to)) (i .ensures) (r .ensures .is) (written-front _ _ _ _ (n .ensures .0) (omega (arith, n .ensures .1 .few, q .collected .long))) (g .ensures)))
     refl)
     (u .ensures .limits) (b .sound .numbered) (b .sound .few)
     (record { long = n .ensures .1 .long; few = n .ensures .1 .few; narrow = omega (arith, r .ensures .most) })

@@ -1,14 +1,15 @@
--- `fill::unfilled::width_of` meets its contract. The invariant: the cells passed and those from here on. Assumes nothing.
+-- `fill::words::width_of` meets its contract. The invariant: the cells passed and those from here on. Assumes nothing.
 use borrow.Author.Needs.{needs}
-use mathlib.Core.Path.{_≡_, sym, _∙_}
+use mathlib.Core.Path.{_≡_, sym, ap, _∙_}
 use native.Mathlib.Omega.{arith}
 use denote.Ref.{now}
 use Prim.Native.Nat.{_+_, _-_, _≤_}
+use Rattle.measure.specs.Counts.{cellsAcross}
 use Rattle.rules.specs.Filling.{width}
 use Rattle.fill.specs.Words.Parts.{part}
-use Rattle.fill.proofs.unfilled.Rows.{width-next, width-done}
-use Rattle.fill.proofs.unfilled.width_of.Statement.{statement}
-use Rattle.fill.proofs.unfilled.width_of.Tie as tie
+use Rattle.fill.proofs.words.Words.{width-next, width-done}
+use Rattle.fill.proofs.words.width_of.Statement.{statement}
+use Rattle.fill.proofs.words.width_of.Tie as tie
 
 abbrev Inv-loop : tie.InvT-loop
 Inv-loop line at to i₀ n₀ i n = (at ≤ i) × (i ≤ to) × (n ≤ i) × (width (part line at to) ≡ n + width (part line i to))
@@ -40,11 +41,14 @@ loop-again c =
     let a = c .before .before .before .before .args in
     (search needs, search needs, omega (arith, c .cell-of .ensures .1), rw (c .cell-of .ensures .0) (l .inv .3 ∙ width-next (now (a .line)) (l .i) (a .to) (l .n) (omega arith) (c .before .before .loop-test .taken)))
 
+as-cells-requires : tie.Need-as-cells-requires Inv-loop μ-loop
+as-cells-requires c κs = omega arith
+
 returns : tie.Need-returns Inv-loop μ-loop
 returns c =
-    let l = c .before .loop in
-    let a = c .before .before .args in
-    width-done (now (a .line)) (l .i) (a .to) (l .n) (omega arith) (c .loop-test .left) ∙ sym (l .inv .3)
+    let l = c .before .before .loop in
+    let a = c .before .before .before .args in
+    c .as-cells .ensures ∙ ap cellsAcross (width-done (now (a .line)) (l .i) (a .to) (l .n) (omega arith) (c .before .loop-test .left) ∙ sym (l .inv .3))
 
 pub width-of-spec : {M : Type 1} → statement M
 width-of-spec =
@@ -59,4 +63,5 @@ width-of-spec =
     add-i
     loop-less
     loop-again
+    as-cells-requires
     returns)
