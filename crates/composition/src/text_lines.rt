@@ -24,8 +24,9 @@ ghost use Rattle.fill.specs.Words.Parts.{part, Places};
 ghost use Rattle.fill.specs.Collected.Filled.{lineOf};
 ghost use Rattle.settings.specs.Layout.Layouts.{layoutOf};
 ghost use Rattle.composition.specs.PageRows.Desk.{Desk, desk, Begins, Worked};
-ghost use Rattle.composition.specs.Filling.Words.{wordWay};
+ghost use Rattle.composition.specs.Filling.Words.{wordWay, breaksFirst, freshWay};
 ghost use mathlib.Core.Path.{_≡_};
+ghost use mathlib.Core.Bool.{false};
 
 // "With nf each line is written as it stands; ce centres".
 fn stand(
@@ -181,6 +182,78 @@ fn break_first(
     )
 }
 
+// Whether a line of words breaks first: one is collected, and nf, ce or leading spaces ask for it.
+fn breaks_first(line: &LineBytes, to: usize, layout: Layout, there: bool) -> bool
+    requires { ⌜ Places (now line) 0 to ⌝ }
+    ensures { λ r. ⌜ r ≡ breaksFirst there (rule.asItStands (layoutOf layout)) (leads (words (part (now (line .entry)) 0 to))) ⌝ }
+{
+    if !there {
+        return false;
+    }
+    if fill::words::leads(line, 0, to) {
+        return true;
+    }
+    settings::layout::stands(layout)
+}
+
+// A line of words that need not break first: it stands, or its words are filled.
+fn fresh_line(
+    line: &LineBytes,
+    to: usize,
+    layout: Layout,
+    page: Page,
+    collected: Collected,
+    planted: Planted,
+    cells: &mut LineBytes,
+    row: &mut RowBytes,
+    stack: Stack,
+    arena: &mut StackBytes,
+    ends: &mut StackEnds,
+    firsts: &ByteColumn,
+    seconds: &ByteColumn,
+    texts: usize,
+) -> Outcome
+    ghost { Desk }
+    requires { λ q. ⌜ desk layout page collected (now cells) stack (now arena) (now ends) ≡ q ⌝ }
+    requires { λ q. ⌜ Begins planted q (now line) (now row) (now firsts) (now seconds) texts × Places (now line) 0 to × (breaksFirst (collected .there) (rule.asItStands (layoutOf layout)) (leads (words (part (now line) 0 to))) ≡ false) ⌝ }
+    ensures { λ q r. ⌜ Worked (λ ts s. rule.textWay (freshWay (rule.asItStands (layoutOf layout))) (words (part (now (line .entry)) 0 to)) (part (now (line .entry)) 0 to) s) (now (firsts .entry)) (now (seconds .entry)) texts planted q (r .way) (r .written) (desk (r .layout) (r .page) (r .collected) (now (cells .exit)) (r .stack) (now (arena .exit)) (now (ends .exit))) (now (row .exit)) ⌝ }
+{
+    if settings::layout::stands(layout) {
+        return stand(
+            line,
+            to,
+            layout,
+            page,
+            collected,
+            planted,
+            &*cells,
+            row,
+            stack,
+            arena,
+            ends,
+            firsts,
+            seconds,
+            texts,
+        );
+    }
+    super::filling::fill_line(
+        line,
+        to,
+        layout,
+        page,
+        collected,
+        planted,
+        cells,
+        row,
+        stack,
+        arena,
+        ends,
+        firsts,
+        seconds,
+        texts,
+    )
+}
+
 // A text line with words, on a page that has started.
 fn word_line(
     line: &LineBytes,
@@ -203,26 +276,8 @@ fn word_line(
     requires { λ q. ⌜ Begins planted q (now line) (now row) (now firsts) (now seconds) texts × Places (now line) 0 to ⌝ }
     ensures { λ q r. ⌜ Worked (λ ts s. rule.textWay (wordWay (collected .there) (rule.asItStands (layoutOf layout)) (leads (words (part (now (line .entry)) 0 to))) (lineOf (acrossOf (collected .indent)) (acrossOf (collected .room)) (now (cells .entry)) (collected .length) (collected .next))) (words (part (now (line .entry)) 0 to)) (part (now (line .entry)) 0 to) s) (now (firsts .entry)) (now (seconds .entry)) texts planted q (r .way) (r .written) (desk (r .layout) (r .page) (r .collected) (now (cells .exit)) (r .stack) (now (arena .exit)) (now (ends .exit))) (now (row .exit)) ⌝ }
 {
-    if settings::layout::stands(layout) {
-        if collected.there {
-            return break_first(
-                line,
-                to,
-                layout,
-                page,
-                collected,
-                planted,
-                &*cells,
-                row,
-                stack,
-                arena,
-                ends,
-                firsts,
-                seconds,
-                texts,
-            );
-        }
-        return stand(
+    if breaks_first(line, to, layout, collected.there) {
+        return break_first(
             line,
             to,
             layout,
@@ -239,43 +294,7 @@ fn word_line(
             texts,
         );
     }
-    if collected.there {
-        if fill::words::leads(line, 0, to) {
-            return break_first(
-                line,
-                to,
-                layout,
-                page,
-                collected,
-                planted,
-                &*cells,
-                row,
-                stack,
-                arena,
-                ends,
-                firsts,
-                seconds,
-                texts,
-            );
-        }
-        return super::filling::fill_line(
-            line,
-            to,
-            layout,
-            page,
-            collected,
-            planted,
-            cells,
-            row,
-            stack,
-            arena,
-            ends,
-            firsts,
-            seconds,
-            texts,
-        );
-    }
-    super::filling::fill_line(
+    fresh_line(
         line,
         to,
         layout,

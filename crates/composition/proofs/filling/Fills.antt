@@ -1,6 +1,6 @@
 -- What placing words leads to, in the rules' terms. Assumes nothing.
-use mathlib.Core.Path.{_≡_, refl, sym, ap, _∙_}
-use mathlib.Core.Bool.{Bool, true, false}
+use mathlib.Core.Path.{_≡_, refl, sym, ap, _∙_, subst}
+use mathlib.Core.Bool.{Bool, true, false, or-false}
 use mathlib.Core.Option.{Option, some}
 use mathlib.Core.List.{List, [], _∷_, _++_}
 use Prim.Native.Nat.{ℕ, zero, suc, _≤_, _<_}
@@ -21,7 +21,7 @@ use Rattle.rules.specs.StateSetters.{withLayout, withCollected}
 use Rattle.rules.specs.Rows.{down, goes, break, skip, startPage}
 use Rattle.rules.specs.declared.Breaking.the-variants.{Sp}
 use Rattle.rules.specs.declared.Trap.{Trap}
-use Rattle.rules.specs.TextLines.{othersOf, nextGap, filled, fillFrom, fill, gapHere, stands, fills, blank, textWay, counted, Way, wayOf, asItStands, blankFrom, textLine}
+use Rattle.rules.specs.TextLines.{othersOf, nextGap, filled, fillFrom, fill, gapHere, stands, fills, breaks, blank, textWay, counted, Way, wayOf, asItStands, blankFrom, textLine}
 use Rattle.fill.specs.Words.Parts.{part, Places}
 use Rattle.fill.specs.Words.Words.{isNone}
 use Rattle.fill.specs.Collected.Filled.{lineOf, placedOf, PlacedTo}
@@ -39,7 +39,7 @@ use Rattle.page.specs.declared.springs.Way.the-variants.{On}
 use Rattle.input_stack.specs.declared.frames.What.the-variants as what
 use Rattle.page.specs.declared.springs.Held.the-variants as held
 use Rattle.page.specs.Springs.Held.{heldOf, Plain}
-use Rattle.composition.specs.Filling.Words.{othersHeld, longer, leadingWord, Filled, wordWay}
+use Rattle.composition.specs.Filling.Words.{othersHeld, longer, leadingWord, Filled, Follows, wordWay, breaksFirst, freshWay}
 
 -- no words are left, or some
 pub held-none : (ws : List Word) (g : ℕ) → isNone ws ≡ true → held.Nothing ≡ othersHeld ws g
@@ -141,9 +141,28 @@ way-words (suc n) (w ∷ ws) true false c cells h e = refl
 way-words (suc n) (w ∷ ws) false true c cells h e = refl
 way-words (suc n) (w ∷ ws) false false c cells h e = refl
 
--- the way by what is known of the line
-pub way-is : (t q l t' q' l' : Bool) (c : filling.Collected) → t ≡ t' → q ≡ q' → l ≡ l' → wordWay t q l c ≡ wordWay t' q' l' c
-way-is t q l t' q' l' c a b d = cc
+-- a line of words breaks first
+pub way-breaks : (t q l : Bool) (c : filling.Collected) → breaksFirst t q l ≡ true → wordWay t q l c ≡ breaks c
+way-breaks true true l c e = refl
+way-breaks true false true c e = refl
+way-breaks true false false c e = let z : _≡_ {A = ℕ} 0 1 = cc in absurd (omega arith)
+way-breaks false q l c e = let z : _≡_ {A = ℕ} 0 1 = cc in absurd (omega arith)
+
+-- or it need not
+pub way-fresh : (t q l : Bool) (c : filling.Collected) → breaksFirst t q l ≡ false → wordWay t q l c ≡ freshWay q
+way-fresh true true true c e = let z : _≡_ {A = ℕ} 0 1 = cc in absurd (omega arith)
+way-fresh true true false c e = let z : _≡_ {A = ℕ} 0 1 = cc in absurd (omega arith)
+way-fresh true false true c e = let z : _≡_ {A = ℕ} 0 1 = cc in absurd (omega arith)
+way-fresh true false false c e = refl
+way-fresh false true l c e = refl
+way-fresh false false l c e = refl
+
+pub fresh-follows : (t q : Bool) (ws : List Word) → q ≡ false → breaksFirst t q (leads ws) ≡ false → Follows t ws
+fresh-follows t q ws a e = go t (subst (λ (v : Bool). breaksFirst t v (leads ws) ≡ false) a e)
+  where
+    go : (t : Bool) → breaksFirst t false (leads ws) ≡ false → Follows t ws
+    go true h = sym (or-false (leads ws)) ∙ h
+    go false h = tt
 
 -- nothing is a part
 pub part-none : (l : List ℕ) → part l 0 0 ≡ []

@@ -1,6 +1,6 @@
 -- What the words of a text line lead to, as the code holds it. Assumes nothing.
 use mathlib.Core.Path.{_≡_}
-use mathlib.Core.Bool.{Bool, true, false}
+use mathlib.Core.Bool.{Bool, true, false, _||_}
 use mathlib.Core.List.{List, [], _∷_, _++_}
 use Prim.Native.Nat.{ℕ, _≤_, _<_}
 use lib.ListN.{length, replicate}
@@ -76,3 +76,13 @@ wordWay true true l c = breaks c
 wordWay true false l c = breaksIf l c
 wordWay false true l c = stands
 wordWay false false l c = fills
+
+-- whether a line is written before a line of words is dealt with
+abbrev pub breaksFirst : (there asItStands leads : Bool) → Bool
+breaksFirst true q l = l || q
+breaksFirst false q l = false
+
+-- what a line of words asks for if none is
+abbrev pub freshWay : (asItStands : Bool) → Way
+freshWay true = stands
+freshWay false = fills
