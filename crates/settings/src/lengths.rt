@@ -129,7 +129,7 @@ pub fn set_length(which: Length, old: Setting, argument: &[u8], pitch: Pitch) ->
 }
 
 // "pl 1 to 500 rows and above the rows already used on the page"
-pub fn page_count(value: i64, used: u32) -> Count
+fn count_above(value: i64, used: u32) -> Count
     ensures { λ r. ⌜ countIs r ≡ pageRange used value ⌝ }
 {
     if 500 <= used {
@@ -138,11 +138,18 @@ pub fn page_count(value: i64, used: u32) -> Count
     count_within(value, (used + 1) as u16, 500)
 }
 
+// A page length, above the rows used.
+pub fn page_count(value: i64, used: Rows) -> Count
+    ensures { λ r. ⌜ countIs r ≡ pageRange (downOf used) value ⌝ }
+{
+    count_above(value, measure::down(used))
+}
+
 // A page length from the value of an argument and the old one.
 fn page_within(argument: &[u8], value: i32, used: u32, old: u32) -> Count
     ensures { λ r. ⌜ countIs r ≡ pageRange used (changedOf (signed (now (argument .entry))) old value) ⌝ }
 {
-    page_count(changed(number::scales::signed(argument), old, value), used)
+    count_above(changed(number::scales::signed(argument), old, value), used)
 }
 
 // pl, with an argument.

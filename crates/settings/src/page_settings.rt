@@ -30,7 +30,7 @@ fn new_page(used: Rows, old: Rows, argument: &[u8], printer: Printer) -> NewRows
 {
     if argument.len() == 0 {
         let rows = measure::down(printer.page) as i64;
-        return rows_from(super::lengths::page_count(rows, measure::down(used)));
+        return rows_from(super::lengths::page_count(rows, used));
     }
     super::lengths::page_length(used, old, argument, printer.pitch)
 }

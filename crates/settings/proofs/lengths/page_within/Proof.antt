@@ -13,8 +13,8 @@ signed-requires c κs = search needs
 changed-requires : tie.Need-changed-requires
 changed-requires c κs = search needs
 
-page-count-requires : tie.Need-page-count-requires
-page-count-requires c κs = search needs
+count-above-requires : tie.Need-count-above-requires
+count-above-requires c κs = search needs
 
 returns : tie.Need-returns
 returns c =
@@ -22,9 +22,9 @@ returns c =
     let s = y .before .before .before in
     let a = s .args in
     let v = rw (toZ-ofZ (s .fits .value)) at (y .changed .ensures) in
-    let n = rw (toZ-ofZ (sfits-of (y .changed .ok))) at (c .page-count .ensures) in
+    let n = rw (toZ-ofZ (sfits-of (y .changed .ok))) at (c .count-above .ensures) in
     n ∙ ap (pageRange (a .used)) (v ∙ ap (λ (t : Bool). changed t (a .old) (a .value)) (y .before .signed .ensures))
 
 pub page-within-spec : {M : Type 1} → statement M
 page-within-spec =
-    tie.close (tie.spec signed-requires changed-requires page-count-requires returns)
+    tie.close (tie.spec signed-requires changed-requires count-above-requires returns)

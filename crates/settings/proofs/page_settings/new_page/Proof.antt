@@ -19,9 +19,6 @@ down-requires c κs = search needs
 cast-rows : tie.Need-cast-rows
 cast-rows c = search needs
 
-down-requires-2 : tie.Need-down-requires-2
-down-requires-2 c κs = search needs
-
 page-count-requires : tie.Need-page-count-requires
 page-count-requires c κs = search needs
 
@@ -31,14 +28,12 @@ rows-from-requires c κs = search needs
 returns : tie.Need-returns
 returns c =
     let y = c .before in
-    let u = y .before in
-    let d = u .before in
+    let d = y .before in
     let s = d .before .before .before in
     let a = s .args in
     c .rows-from .ensures ∙ y .page-count .ensures
-    ∙ ap (pageRange (u .down2 .result)) (toZ-pos w64 {n = d .down .result} (omega (arith, d .down .ensures, s .pre .page-most)))
-    ∙ ap (λ (n : ℕ). pageRange (u .down2 .result) (pos n)) (d .down .ensures)
-    ∙ ap (λ (n : ℕ). pageRange n (pos (downOf (a .printer .page)))) (u .down2 .ensures)
+    ∙ ap (pageRange (downOf (a .used))) (toZ-pos w64 {n = d .down .result} (omega (arith, d .down .ensures, s .pre .page-most)))
+    ∙ ap (λ (n : ℕ). pageRange (downOf (a .used)) (pos n)) (d .down .ensures)
     ∙ page-none (printerOf (a .printer)) (downOf (a .used)) (downOf (a .old)) (a .argument .now) (d .before .if1 .taken)
 
 page-length-requires : tie.Need-page-length-requires
@@ -55,7 +50,6 @@ new-page-spec =
     (tie.spec
     down-requires
     cast-rows
-    down-requires-2
     page-count-requires
     rows-from-requires
     returns
