@@ -36,3 +36,5 @@ pub mod Load
 pub mod Pages
 -- LAWS: nothing to believe.
 pub mod Laws
+-- How the contracts of registers and texts name the columns of a table: no rule uses it.
+pub mod Columns

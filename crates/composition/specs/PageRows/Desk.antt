@@ -13,7 +13,8 @@ use Rattle.rules.specs.Texts.{Text}
 use Rattle.rules.specs.State.{State}
 use Rattle.rules.specs.StateSetters.{input, tables}
 use Rattle.rules.specs.Rows.{Next}
-use Rattle.texts.specs.Table.Table.{textsOf, Names, Lies}
+use Rattle.rules.specs.Columns.{Names}
+use Rattle.texts.specs.Table.Table.{textsOf, Lies}
 use Rattle.traps.specs.declared.table.Planted.{Planted}
 use Rattle.traps.specs.Table.Table.{plantedOf}
 use Rattle.traps.specs.Table.Table as traps

@@ -17,7 +17,8 @@ use Rattle.registers.specs.declared.table.Order.{Order}
 use Rattle.registers.specs.Table.Columns.{zipWith, asPair, namesOf, Names}
 use Rattle.registers.specs.Table.Places.{orderOf, orderAt}
 use Rattle.registers.specs.Checks.Checks.{NameColumns, NumberColumns, isEarlier, inOrder, isTable, isWithin, allWithin, isBounded}
-use Rattle.registers.proofs.table.Laws.{zip-at, zip-length, namesOf-at, row-order}
+use Rattle.rules.specs.Columns.{zip-at, zip-length}
+use Rattle.registers.proofs.table.Laws.{namesOf-at, row-order}
 
 -- the order of names
 

@@ -21,6 +21,7 @@ use Rattle.rules.specs.Refusals.{value, bad, _>>=_}
 use Rattle.rules.specs.Bytes.{firstWhere}
 use Rattle.rules.specs.Registers.{register, lookup, put, setValue, Seen, Reference, referBy}
 use Rattle.rules.specs.Laws.Registers.{Before, Means, means, names, Ordered, Sorted, not-found, put-new, put-sorted}
+use Rattle.rules.specs.Columns.{zip-at, zip-length, zip-set}
 use Rattle.registers.specs.declared.table.Order.{Order}
 use Rattle.registers.specs.declared.table.Place.{Place}
 use Rattle.registers.specs.declared.table.Place.the-variants.{At, Not}
@@ -34,30 +35,7 @@ use Rattle.registers.specs.Table.Answers.{SetTo, StepTo, turnedOf}
 -- two columns of one length
 
 module _ {A B C : Type 0} (f : A → B → C) where
-  pub zip-at : (xs : List A) (ys : List B) (i : ℕ) (a : A) (b : B) → length xs ≡ length ys → getD (zipWith f xs ys) i (f a b) ≡ f (getD xs i a) (getD ys i b)
-  unfolding zipWith
-  zip-at [] [] i a b e = refl
-  zip-at [] (y ∷ ys) i a b e = absurd (omega arith)
-  zip-at (x ∷ xs) [] i a b e = absurd (omega arith)
-  zip-at (x ∷ xs) (y ∷ ys) zero a b e = refl
-  zip-at (x ∷ xs) (y ∷ ys) (suc i) a b e = zip-at xs ys i a b (omega arith)
-
-  pub zip-length : (xs : List A) (ys : List B) → length xs ≡ length ys → length (zipWith f xs ys) ≡ length xs
-  unfolding zipWith
-  zip-length [] ys e = refl
-  zip-length (x ∷ xs) [] e = absurd (omega arith)
-  zip-length (x ∷ xs) (y ∷ ys) e = ap suc (zip-length xs ys (omega arith))
-
-  -- a row of both that is set is a row of the whole
-  pub zip-set : (xs : List A) (ys : List B) (i : ℕ) (a : A) (b : B) → zipWith f (set xs i a) (set ys i b) ≡ set (zipWith f xs ys) i (f a b)
-  unfolding zipWith
-  zip-set [] ys i a b = refl
-  zip-set (x ∷ xs) [] zero a b = refl
-  zip-set (x ∷ xs) [] (suc i) a b = refl
-  zip-set (x ∷ xs) (y ∷ ys) zero a b = refl
-  zip-set (x ∷ xs) (y ∷ ys) (suc i) a b = ap (λ l. f x y ∷ l) (zip-set xs ys i a b)
-
-  -- and so is one that is inserted
+  -- a row of both that is inserted is a row of the whole
   pub zip-inserted : (xs : List A) (ys : List B) (i k : ℕ) (a : A) (b : B)
       → zipWith f (inserted xs i k a) (inserted ys i k b) ≡ inserted (zipWith f xs ys) i k (f a b)
   unfolding zipWith inserted
@@ -265,7 +243,7 @@ module _ (fs ss : List ℕ) (vs ts : List ℤ) where
       rw (zip-set twoBytes fs ss i a b, zip-set asPair vs ts i v s, zip-set asRegister (zipWith twoBytes fs ss) (zipWith asPair vs ts) i (twoBytes a b) (asPair v s))
       (take-set-lt n (zipWith asRegister (zipWith twoBytes fs ss) (zipWith asPair vs ts)) i (register (twoBytes a b) v s) k)
 
-  -- and so is one that is inserted
+  -- a row of both that is inserted is a row of the whole
   table-inserted : (n i a b : ℕ) (v s : ℤ) → i ≤ n → n < length (zipWith asRegister (zipWith twoBytes fs ss) (zipWith asPair vs ts))
       → tableOf (inserted fs i (n - i) a) (inserted ss i (n - i) b) (inserted vs i (n - i) v) (inserted ts i (n - i) s) (n + 1)
       ≡ take i (tableOf fs ss vs ts n) ++ register (twoBytes a b) v s ∷ drop i (tableOf fs ss vs ts n)

@@ -21,7 +21,8 @@ use Rattle.texts.specs.declared.table.Kept.the-variants as kept
 use Rattle.texts.specs.Table.Table.{zipWith, kindOf, row, asPair, namesOf, rowsOf, sum, textsOf, Lies}
 use Rattle.texts.specs.Table.Places.{placeOf}
 use Rattle.texts.specs.Table.Changes.{lesser, roomOf, TakenOut, Appended, DefinedTo, Opens, bodyOf, OpenedTo, KeptTo, ClosedTo}
-use Rattle.texts.proofs.table.Lists.{zip-set, sum-append, drop-take, front-same, paste-front, paste-part, paste-past}
+use Rattle.rules.specs.Columns.{zip-set}
+use Rattle.texts.proofs.table.Lists.{sum-append, drop-take, front-same, paste-front, paste-part, paste-past}
 use Rattle.texts.proofs.table.Laws.{rows-long, rows-sizes, found-row}
 use Rattle.texts.proofs.table.ChangeLaws.{cut-end, texts-length, texts-live, texts-same, lies-same, remove-found, remove-not, taken-out}
 

@@ -20,7 +20,8 @@ use Rattle.texts.specs.declared.table.Place.{Place}
 use Rattle.texts.specs.declared.table.Place.the-variants.{At, Not}
 use Rattle.texts.specs.Table.Table.{zipWith, kindOf, Row, row, asPair, namesOf, rowsOf, sum, cut, textsOf, Names, Lies}
 use Rattle.texts.specs.Table.Places.{next, placeOf}
-use Rattle.texts.proofs.table.Lists.{zip-at, zip-length, sum-step, sum-mono}
+use Rattle.rules.specs.Columns.{zip-at, zip-length}
+use Rattle.texts.proofs.table.Lists.{sum-step, sum-mono}
 
 -- the bytes of two names
 

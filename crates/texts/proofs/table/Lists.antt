@@ -13,29 +13,6 @@ use Rattle.texts.specs.Table.Changes.{without, closed}
 -- two columns of one length
 
 module _ {A B C : Type 0} (f : A → B → C) where
-  pub zip-at : (xs : List A) (ys : List B) (i : ℕ) (a : A) (b : B) → length xs ≡ length ys → getD (zipWith f xs ys) i (f a b) ≡ f (getD xs i a) (getD ys i b)
-  unfolding zipWith
-  zip-at [] [] i a b e = refl
-  zip-at [] (y ∷ ys) i a b e = absurd (omega arith)
-  zip-at (x ∷ xs) [] i a b e = absurd (omega arith)
-  zip-at (x ∷ xs) (y ∷ ys) zero a b e = refl
-  zip-at (x ∷ xs) (y ∷ ys) (suc i) a b e = zip-at xs ys i a b (omega arith)
-
-  pub zip-length : (xs : List A) (ys : List B) → length xs ≡ length ys → length (zipWith f xs ys) ≡ length xs
-  unfolding zipWith
-  zip-length [] ys e = refl
-  zip-length (x ∷ xs) [] e = absurd (omega arith)
-  zip-length (x ∷ xs) (y ∷ ys) e = ap suc (zip-length xs ys (omega arith))
-
-  -- a row of both that is set is a row of the whole
-  pub zip-set : (xs : List A) (ys : List B) (i : ℕ) (a : A) (b : B) → zipWith f (set xs i a) (set ys i b) ≡ set (zipWith f xs ys) i (f a b)
-  unfolding zipWith
-  zip-set [] ys i a b = refl
-  zip-set (x ∷ xs) [] zero a b = refl
-  zip-set (x ∷ xs) [] (suc i) a b = refl
-  zip-set (x ∷ xs) (y ∷ ys) zero a b = refl
-  zip-set (x ∷ xs) (y ∷ ys) (suc i) a b = ap (λ l. f x y ∷ l) (zip-set xs ys i a b)
-
   -- a row that is closed up in both is closed up in the whole
   pub zip-closed : (xs : List A) (ys : List B) (i k : ℕ) → length xs ≡ length ys → zipWith f (closed xs i k) (closed ys i k) ≡ closed (zipWith f xs ys) i k
   unfolding zipWith closed

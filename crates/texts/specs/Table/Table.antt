@@ -8,12 +8,8 @@ use Rattle.rules.specs.declared.Kind.{Kind}
 use Rattle.rules.specs.declared.Kind.the-variants.{Macro, String}
 use Rattle.rules.specs.Names.{twoBytes}
 use Rattle.rules.specs.Texts.{Text, text}
-
--- two columns as one, row by row
-unfoldable pub zipWith : {A B C : Type 0} → (A → B → C) → List A → List B → List C
-zipWith f [] ys = []
-zipWith f (a ∷ xs) [] = []
-zipWith f (a ∷ xs) (b ∷ ys) = f a b ∷ zipWith f xs ys
+unfoldable pub use Rattle.rules.specs.Columns.{zipWith}
+pub use Rattle.rules.specs.Columns.{namesOf, Names}
 
 -- a kind by its code: 0 is a macro, any other a string
 abbrev pub kindOf : ℕ → Kind
@@ -32,10 +28,6 @@ row n x = record { name = n; kind = kindOf (x .0); size = x .1 }
 abbrev pub asPair : ℕ → ℕ → ℕ × ℕ
 asPair k l = (k, l)
 
--- the names in the first rows
-abbrev pub namesOf : (firsts seconds : List ℕ) → (count : ℕ) → List Name
-namesOf fs ss n = take n (zipWith twoBytes fs ss)
-
 -- the first rows
 abbrev pub rowsOf : (firsts seconds kinds lengths : List ℕ) → (count : ℕ) → List Row
 rowsOf fs ss ks ls n = take n (zipWith row (zipWith twoBytes fs ss) (zipWith asPair ks ls))
@@ -53,12 +45,6 @@ cut st (r ∷ rs) = text (r .name) (r .kind) (take (r .size) st) ∷ cut (drop (
 -- the texts of a store and its table
 abbrev pub textsOf : (store firsts seconds kinds lengths : List ℕ) → (count : ℕ) → List Text
 textsOf st fs ss ks ls n = cut st (rowsOf fs ss ks ls n)
-
--- the columns of names have all their rows, and the table has no more
-pub record Names (firsts seconds : List ℕ) (count : ℕ) : Type 0 where
-  pub firsts-long : length firsts ≡ 64
-  pub seconds-long : length seconds ≡ 64
-  pub few : count ≤ 64
 
 -- the texts lie within the store, and each column has 64 rows
 pub record Lies (store firsts seconds kinds lengths : List ℕ) (count : ℕ) : Type 0 where
