@@ -33,18 +33,6 @@ pub fn empty() -> Stack
     Stack { depth: 0 }
 }
 
-fn put_bytes(arena: &mut StackBytes, at: usize, bytes: &[u8])
-    requires { ⌜ (at + length (now bytes) ≤ 8704) × (length (now arena) ≡ 8704) ⌝ }
-    ensures { λ _. ⌜ now (arena .exit) ≡ paste (now (arena .entry)) at (now (bytes .entry)) (length (now (bytes .entry))) ⌝ }
-{
-    let mut j: usize = 0;
-    while j < bytes.len() {
-        let byte = bytes[j];
-        arena[at + j] = byte;
-        j += 1;
-    }
-}
-
 fn put_ends(all: &mut StackEnds, at: usize, ends: &ArgumentEnds)
     requires { ⌜ (at + 9 ≤ 221) × (length (now all) ≡ 221) × (length (now ends) ≡ 9) ⌝ }
     ensures { λ _. ⌜ now (all .exit) ≡ paste (now (all .entry)) at (now (ends .entry)) 9 ⌝ }
@@ -82,7 +70,7 @@ pub fn push(
     ensures { λ r. ⌜ PushedTo stack (now (arena .entry)) (now (ends .entry)) what (now (bytes .entry)) (now (given .entry)) r (now (arena .exit)) (now (ends .exit)) ⌝ }
 {
     let depth = stack.depth;
-    put_bytes(&mut *arena, depth * LINE_SIZE, bytes);
+    texts::definitions::copy_in(&mut *arena, depth * LINE_SIZE, bytes);
     put_entry(&mut *ends, depth * ITEM_WORDS, what, bytes.len() as u16);
     put_ends(&mut *ends, depth * ITEM_WORDS + ITEM_HEAD, given);
     Stack { depth: depth + 1 }

@@ -15,7 +15,7 @@ ghost use Rattle.texts.specs.Table.Table.{sum, Lies};
 ghost use Rattle.texts.specs.Table.Changes.{Entered, Appended, DefinedTo, Opens, OpenedTo, KeptTo, ClosedTo};
 
 // `text` is written at a place.
-fn copy_in(store: &mut [u8], at: usize, text: &[u8])
+pub fn copy_in(store: &mut [u8], at: usize, text: &[u8])
     requires { ⌜ at + length (now text) ≤ length (now store) ⌝ }
     ensures { λ _. ⌜ now (store .exit) ≡ paste (now (store .entry)) at (now (text .entry)) (length (now (text .entry))) ⌝ }
 {

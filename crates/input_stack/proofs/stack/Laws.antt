@@ -8,7 +8,7 @@ use native.Mathlib.Omega.{arith}
 use lib.Dec.{eqb}
 use borrow.Author.Tests.{eqb-true, eqb-false}
 use lib.ListN.{length, take, drop, getD, set, length-set}
-use lib.Seq.{paste, paste-suc, length-paste, length-paste-head, take-take, take-all, length-take-le, take-append-le, drop-at, take-at, getD-set-same, getD-set-other, take-set-le, take-length, take-suc, take-suc-set}
+use lib.Seq.{paste, length-paste, length-paste-head, take-take, take-all, length-take-le, take-append-le, drop-at, take-at, getD-set-same, getD-set-other, take-set-le, take-length, take-suc, take-suc-set}
 use Rattle.rules.specs.declared.Name.{Name}
 use Rattle.input_stack.specs.declared.frames.What.{What}
 use Rattle.input_stack.specs.declared.stack.Entry.{Entry}
@@ -17,10 +17,6 @@ use Rattle.input_stack.specs.declared.frames.Words.{Words}
 use Rattle.input_stack.specs.Frames.Words.{wordsOf, whatIn}
 use Rattle.input_stack.specs.Stack.Frames.{frame, entry, entryAt, entered, frameAt, framesTo, Columns, PushedTo, isCalled, calledTo}
 use Rattle.input_stack.specs.Stack.FrameLaws.{entry-is, entry-within, frames-kept}
-
--- one element more
-pub copy-step : (d : List ℕ) (at : ℕ) (s : List ℕ) (j : ℕ) → at + j < length d → j < length s → set (paste d at s j) (at + j) (getD s j 0) ≡ paste d at s (j + 1)
-copy-step d at s j h k = paste-suc d at s j 0 h k ∙ ap (λ (n : ℕ). paste d at s n) (sym (add-one j))
 
 -- what is before a copy stays
 pub before-copy : (d : List ℕ) (at : ℕ) (s : List ℕ) (n : ℕ) → at ≤ length d → n ≤ length s → take at (paste d at s n) ≡ take at d

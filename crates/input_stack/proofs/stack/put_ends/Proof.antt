@@ -5,7 +5,7 @@ use native.Mathlib.Omega.{arith}
 use lib.ListN.{length, length-set}
 use lib.Seq.{paste, paste-zero}
 use denote.Ref.{now}
-use Rattle.input_stack.proofs.stack.Laws.{copy-step}
+use Rattle.texts.proofs.table.Lists.{copy-step}
 use Rattle.input_stack.proofs.stack.put_ends.Statement.{statement}
 use Rattle.input_stack.proofs.stack.put_ends.Tie as tie
 
