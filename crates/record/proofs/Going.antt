@@ -24,7 +24,7 @@ use Rattle.record.specs.declared.Stop.{Stop}
 use Rattle.record.specs.declared.Stop.the-variants.{Goes, With}
 use Rattle.record.specs.View.{stateOf, waitingOf, Legal}
 use Rattle.record.specs.Contract.{callOn, Closes, EndedBy}
-use Rattle.record.specs.Turns.{none, advanced, withWaiting, weight, WroteTo, Turns, Leads, Stops, Turned, Through, begins, stays, turns, Runs}
+use Rattle.record.specs.Turns.{placeOf, putAt, none, advanced, withWaiting, weight, WroteTo, Turns, Leads, Stops, Turned, Through, begins, stays, turns, Runs}
 use Rattle.record.proofs.Leading.{stops-closed}
 
 -- What the loop keeps, of a call from r₀ and st₀ on: t bytes are taken, w written.
@@ -68,25 +68,7 @@ drop-take (suc n) (suc m) (x ∷ l) = let e : suc m - suc n ≡ m - n = omega ar
 
 -- a record with another closing answer
 abbrev closedBy : Closing → Record → Record
-closedBy c r = record {
-  status = r .status;
-  source = r .source;
-  waiting = r .waiting;
-  closing = c;
-  gathered = r .gathered;
-  cells = r .cells;
-  row = r .row;
-  arena = r .arena;
-  ends = r .ends;
-  «text_firsts» = r .«text_firsts»;
-  «text_seconds» = r .«text_seconds»;
-  kinds = r .kinds;
-  lengths = r .lengths;
-  firsts = r .firsts;
-  seconds = r .seconds;
-  values = r .values;
-  steps = r .steps;
-}
+closedBy c r = putAt (placeOf (r .status) (r .source) (r .waiting) c) r
 
 -- the record, open, with nothing waiting
 abbrev pub atRest : Record → Record

@@ -11,6 +11,7 @@ use Rattle.record.specs.declared.Record.{Record}
 use Rattle.record.specs.declared.Waiting.{Waiting}
 use Rattle.record.specs.declared.Closing.{Closing}
 use Rattle.record.specs.declared.Closing.the-variants.{Open}
+use Rattle.record.specs.Turns.{recordOf, placeOf}
 
 -- an open session for which nothing waits, without work, in the middle of a source line; and a block, not the last, that stays in that line
 pub record InsideCall (block : List ℕ) (last : Bool) (depth : ℕ) (s : Source) (w : Waiting) (c : Closing) : Type 0 where
@@ -32,22 +33,5 @@ longer s n = record { line = s .line; length = s .length + n; ended = s .ended; 
 
 -- the record with the bytes of a block behind those gathered
 abbrev pub withBlock : (block : List ℕ) → Record → Record
-withBlock bl r = record {
-  status = r .status;
-  source = longer (r .source) (length bl);
-  waiting = r .waiting;
-  closing = r .closing;
-  gathered = paste (r .gathered) (r .source .length) bl (length bl);
-  cells = r .cells;
-  row = r .row;
-  arena = r .arena;
-  ends = r .ends;
-  «text_firsts» = r .«text_firsts»;
-  «text_seconds» = r .«text_seconds»;
-  kinds = r .kinds;
-  lengths = r .lengths;
-  firsts = r .firsts;
-  seconds = r .seconds;
-  values = r .values;
-  steps = r .steps;
-}
+withBlock bl r =
+    recordOf (placeOf (r .status) (longer (r .source) (length bl)) (r .waiting) (r .closing)) (paste (r .gathered) (r .source .length) bl (length bl)) (r .cells) (r .row) (r .arena) (r .ends) (r .«text_firsts») (r .«text_seconds») (r .kinds) (r .lengths) (r .firsts) (r .seconds) (r .values) (r .steps)

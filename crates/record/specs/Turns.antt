@@ -64,6 +64,10 @@ recordOf p g cs row bs ps tf ts ks ls fs ss vs us = record {
 abbrev pub placeOf : Status → Source → Waiting → Closing → Place
 placeOf s x w c = record { status = s; source = x; waiting = w; closing = c }
 
+-- the arrays of a record at another place
+abbrev pub putAt : Place → Record → Record
+putAt p r = recordOf p (r .gathered) (r .cells) (r .row) (r .arena) (r .ends) (r .«text_firsts») (r .«text_seconds») (r .kinds) (r .lengths) (r .firsts) (r .seconds) (r .values) (r .steps)
+
 -- nothing waits
 abbrev pub none : Waiting
 none = record { at = 0; end = 0 }
@@ -212,25 +216,7 @@ ClosedIs (With a) c = Closes c a
 
 -- the same record, but for the bytes that wait
 abbrev pub withWaiting : Waiting → Record → Record
-withWaiting w r = record {
-  status = r .status;
-  source = r .source;
-  waiting = w;
-  closing = r .closing;
-  gathered = r .gathered;
-  cells = r .cells;
-  row = r .row;
-  arena = r .arena;
-  ends = r .ends;
-  «text_firsts» = r .«text_firsts»;
-  «text_seconds» = r .«text_seconds»;
-  kinds = r .kinds;
-  lengths = r .lengths;
-  firsts = r .firsts;
-  seconds = r .seconds;
-  values = r .values;
-  steps = r .steps;
-}
+withWaiting w r = putAt (placeOf (r .status) (r .source) w (r .closing)) r
 
 -- The turns that a call has made from a record and its store on, one after the other: each leads on as the rules do and, if it closes the session, leaves every byte of the store
 -- as it was. Between them waiting bytes are written, or the record is put down anew, which changes neither the state nor the store.

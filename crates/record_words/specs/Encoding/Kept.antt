@@ -19,7 +19,7 @@ use Rattle.state.specs.Whole.{Texts, stateIn, openedIf, OpensIn}
 use Rattle.record.specs.declared.Closing.{Closing}
 use Rattle.record.specs.declared.Closing.the-variants.{Open, Done, Refused}
 use Rattle.record.specs.declared.Record.{Record}
-use Rattle.record.specs.Turns.{recordOf, placeOf}
+use Rattle.record.specs.Turns.{recordOf, placeOf, putAt}
 use Rattle.record.specs.View.{sourced, closedAs, stateOf, waitingOf, wholeIn, lastLine, Legal}
 use Rattle.record_words.specs.declared.decoding.Counts.{Counts}
 use Rattle.record_words.specs.Decoding.Words.{placeIn, countsOf, wordsAt, layoutIn, pageIn, collectedIn, countsIn, openingIn, sourceIn, waitingIn, closingIn, plantedIn, Named, AllNamed, numberOf, Short}
@@ -59,25 +59,7 @@ module _ (o o' : Opening) (t : Texts) (a : Alike o o') where
 
 -- the record with another opening
 abbrev withOpening : Opening → Record → Record
-withOpening o r = record {
-  status = record { layout = r .status .layout; page = r .status .page; collected = r .status .collected; planted = r .status .planted; stack = r .status .stack; texts = r .status .texts; opening = o; registers = r .status .registers };
-  source = r .source;
-  waiting = r .waiting;
-  closing = r .closing;
-  gathered = r .gathered;
-  cells = r .cells;
-  row = r .row;
-  arena = r .arena;
-  ends = r .ends;
-  «text_firsts» = r .«text_firsts»;
-  «text_seconds» = r .«text_seconds»;
-  kinds = r .kinds;
-  lengths = r .lengths;
-  firsts = r .firsts;
-  seconds = r .seconds;
-  values = r .values;
-  steps = r .steps;
-}
+withOpening o r = putAt (placeOf (record { layout = r .status .layout; page = r .status .page; collected = r .status .collected; planted = r .status .planted; stack = r .status .stack; texts = r .status .texts; opening = o; registers = r .status .registers }) (r .source) (r .waiting) (r .closing)) r
 
 -- What is asked of a record besides that it is legal: what the types of its parts say.
 pub record Typed (r : Record) : Type 0 where
@@ -173,25 +155,7 @@ module _ (r : Record) (st : List ℕ) (l : Legal r st) (t : Typed r) where
 
   -- the record with these parts, and the opening that is read back
   abbrev made : Layout → Page → Collected → Planted → Counts → Source → Waiting → Closing → Record
-  made y p c h n s w k = record {
-    status = record { layout = y; page = p; collected = c; planted = h; stack = record { depth = n .depth }; texts = n .texts; opening = openingIn (wordsIn r); registers = n .registers };
-    source = s;
-    waiting = w;
-    closing = k;
-    gathered = r .gathered;
-    cells = r .cells;
-    row = r .row;
-    arena = r .arena;
-    ends = r .ends;
-    «text_firsts» = r .«text_firsts»;
-    «text_seconds» = r .«text_seconds»;
-    kinds = r .kinds;
-    lengths = r .lengths;
-    firsts = r .firsts;
-    seconds = r .seconds;
-    values = r .values;
-    steps = r .steps;
-  }
+  made y p c h n s w k = putAt (placeOf (record { layout = y; page = p; collected = c; planted = h; stack = record { depth = n .depth }; texts = n .texts; opening = openingIn (wordsIn r); registers = n .registers }) s w k) r
 
   same : again r ≡ withOpening (openingIn (wordsIn r)) r
   same =
