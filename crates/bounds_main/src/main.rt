@@ -10,6 +10,7 @@ use libc::STDIN_FILENO;
 use libc::STDOUT_FILENO;
 use record::Record;
 use report::text;
+use rules::arrays::STORE_SIZE;
 use stream::Answer;
 
 // The place for a document: each is shorter.
@@ -325,7 +326,7 @@ fn cut_call(
 // Calls the session until it is closed, over a store whose first content is no text. A proved loop has to end: it counts its
 // turns down from a number that no run here uses up.
 fn run(document: &[u8], cut: Cut, pages: &mut [u8]) -> Seen {
-    let mut store = [255u8; 8192];
+    let mut store = [255u8; STORE_SIZE];
     let mut record = session::start();
     let mut seen = nothing_seen();
     let mut turns: u64 = 10000000;
