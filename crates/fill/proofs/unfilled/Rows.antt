@@ -10,15 +10,14 @@ use lib.ListN.{length, getD, take, set, replicate, length-append, length-replica
 use lib.Seq.{sets, length-sets, length-take-le}
 use borrow.Author.Tests.{eqb-true, lt-ltb}
 use Rattle.rules.specs.Bytes.{newline, space, mark, fixedBlank}
-use Rattle.rules.specs.Filling.{words, gaps, spread, adjusted, trimmed, printed, printedByte, spelled, span, width, countIf, row, left}
+use Rattle.rules.specs.Filling.{words, gaps, spread, adjusted, trimmed, printed, printedByte, spelled, span, width, row, left}
 use Rattle.rules.specs.Laws.Filling.{trimmed-blank, trimmed-spaces, trimmed-ends, trimmed-short, printed-append, printed-length, spelled-width, level-length, share-length, adjusted-alone}
 use Rattle.rules.specs.Laws.Lines.{spelled-words}
 use Rattle.fill.specs.Words.Parts.{part}
 use Rattle.fill.specs.Collected.Writing.{Written}
 use Rattle.fill.specs.Collected.Filled.{lineOf}
 use Rattle.fill.specs.Unfilled.Lines.{CellsEnd, isBlankByte, TextEnd, oneIf}
-use Rattle.fill.proofs.words.Parts.{part-none, part-cons, part-snoc}
-use Rattle.fill.proofs.words.Words.{count-if}
+use Rattle.fill.proofs.words.Parts.{part-none, part-snoc}
 use Rattle.fill.proofs.collected.Writing.{sets-append}
 use Rattle.fill.proofs.unfilled.Spreading.{end-last}
 

@@ -3,14 +3,12 @@ use mathlib.Core.Path.{_≡_, refl}
 use mathlib.Core.Bool.{false}
 use mathlib.Core.List.{List}
 use Prim.Native.Nat.{ℕ, zero, suc}
-use native.Mathlib.Omega.{arith}
 use lib.IntN.{ℤ}
 use Rattle.rules.specs.Refusals.{Judged}
 use Rattle.rules.specs.Names.{Named}
 use Rattle.rules.specs.State.{State}
 use Rattle.rules.specs.Acts.{settles}
 use Rattle.settings.specs.declared.layout.Printer.{Printer}
-use Rattle.page.specs.declared.springs.Way.{Way}
 use Rattle.page.specs.declared.springs.Way.the-variants.{Refused}
 use Rattle.requests.specs.declared.nr.Assigned.{Assigned}
 use Rattle.requests.specs.declared.nr.Assigned.the-variants as assigned

@@ -14,7 +14,7 @@ use Rattle.rules.specs.declared.Breaking.{Breaking}
 use Rattle.rules.specs.declared.Breaking.the-variants.{Br, Sp, Bp, Sets}
 use Rattle.rules.specs.declared.Request.the-variants.{Breaks, Lays, Changes, Ds, If}
 use Rattle.rules.specs.declared.Mode.the-variants.{Plain, Copy}
-use Rattle.rules.specs.Refusals.{Judged, value, bad, _>>=_}
+use Rattle.rules.specs.Refusals.{Judged, value, bad}
 use Rattle.rules.specs.Requests.{startsPage, modeOf}
 use Rattle.rules.specs.State.{State, Line, text, control, ignored, Item, reading, fresh, again, others, acts, ejects, Definition}
 use Rattle.rules.specs.StateSetters.{withStack, withStored, withLayout}

@@ -8,13 +8,13 @@ use native.Mathlib.Omega.{arith}
 use lib.Dec.{leb, ltb, eqb}
 use lib.ListN.{length}
 use lib.IntN.{ℤ, pos, negsuc}
-use borrow.Author.Tests.{eqb-true, leb-true, ltb-true}
+use borrow.Author.Tests.{eqb-true, ltb-true}
 use Rattle.rules.specs.Printers.{Printer}
 use Rattle.rules.specs.declared.Name.{Name}
 use Rattle.rules.specs.Bytes.{isThere, byte, newline, space}
-use Rattle.rules.specs.Refusals.{Judged, value, bad, judge}
-use Rattle.rules.specs.Laws.Refusals.{Every, here, refused, every, every-of, judge-every}
-use Rattle.rules.specs.Numbers.{cells, rows, units, signed}
+use Rattle.rules.specs.Refusals.{Judged, value, bad}
+use Rattle.rules.specs.Laws.Refusals.{Every, here, refused, every, judge-every}
+use Rattle.rules.specs.Numbers.{rows, units, signed}
 use Rattle.rules.specs.Registers.{lookup, valueOr0, stepOr0, setValue, predefined}
 use Rattle.rules.specs.Texts.{Text, textOf, remove, defineString, openMacro, keepLine, closeMacro}
 use Rattle.rules.specs.declared.Mode.{Mode}

@@ -3,8 +3,7 @@ use borrow.Author.Needs.{needs}
 use mathlib.Core.Path.{_≡_, _∙_}
 use native.Mathlib.Omega.{arith}
 use denote.Ref.{now}
-use Prim.Native.Nat.{ℕ, _-_, _<_}
-use Rattle.measure.specs.Counts.{acrossOf}
+use Prim.Native.Nat.{_-_, _<_}
 use Rattle.rules.specs.Filling.{width}
 use Rattle.rules.specs.Laws.Filling.{gapCells-length}
 use Rattle.fill.specs.Words.Parts.{part}
