@@ -25,14 +25,14 @@ const SHOWN: usize = 2000;
 const PRIME: u64 = 1000000007;
 
 // The lengths of the blocks, and those of the rooms by turns.
-struct Cut {
+struct CutSizes {
     block: usize,
     room: usize,
     next_room: usize,
 }
 
 // What is seen of the calls so far: the sums are over their answers and over the pages.
-struct Seen {
+struct Observed {
     answer: Answer,
     taken: usize,
     written: usize,
@@ -44,13 +44,13 @@ struct Seen {
 }
 
 // The record after a call, and what is seen then.
-struct Step {
+struct AfterCall {
     record: Record,
-    seen: Seen,
+    seen: Observed,
 }
 
 // The parts of the document and of the pages that a call is lent.
-struct Lent {
+struct Window {
     from: usize,
     end: usize,
     at: usize,
@@ -58,7 +58,7 @@ struct Lent {
 }
 
 // A number, and the place behind its digits.
-struct Digits {
+struct NumberAt {
     value: u64,
     next: usize,
 }
@@ -138,18 +138,18 @@ fn digit(byte: u8) -> u64
 }
 
 // The number at the start of a text. One that is larger than any count here is cut, so that no sum passes its type.
-fn number(s: &[u8]) -> Digits {
+fn number(s: &[u8]) -> NumberAt {
     let mut value: u64 = 0;
     let mut i = 0;
     while i < s.len() {
         let next = digit(s[i]);
         if next > 9 {
-            return Digits { value, next: i };
+            return NumberAt { value, next: i };
         }
         value = (value % 100000000) * 10 + next;
         i += 1;
     }
-    Digits { value, next: i }
+    NumberAt { value, next: i }
 }
 
 // What stands between braces: a byte's number, or a count and a text.
@@ -215,8 +215,8 @@ fn one_if(holds: bool) -> u64 {
     0
 }
 
-fn nothing_seen() -> Seen {
-    Seen {
+fn nothing_seen() -> Observed {
+    Observed {
         answer: Answer::NeedsInput,
         taken: 0,
         written: 0,
@@ -229,13 +229,13 @@ fn nothing_seen() -> Seen {
 }
 
 // What is seen after one more call.
-fn noted(seen: Seen, answer: Answer, taken: usize, written: usize, pages: u64) -> Seen {
+fn noted(seen: Observed, answer: Answer, taken: usize, written: usize, pages: u64) -> Observed {
     let kind = code(answer);
     let answers = mixed(
         mixed(mixed(seen.answers, kind), taken as u64),
         written as u64,
     );
-    Seen {
+    Observed {
         answer,
         taken: std::num::wrapping_add_usize(seen.taken, taken),
         written: std::num::wrapping_add_usize(seen.written, written),
@@ -255,7 +255,7 @@ fn place(written: usize) -> usize {
     0
 }
 
-fn room_of(cut: Cut, calls: u64) -> usize {
+fn room_of(cut: CutSizes, calls: u64) -> usize {
     if calls % 2 == 0 {
         return cut.room;
     }
@@ -269,28 +269,28 @@ fn call(
     block: &[u8],
     last: bool,
     room: &mut [u8],
-    seen: Seen,
-) -> Step {
+    seen: Observed,
+) -> AfterCall {
     let reply = session::call(record, store, block, last, &mut *room);
     let next = reply.next;
     let answer = reply.answer;
     let count = least(reply.written, room.len());
     let pages = sum_of(seen.pages, &room[..count]);
-    Step {
+    AfterCall {
         record: next,
         seen: noted(seen, answer, reply.taken, reply.written, pages),
     }
 }
 
 // Which parts of the document and of the pages the next call is lent.
-fn parts_lent(cut: Cut, seen: Seen, document: usize, pages: usize) -> Lent
+fn parts_lent(cut: CutSizes, seen: Observed, document: usize, pages: usize) -> Window
     ensures { λ r. ⌜ ((r .from ≤ r .end) × (r .end ≤ document)) × ((r .at ≤ r .behind) × (r .behind ≤ pages)) ⌝ }
 {
     let from = least(seen.taken, document);
     let end = from + least(cut.block, document - from);
     let at = least(place(seen.written), pages);
     let behind = at + least(room_of(cut, seen.calls), pages - at);
-    Lent {
+    Window {
         from,
         end,
         at,
@@ -303,10 +303,10 @@ fn cut_call(
     record: Record,
     store: &mut [u8],
     document: &[u8],
-    cut: Cut,
+    cut: CutSizes,
     pages: &mut [u8],
-    seen: Seen,
-) -> Step {
+    seen: Observed,
+) -> AfterCall {
     let lent = parts_lent(cut, seen, document.len(), pages.len());
     let from = lent.from;
     let end = lent.end;
@@ -325,7 +325,7 @@ fn cut_call(
 
 // Calls the session until it is closed, over a store whose first content is no text. A proved loop has to end: it counts its
 // turns down from a number that no run here uses up.
-fn run(document: &[u8], cut: Cut, pages: &mut [u8]) -> Seen {
+fn run(document: &[u8], cut: CutSizes, pages: &mut [u8]) -> Observed {
     let mut store = [255u8; STORE_SIZE];
     let mut record = session::start();
     let mut seen = nothing_seen();
@@ -387,7 +387,7 @@ fn say_pages(pages: &mut [u8]) {
     text(b"\n");
 }
 
-fn say_seen(seen: Seen, pages: &mut [u8]) {
+fn say_seen(seen: Observed, pages: &mut [u8]) {
     let answer = seen.answer;
     say_answer(answer);
     say(b"; taken ", seen.taken as u64);
@@ -416,7 +416,7 @@ fn cut_run(document: &[u8], block: usize, room: usize, next_room: usize, pages: 
     say(b", rooms ", room as u64);
     say(b" ", next_room as u64);
     text(b": ");
-    let cut = Cut {
+    let cut = CutSizes {
         block,
         room,
         next_room,
@@ -428,7 +428,7 @@ fn cut_run(document: &[u8], block: usize, room: usize, next_room: usize, pages: 
 // A room of 0 alone never leads on, so it takes turns with another.
 fn runs(document: &[u8], pages: &mut [u8]) {
     text(b"whole: ");
-    let cut = Cut {
+    let cut = CutSizes {
         block: DOCUMENT,
         room: ROOM,
         next_room: ROOM,

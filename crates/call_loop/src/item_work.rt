@@ -1,5 +1,5 @@
 // A piece of work as a turn of a call.
-use record::Turn;
+use record::TurnOutcome;
 use rules::arrays::ByteColumn;
 use rules::arrays::LengthColumn;
 use rules::arrays::LineBytes;
@@ -13,11 +13,11 @@ ghost use mathlib.Core.Path.{_≡_};
 ghost use lib.ListN.{length};
 ghost use Rattle.rules.specs.Printers.{tenToTheInch};
 ghost use Rattle.rules.specs.Session.{step};
-ghost use Rattle.state.specs.Whole.{Whole, stateIn};
+ghost use Rattle.state.specs.Whole.{WholeState, stateIn};
 ghost use Rattle.state.specs.Statuses.{wholeOf};
 ghost use Rattle.record.specs.declared.Stop.the-variants.{Goes};
 ghost use Rattle.record.specs.View.{sourced};
-ghost use Rattle.record.specs.Turns.{recordOf, placeIn, Whichever, Works, Busy};
+ghost use Rattle.record.specs.Turns.{recordOf, coreIn, Whichever, RecordRefines, WorkReady};
 
 // One piece of work: the item on top of the input stack, or the end.
 pub fn work(
@@ -37,11 +37,11 @@ pub fn work(
     seconds: &mut ByteColumn,
     values: &mut NumberColumn,
     steps: &mut NumberColumn,
-) -> Turn
-    ghost { Whole }
+) -> TurnOutcome
+    ghost { WholeState }
     requires { λ q. ⌜ wholeOf status (now cells) (now arena) (now ends) (now store) (now «text_firsts») (now «text_seconds») (now kinds) (now lengths) (now firsts) (now seconds) (now values) (now steps) ≡ q ⌝ }
-    requires { λ q. ⌜ Busy status source q (now row) ⌝ }
-    ensures { λ q r. ⌜ (Whichever (λ g. Works (step tenToTheInch (stateIn q (sourced source g))) (now (store .entry)) (recordOf (placeIn r) g (now (cells .exit)) (now (row .exit)) (now (arena .exit)) (now (ends .exit)) (now («text_firsts» .exit)) (now («text_seconds» .exit)) (now (kinds .exit)) (now (lengths .exit)) (now (firsts .exit)) (now (seconds .exit)) (now (values .exit)) (now (steps .exit))) (now (store .exit)))) × (r .stop ≡ Goes) × (r .taken ≡ taken) ⌝ }
+    requires { λ q. ⌜ WorkReady status source q (now row) ⌝ }
+    ensures { λ q r. ⌜ (Whichever (λ g. RecordRefines (step tenToTheInch (stateIn q (sourced source g))) (now (store .entry)) (recordOf (coreIn r) g (now (cells .exit)) (now (row .exit)) (now (arena .exit)) (now (ends .exit)) (now («text_firsts» .exit)) (now («text_seconds» .exit)) (now (kinds .exit)) (now (lengths .exit)) (now (firsts .exit)) (now (seconds .exit)) (now (values .exit)) (now (steps .exit))) (now (store .exit)))) × (r .stop ≡ Goes) × (r .taken ≡ taken) ⌝ }
 {
     let worked = formatter::work(
         source.stored,

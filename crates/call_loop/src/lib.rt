@@ -3,10 +3,10 @@ pub mod item_work;
 pub mod source_input;
 
 use record::Closing;
-use record::Place;
 use record::Ran;
+use record::RecordCore;
 use record::Stop;
-use record::Turn;
+use record::TurnOutcome;
 use record::Waiting;
 use rules::arrays::ByteColumn;
 use rules::arrays::LengthColumn;
@@ -19,8 +19,8 @@ use source_line::Source;
 use state::Status;
 use stream::Answer;
 ghost use Prim.Native.Nat.{_<_};
-ghost use Rattle.record.specs.View.{Legal};
-ghost use Rattle.record.specs.Turns.{recordOf, resting, placeOf, placeIn, Turns, Turned, Runs, replyFrom};
+ghost use Rattle.record.specs.View.{ValidRecord};
+ghost use Rattle.record.specs.Turns.{recordOf, resting, coreOf, coreIn, TurnReady, TurnContract, RunContract, replyFrom};
 ghost use Rattle.record.specs.declared.Record.{Record};
 ghost use mathlib.Core.Path.{_≡_};
 
@@ -45,11 +45,11 @@ fn take_turn(
     seconds: &mut ByteColumn,
     values: &mut NumberColumn,
     steps: &mut NumberColumn,
-) -> Turn
+) -> TurnOutcome
     ghost { Record }
     requires { λ q. ⌜ recordOf (resting status source) (now gathered) (now cells) (now row) (now arena) (now ends) (now «text_firsts») (now «text_seconds») (now kinds) (now lengths) (now firsts) (now seconds) (now values) (now steps) ≡ q ⌝ }
-    requires { λ q. ⌜ Turns (now block) q (now store) taken ⌝ }
-    ensures { λ q r. ⌜ Turned (r .stop) (now (block .entry)) last q (now (store .entry)) taken (recordOf (placeIn r) (now (gathered .exit)) (now (cells .exit)) (now (row .exit)) (now (arena .exit)) (now (ends .exit)) (now («text_firsts» .exit)) (now («text_seconds» .exit)) (now (kinds .exit)) (now (lengths .exit)) (now (firsts .exit)) (now (seconds .exit)) (now (values .exit)) (now (steps .exit))) (now (store .exit)) (r .taken) ⌝ }
+    requires { λ q. ⌜ TurnReady (now block) q (now store) taken ⌝ }
+    ensures { λ q r. ⌜ TurnContract (r .stop) (now (block .entry)) last q (now (store .entry)) taken (recordOf (coreIn r) (now (gathered .exit)) (now (cells .exit)) (now (row .exit)) (now (arena .exit)) (now (ends .exit)) (now («text_firsts» .exit)) (now («text_seconds» .exit)) (now (kinds .exit)) (now (lengths .exit)) (now (firsts .exit)) (now (seconds .exit)) (now (values .exit)) (now (steps .exit))) (now (store .exit)) (r .taken) ⌝ }
 {
     if record::has_work(status.stack.depth, source.ended) {
         return item_work::work(
@@ -114,7 +114,7 @@ fn take_turn(
             steps,
         );
     }
-    Turn {
+    TurnOutcome {
         stop: Stop::With(Answer::NeedsInput),
         status,
         source,
@@ -134,11 +134,11 @@ fn ran(
     taken: usize,
     written: usize,
 ) -> Ran
-    ensures { λ r. ⌜ (r .answer ≡ answer) × (r .place ≡ placeOf status source waiting closing) × (r .taken ≡ taken) × (r .written ≡ written) ⌝ }
+    ensures { λ r. ⌜ (r .answer ≡ answer) × (r .place ≡ coreOf status source waiting closing) × (r .taken ≡ taken) × (r .written ≡ written) ⌝ }
 {
     Ran {
         answer,
-        place: Place {
+        place: RecordCore {
             status,
             source,
             waiting,
@@ -153,7 +153,7 @@ fn ran(
 pub fn run(
     block: &[u8],
     last: bool,
-    start: Place,
+    start: RecordCore,
     out: &mut [u8],
     gathered: &mut LineBytes,
     cells: &mut LineBytes,
@@ -172,8 +172,8 @@ pub fn run(
 ) -> Ran
     ghost { Record }
     requires { λ q. ⌜ recordOf start (now gathered) (now cells) (now row) (now arena) (now ends) (now «text_firsts») (now «text_seconds») (now kinds) (now lengths) (now firsts) (now seconds) (now values) (now steps) ≡ q ⌝ }
-    requires { λ q. ⌜ Legal q (now store) ⌝ }
-    ensures { λ q r. ⌜ Runs q (now (store .entry)) (now (block .entry)) last (now (out .entry)) (replyFrom r (recordOf (r .place) (now (gathered .exit)) (now (cells .exit)) (now (row .exit)) (now (arena .exit)) (now (ends .exit)) (now («text_firsts» .exit)) (now («text_seconds» .exit)) (now (kinds .exit)) (now (lengths .exit)) (now (firsts .exit)) (now (seconds .exit)) (now (values .exit)) (now (steps .exit)))) (now (store .exit)) (now (out .exit)) ⌝ }
+    requires { λ q. ⌜ ValidRecord q (now store) ⌝ }
+    ensures { λ q r. ⌜ RunContract q (now (store .entry)) (now (block .entry)) last (now (out .entry)) (replyFrom r (recordOf (r .place) (now (gathered .exit)) (now (cells .exit)) (now (row .exit)) (now (arena .exit)) (now (ends .exit)) (now («text_firsts» .exit)) (now («text_seconds» .exit)) (now (kinds .exit)) (now (lengths .exit)) (now (firsts .exit)) (now (seconds .exit)) (now (values .exit)) (now (steps .exit)))) (now (store .exit)) (now (out .exit)) ⌝ }
 {
     let mut status = start.status;
     let mut source = start.source;

@@ -1,6 +1,6 @@
 // A line of the source is gathered and dealt with.
 use page::springs::Way;
-use record::Turn;
+use record::TurnOutcome;
 use rules::arrays::ByteColumn;
 use rules::arrays::LengthColumn;
 use rules::arrays::LineBytes;
@@ -18,9 +18,9 @@ ghost use Rattle.rules.specs.Session.{step, readEnd};
 ghost use Rattle.state.specs.Statuses.{wholeOf};
 ghost use Rattle.record.specs.declared.Stop.the-variants.{Goes};
 ghost use Rattle.record.specs.View.{stateOf};
-ghost use Rattle.record.specs.Turns.{recordOf, resting, placeIn, Whichever, Deals, LineDealt, Asking, Arrives, TakenTo};
+ghost use Rattle.record.specs.Turns.{recordOf, resting, coreIn, Whichever, DealReady, LineRefines, InputReady, Arrives, InputRefines};
 ghost use Rattle.record.specs.declared.Record.{Record};
-ghost use Rattle.state.specs.Whole.{Whole};
+ghost use Rattle.state.specs.Whole.{WholeState};
 
 // A source line is dealt with.
 fn deal_line(
@@ -41,11 +41,11 @@ fn deal_line(
     seconds: &mut ByteColumn,
     values: &mut NumberColumn,
     steps: &mut NumberColumn,
-) -> Turn
-    ghost { Whole }
+) -> TurnOutcome
+    ghost { WholeState }
     requires { λ q. ⌜ wholeOf status (now cells) (now arena) (now ends) (now store) (now «text_firsts») (now «text_seconds») (now kinds) (now lengths) (now firsts) (now seconds) (now values) (now steps) ≡ q ⌝ }
-    requires { λ q. ⌜ Deals q source (now line) (now row) ⌝ }
-    ensures { λ q r. ⌜ (Whichever (λ g. LineDealt (now (line .entry)) q source g (recordOf (placeIn r) g (now (cells .exit)) (now (row .exit)) (now (arena .exit)) (now (ends .exit)) (now («text_firsts» .exit)) (now («text_seconds» .exit)) (now (kinds .exit)) (now (lengths .exit)) (now (firsts .exit)) (now (seconds .exit)) (now (values .exit)) (now (steps .exit))) (now (store .exit)))) × (r .stop ≡ Goes) × (r .taken ≡ taken) ⌝ }
+    requires { λ q. ⌜ DealReady q source (now line) (now row) ⌝ }
+    ensures { λ q r. ⌜ (Whichever (λ g. LineRefines (now (line .entry)) q source g (recordOf (coreIn r) g (now (cells .exit)) (now (row .exit)) (now (arena .exit)) (now (ends .exit)) (now («text_firsts» .exit)) (now («text_seconds» .exit)) (now (kinds .exit)) (now (lengths .exit)) (now (firsts .exit)) (now (seconds .exit)) (now (values .exit)) (now (steps .exit))) (now (store .exit)))) × (r .stop ≡ Goes) × (r .taken ≡ taken) ⌝ }
 {
     let step = formatter::deal(
         line,
@@ -89,11 +89,11 @@ pub fn read_end(
     seconds: &mut ByteColumn,
     values: &mut NumberColumn,
     steps: &mut NumberColumn,
-) -> Turn
+) -> TurnOutcome
     ghost { Record }
     requires { λ q. ⌜ recordOf (resting status source) (now gathered) (now cells) (now row) (now arena) (now ends) (now «text_firsts») (now «text_seconds») (now kinds) (now lengths) (now firsts) (now seconds) (now values) (now steps) ≡ q ⌝ }
-    requires { λ q. ⌜ Asking q (now store) ⌝ }
-    ensures { λ q r. ⌜ (Arrives (readEnd (stateOf q (now (store .entry)))) (now (store .entry)) (recordOf (placeIn r) (now (gathered .entry)) (now (cells .exit)) (now (row .exit)) (now (arena .exit)) (now (ends .exit)) (now («text_firsts» .exit)) (now («text_seconds» .exit)) (now (kinds .exit)) (now (lengths .exit)) (now (firsts .exit)) (now (seconds .exit)) (now (values .exit)) (now (steps .exit))) (now (store .exit))) × (r .stop ≡ Goes) × (r .taken ≡ taken) ⌝ }
+    requires { λ q. ⌜ InputReady q (now store) ⌝ }
+    ensures { λ q r. ⌜ (Arrives (readEnd (stateOf q (now (store .entry)))) (now (store .entry)) (recordOf (coreIn r) (now (gathered .entry)) (now (cells .exit)) (now (row .exit)) (now (arena .exit)) (now (ends .exit)) (now («text_firsts» .exit)) (now («text_seconds» .exit)) (now (kinds .exit)) (now (lengths .exit)) (now (firsts .exit)) (now (seconds .exit)) (now (values .exit)) (now (steps .exit))) (now (store .exit))) × (r .stop ≡ Goes) × (r .taken ≡ taken) ⌝ }
 {
     let after = record::emptied(source, true);
     if source.length == 0 {
@@ -140,11 +140,11 @@ pub fn take_line(
     seconds: &mut ByteColumn,
     values: &mut NumberColumn,
     steps: &mut NumberColumn,
-) -> Turn
+) -> TurnOutcome
     ghost { Record }
     requires { λ q. ⌜ recordOf (resting status source) (now gathered) (now cells) (now row) (now arena) (now ends) (now «text_firsts») (now «text_seconds») (now kinds) (now lengths) (now firsts) (now seconds) (now values) (now steps) ≡ q ⌝ }
-    requires { λ q. ⌜ Asking q (now store) × (taken < length (now block)) ⌝ }
-    ensures { λ q r. ⌜ (TakenTo (now (block .entry)) q (now (store .entry)) taken (recordOf (placeIn r) (now (gathered .exit)) (now (cells .exit)) (now (row .exit)) (now (arena .exit)) (now (ends .exit)) (now («text_firsts» .exit)) (now («text_seconds» .exit)) (now (kinds .exit)) (now (lengths .exit)) (now (firsts .exit)) (now (seconds .exit)) (now (values .exit)) (now (steps .exit))) (now (store .exit)) (r .taken)) × (r .stop ≡ Goes) ⌝ }
+    requires { λ q. ⌜ InputReady q (now store) × (taken < length (now block)) ⌝ }
+    ensures { λ q r. ⌜ (InputRefines (now (block .entry)) q (now (store .entry)) taken (recordOf (coreIn r) (now (gathered .exit)) (now (cells .exit)) (now (row .exit)) (now (arena .exit)) (now (ends .exit)) (now («text_firsts» .exit)) (now («text_seconds» .exit)) (now (kinds .exit)) (now (lengths .exit)) (now (firsts .exit)) (now (seconds .exit)) (now (values .exit)) (now (steps .exit))) (now (store .exit)) (r .taken)) × (r .stop ≡ Goes) ⌝ }
 {
     let got = source_line::gather(block, taken, gathered, source);
     let after = got.source;

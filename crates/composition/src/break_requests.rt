@@ -1,11 +1,11 @@
 // What a breaking request does: it starts the first page, or breaks, or acts.
 use super::page_rows::Collected;
-use super::page_rows::Outcome;
+use super::page_rows::PageOutcome;
 use super::page_rows::settle;
 use super::page_rows::stay;
 use input_stack::frames::What;
 use input_stack::stack::Stack;
-use number::scales::Down;
+use number::scales::MaybeRows;
 use page::position::Page;
 use page::springs::Held;
 use page::springs::Way;
@@ -25,9 +25,9 @@ ghost use mathlib.Core.Bool.{_&&_};
 ghost use mathlib.Core.List.{[]};
 ghost use lib.ListN.{length};
 ghost use Rattle.rules.specs.Acts as rule;
-ghost use Rattle.settings.specs.Layout.Layouts.{printerOf, SoundPrinter};
-ghost use Rattle.composition.specs.PageRows.Desk.{Desk, desk, Begins, Worked};
-ghost use Rattle.composition.specs.BreakRequests.Acting.{spaces, actBy};
+ghost use Rattle.settings.specs.Layout.Layouts.{printerOf, PrinterInvariant};
+ghost use Rattle.composition.specs.PageRows.PageState.{PageState, pageState, PageReady, PageRefines};
+ghost use Rattle.composition.specs.BreakRequests.Acting.{spaceBy, actBy};
 ghost use Rattle.composition.specs.BreakRequests.Obeying.{heldLine, heldRequest, startsFirst, obeyed};
 
 // sp, with its argument.
@@ -46,14 +46,14 @@ fn space(
     firsts: &ByteColumn,
     seconds: &ByteColumn,
     texts: usize,
-) -> Outcome
-    ghost { Desk }
-    requires { λ q. ⌜ desk layout page collected (now cells) stack (now arena) (now ends) ≡ q ⌝ }
-    requires { λ q. ⌜ Begins planted q [] (now row) (now firsts) (now seconds) texts × SoundPrinter printer ⌝ }
-    ensures { λ q r. ⌜ Worked (λ ts s. spaces (printerOf printer) (now (argument .entry)) s) (now (firsts .entry)) (now (seconds .entry)) texts planted q (r .way) (r .written) (desk (r .layout) (r .page) (r .collected) (now (cells .entry)) (r .stack) (now (arena .exit)) (now (ends .exit))) (now (row .exit)) ⌝ }
+) -> PageOutcome
+    ghost { PageState }
+    requires { λ q. ⌜ pageState layout page collected (now cells) stack (now arena) (now ends) ≡ q ⌝ }
+    requires { λ q. ⌜ PageReady planted q [] (now row) (now firsts) (now seconds) texts × PrinterInvariant printer ⌝ }
+    ensures { λ q r. ⌜ PageRefines (λ ts s. spaceBy (printerOf printer) (now (argument .entry)) s) (now (firsts .entry)) (now (seconds .entry)) texts planted q (r .way) (r .written) (pageState (r .layout) (r .page) (r .collected) (now (cells .entry)) (r .stack) (now (arena .exit)) (now (ends .exit))) (now (row .exit)) ⌝ }
 {
     match settings::layout::spacing(argument, printer) {
-        Down::Are(count) => super::page_rows::skip(
+        MaybeRows::Are(count) => super::page_rows::skip(
             count,
             layout,
             page,
@@ -68,7 +68,7 @@ fn space(
             seconds,
             texts,
         ),
-        Down::Bad => stay(Way::Refused(6), layout, page, collected, stack),
+        MaybeRows::Bad => stay(Way::Refused(6), layout, page, collected, stack),
     }
 }
 
@@ -89,11 +89,11 @@ fn act_on(
     firsts: &ByteColumn,
     seconds: &ByteColumn,
     texts: usize,
-) -> Outcome
-    ghost { Desk }
-    requires { λ q. ⌜ desk layout page collected (now cells) stack (now arena) (now ends) ≡ q ⌝ }
-    requires { λ q. ⌜ Begins planted q [] (now row) (now firsts) (now seconds) texts × SoundPrinter printer ⌝ }
-    ensures { λ q r. ⌜ Worked (λ ts s. actBy (printerOf printer) request (now (argument .entry)) s) (now (firsts .entry)) (now (seconds .entry)) texts planted q (r .way) (r .written) (desk (r .layout) (r .page) (r .collected) (now (cells .entry)) (r .stack) (now (arena .exit)) (now (ends .exit))) (now (row .exit)) ⌝ }
+) -> PageOutcome
+    ghost { PageState }
+    requires { λ q. ⌜ pageState layout page collected (now cells) stack (now arena) (now ends) ≡ q ⌝ }
+    requires { λ q. ⌜ PageReady planted q [] (now row) (now firsts) (now seconds) texts × PrinterInvariant printer ⌝ }
+    ensures { λ q r. ⌜ PageRefines (λ ts s. actBy (printerOf printer) request (now (argument .entry)) s) (now (firsts .entry)) (now (seconds .entry)) texts planted q (r .way) (r .written) (pageState (r .layout) (r .page) (r .collected) (now (cells .entry)) (r .stack) (now (arena .exit)) (now (ends .exit))) (now (row .exit)) ⌝ }
 {
     match request {
         Breaking::Br => stay(Way::On, layout, page, collected, stack),
@@ -153,11 +153,11 @@ pub fn act(
     firsts: &ByteColumn,
     seconds: &ByteColumn,
     texts: usize,
-) -> Outcome
-    ghost { Desk }
-    requires { λ q. ⌜ desk layout page collected (now cells) stack (now arena) (now ends) ≡ q ⌝ }
-    requires { λ q. ⌜ Begins planted q (now line) (now row) (now firsts) (now seconds) texts × SoundPrinter printer × (length (now parts) ≡ 512) ⌝ }
-    ensures { λ q r. ⌜ Worked (λ ts s. rule.act (printerOf printer) request (now (line .entry)) s) (now (firsts .entry)) (now (seconds .entry)) texts planted q (r .way) (r .written) (desk (r .layout) (r .page) (r .collected) (now (cells .entry)) (r .stack) (now (arena .exit)) (now (ends .exit))) (now (row .exit)) ⌝ }
+) -> PageOutcome
+    ghost { PageState }
+    requires { λ q. ⌜ pageState layout page collected (now cells) stack (now arena) (now ends) ≡ q ⌝ }
+    requires { λ q. ⌜ PageReady planted q (now line) (now row) (now firsts) (now seconds) texts × PrinterInvariant printer × (length (now parts) ≡ 512) ⌝ }
+    ensures { λ q r. ⌜ PageRefines (λ ts s. rule.act (printerOf printer) request (now (line .entry)) s) (now (firsts .entry)) (now (seconds .entry)) texts planted q (r .way) (r .written) (pageState (r .layout) (r .page) (r .collected) (now (cells .entry)) (r .stack) (now (arena .exit)) (now (ends .exit))) (now (row .exit)) ⌝ }
 {
     let mut places = [0u16; ARGUMENT_COUNT];
     let count = scan::arguments::arguments(line, 0, &mut *parts, &mut places);
@@ -241,11 +241,11 @@ pub fn obey(
     firsts: &ByteColumn,
     seconds: &ByteColumn,
     texts: usize,
-) -> Outcome
-    ghost { Desk }
-    requires { λ q. ⌜ desk layout page collected (now cells) stack (now arena) (now ends) ≡ q ⌝ }
-    requires { λ q. ⌜ Begins planted q (now line) (now row) (now firsts) (now seconds) texts × SoundPrinter printer × (length (now parts) ≡ 512) ⌝ }
-    ensures { λ q r. ⌜ Worked (λ ts s. obeyed (printerOf printer) period request name (now (line .entry)) s) (now (firsts .entry)) (now (seconds .entry)) texts planted q (r .way) (r .written) (desk (r .layout) (r .page) (r .collected) (now (cells .entry)) (r .stack) (now (arena .exit)) (now (ends .exit))) (now (row .exit)) ⌝ }
+) -> PageOutcome
+    ghost { PageState }
+    requires { λ q. ⌜ pageState layout page collected (now cells) stack (now arena) (now ends) ≡ q ⌝ }
+    requires { λ q. ⌜ PageReady planted q (now line) (now row) (now firsts) (now seconds) texts × PrinterInvariant printer × (length (now parts) ≡ 512) ⌝ }
+    ensures { λ q r. ⌜ PageRefines (λ ts s. obeyed (printerOf printer) period request name (now (line .entry)) s) (now (firsts .entry)) (now (seconds .entry)) texts planted q (r .way) (r .written) (pageState (r .layout) (r .page) (r .collected) (now (cells .entry)) (r .stack) (now (arena .exit)) (now (ends .exit))) (now (row .exit)) ⌝ }
 {
     if starts_first(page.number, period, request) {
         return super::page_rows::start(

@@ -1,6 +1,6 @@
 // bp and the end: rows up to the end of a page.
 use super::page_rows::Collected;
-use super::page_rows::Outcome;
+use super::page_rows::PageOutcome;
 use input_stack::frames::What;
 use input_stack::stack::Stack;
 use measure::Rows;
@@ -21,7 +21,7 @@ ghost use Prim.Native.Nat.{_+_, _≤_, _<_};
 ghost use lib.Dec.{ltb};
 ghost use Rattle.measure.specs.Counts.{downOf};
 ghost use Rattle.rules.specs.Rows as rule;
-ghost use Rattle.composition.specs.PageRows.Desk.{Desk, desk, leftIf, Begins, Worked};
+ghost use Rattle.composition.specs.PageRows.PageState.{PageState, pageState, leftIf, PageReady, PageRefines};
 
 // What is left of a bp after blank rows, if they end within the page.
 fn left_of(from: u32, page: Page, rows: Rows, length: Rows) -> Held
@@ -50,11 +50,11 @@ pub fn eject(
     firsts: &ByteColumn,
     seconds: &ByteColumn,
     texts: usize,
-) -> Outcome
-    ghost { Desk }
-    requires { λ q. ⌜ desk layout page collected (now cells) stack (now arena) (now ends) ≡ q ⌝ }
-    requires { λ q. ⌜ Begins planted q [] (now row) (now firsts) (now seconds) texts ⌝ }
-    ensures { λ q r. ⌜ Worked (λ ts s. rule.eject from s) (now (firsts .entry)) (now (seconds .entry)) texts planted q (r .way) (r .written) (desk (r .layout) (r .page) (r .collected) (now (cells .entry)) (r .stack) (now (arena .exit)) (now (ends .exit))) (now (row .exit)) ⌝ }
+) -> PageOutcome
+    ghost { PageState }
+    requires { λ q. ⌜ pageState layout page collected (now cells) stack (now arena) (now ends) ≡ q ⌝ }
+    requires { λ q. ⌜ PageReady planted q [] (now row) (now firsts) (now seconds) texts ⌝ }
+    ensures { λ q r. ⌜ PageRefines (λ ts s. rule.eject from s) (now (firsts .entry)) (now (seconds .entry)) texts planted q (r .way) (r .written) (pageState (r .layout) (r .page) (r .collected) (now (cells .entry)) (r .stack) (now (arena .exit)) (now (ends .exit))) (now (row .exit)) ⌝ }
 {
     if from != page.number {
         return super::page_rows::lead_to(
@@ -104,11 +104,11 @@ pub fn eject_last(
     firsts: &ByteColumn,
     seconds: &ByteColumn,
     texts: usize,
-) -> Outcome
-    ghost { Desk }
-    requires { λ q. ⌜ desk layout page collected (now cells) stack (now arena) (now ends) ≡ q ⌝ }
-    requires { λ q. ⌜ Begins planted q [] (now row) (now firsts) (now seconds) texts ⌝ }
-    ensures { λ q r. ⌜ Worked (λ ts s. rule.ejectLast s) (now (firsts .entry)) (now (seconds .entry)) texts planted q (r .way) (r .written) (desk (r .layout) (r .page) (r .collected) (now (cells .entry)) (r .stack) (now (arena .exit)) (now (ends .exit))) (now (row .exit)) ⌝ }
+) -> PageOutcome
+    ghost { PageState }
+    requires { λ q. ⌜ pageState layout page collected (now cells) stack (now arena) (now ends) ≡ q ⌝ }
+    requires { λ q. ⌜ PageReady planted q [] (now row) (now firsts) (now seconds) texts ⌝ }
+    ensures { λ q r. ⌜ PageRefines (λ ts s. rule.ejectLast s) (now (firsts .entry)) (now (seconds .entry)) texts planted q (r .way) (r .written) (pageState (r .layout) (r .page) (r .collected) (now (cells .entry)) (r .stack) (now (arena .exit)) (now (ends .exit))) (now (row .exit)) ⌝ }
 {
     let length = layout.page;
     let below = page::position::rows_below(page, length, planted);
@@ -145,11 +145,11 @@ pub fn begin_end(
     firsts: &ByteColumn,
     seconds: &ByteColumn,
     texts: usize,
-) -> Outcome
-    ghost { Desk }
-    requires { λ q. ⌜ desk layout page collected (now cells) stack (now arena) (now ends) ≡ q ⌝ }
-    requires { λ q. ⌜ Begins planted q [] (now row) (now firsts) (now seconds) texts ⌝ }
-    ensures { λ q r. ⌜ Worked (λ ts s. rule.beginEnd s) (now (firsts .entry)) (now (seconds .entry)) texts planted q (r .way) (r .written) (desk (r .layout) (r .page) (r .collected) (now (cells .entry)) (r .stack) (now (arena .exit)) (now (ends .exit))) (now (row .exit)) ⌝ }
+) -> PageOutcome
+    ghost { PageState }
+    requires { λ q. ⌜ pageState layout page collected (now cells) stack (now arena) (now ends) ≡ q ⌝ }
+    requires { λ q. ⌜ PageReady planted q [] (now row) (now firsts) (now seconds) texts ⌝ }
+    ensures { λ q r. ⌜ PageRefines (λ ts s. rule.beginEnd s) (now (firsts .entry)) (now (seconds .entry)) texts planted q (r .way) (r .written) (pageState (r .layout) (r .page) (r .collected) (now (cells .entry)) (r .stack) (now (arena .exit)) (now (ends .exit))) (now (row .exit)) ⌝ }
 {
     let used = page.used;
     let last = Page {

@@ -1,10 +1,10 @@
 // The words of a text line are placed one by one; a word that does not fit writes the line.
 use super::page_rows::Collected;
-use super::page_rows::Outcome;
+use super::page_rows::PageOutcome;
 use super::page_rows::stay;
 use fill::collected::Overflow;
 use fill::collected::Placed;
-use fill::words::Next;
+use fill::words::NextWord;
 use fill::words::WordAt;
 use input_stack::frames::What;
 use input_stack::stack::Stack;
@@ -29,16 +29,16 @@ ghost use Rattle.measure.specs.Counts.{acrossOf};
 ghost use Rattle.rules.specs.Filling.{words};
 ghost use Rattle.rules.specs.TextLines as rule;
 ghost use Rattle.rules.specs.TextLines.{fills};
-ghost use Rattle.fill.specs.Words.Parts.{part, Places};
+ghost use Rattle.fill.specs.Words.Parts.{bytesBetween, Places};
 ghost use Rattle.fill.specs.Collected.Filled.{placedOf};
 ghost use Rattle.fill.specs.declared.collected.Placed.the-variants.{Full};
-ghost use Rattle.composition.specs.PageRows.Desk.{Desk, desk, Begins, Worked};
-ghost use Rattle.composition.specs.Filling.Words.{othersHeld, gapBehind, collectedTo, leadingWord, Overflows, Filled, Starts, Follows};
+ghost use Rattle.composition.specs.PageRows.PageState.{PageState, pageState, PageReady, PageRefines};
+ghost use Rattle.composition.specs.Filling.Words.{othersHeld, gapBehind, collectedTo, leadingWord, Overflows, WordsFilled, WordStarts, Follows};
 
 // "then the other words": they are held where some are left.
 fn others_held(line: &LineBytes, at: usize, to: usize, gap: u8) -> Held
     requires { ⌜ Places (now line) at to ⌝ }
-    ensures { λ r. ⌜ r ≡ othersHeld (words (part (now (line .entry)) at to)) gap ⌝ }
+    ensures { λ r. ⌜ r ≡ othersHeld (words (bytesBetween (now (line .entry)) at to)) gap ⌝ }
 {
     if fill::words::is_blank(line, at, to) {
         return Held::Nothing;
@@ -49,7 +49,7 @@ fn others_held(line: &LineBytes, at: usize, to: usize, gap: u8) -> Held
 // The gap to what a trap's macro puts next: the line has ended only if no words are left.
 fn gap_behind(line: &LineBytes, at: usize, to: usize, gap: u8) -> usize
     requires { ⌜ Places (now line) at to ⌝ }
-    ensures { λ r. ⌜ r ≡ gapBehind (words (part (now (line .entry)) at to)) gap ⌝ }
+    ensures { λ r. ⌜ r ≡ gapBehind (words (bytesBetween (now (line .entry)) at to)) gap ⌝ }
 {
     if fill::words::is_blank(line, at, to) {
         return gap as usize;
@@ -65,7 +65,7 @@ fn collect(
     page: Page,
     collected: Collected,
     stack: Stack,
-) -> Outcome
+) -> PageOutcome
     ensures { λ r. ⌜ r ≡ collectedTo length gap layout page collected stack ⌝ }
 {
     let indent = collected.indent;
@@ -78,7 +78,7 @@ fn collect(
         length,
         next,
     };
-    Outcome {
+    PageOutcome {
         way: Way::On,
         layout,
         page,
@@ -106,11 +106,11 @@ fn overflow(
     firsts: &ByteColumn,
     seconds: &ByteColumn,
     texts: usize,
-) -> Outcome
-    ghost { Desk }
-    requires { λ q. ⌜ desk layout page collected (now cells) stack (now arena) (now ends) ≡ q ⌝ }
-    requires { λ q. ⌜ Begins planted q (now line) (now row) (now firsts) (now seconds) texts × Overflows (now line) to (now cells) (acrossOf (collected .room)) gap o ⌝ }
-    ensures { λ q r. ⌜ Worked (λ ts s. rule.filled (placedOf (acrossOf (collected .indent)) (acrossOf (collected .room)) (now (cells .entry)) (collected .next) (now (line .entry)) to (Full o)) gap s) (now (firsts .entry)) (now (seconds .entry)) texts planted q (r .way) (r .written) (desk (r .layout) (r .page) (r .collected) (now (cells .exit)) (r .stack) (now (arena .exit)) (now (ends .exit))) (now (row .exit)) ⌝ }
+) -> PageOutcome
+    ghost { PageState }
+    requires { λ q. ⌜ pageState layout page collected (now cells) stack (now arena) (now ends) ≡ q ⌝ }
+    requires { λ q. ⌜ PageReady planted q (now line) (now row) (now firsts) (now seconds) texts × Overflows (now line) to (now cells) (acrossOf (collected .room)) gap o ⌝ }
+    ensures { λ q r. ⌜ PageRefines (λ ts s. rule.filled (placedOf (acrossOf (collected .indent)) (acrossOf (collected .room)) (now (cells .entry)) (collected .next) (now (line .entry)) to (Full o)) gap s) (now (firsts .entry)) (now (seconds .entry)) texts planted q (r .way) (r .written) (pageState (r .layout) (r .page) (r .collected) (now (cells .exit)) (r .stack) (now (arena .exit)) (now (ends .exit))) (now (row .exit)) ⌝ }
 {
     let margin = layout.offset;
     let offset = margin.now;
@@ -174,11 +174,11 @@ fn fill_placed(
     firsts: &ByteColumn,
     seconds: &ByteColumn,
     texts: usize,
-) -> Outcome
-    ghost { Desk }
-    requires { λ q. ⌜ desk layout page collected (now cells) stack (now arena) (now ends) ≡ q ⌝ }
-    requires { λ q. ⌜ Begins planted q (now line) (now row) (now firsts) (now seconds) texts × Filled (now line) to (now cells) (acrossOf (collected .room)) gap placed ⌝ }
-    ensures { λ q r. ⌜ Worked (λ ts s. rule.filled (placedOf (acrossOf (collected .indent)) (acrossOf (collected .room)) (now (cells .entry)) (collected .next) (now (line .entry)) to placed) gap s) (now (firsts .entry)) (now (seconds .entry)) texts planted q (r .way) (r .written) (desk (r .layout) (r .page) (r .collected) (now (cells .exit)) (r .stack) (now (arena .exit)) (now (ends .exit))) (now (row .exit)) ⌝ }
+) -> PageOutcome
+    ghost { PageState }
+    requires { λ q. ⌜ pageState layout page collected (now cells) stack (now arena) (now ends) ≡ q ⌝ }
+    requires { λ q. ⌜ PageReady planted q (now line) (now row) (now firsts) (now seconds) texts × WordsFilled (now line) to (now cells) (acrossOf (collected .room)) gap placed ⌝ }
+    ensures { λ q r. ⌜ PageRefines (λ ts s. rule.filled (placedOf (acrossOf (collected .indent)) (acrossOf (collected .room)) (now (cells .entry)) (collected .next) (now (line .entry)) to placed) gap s) (now (firsts .entry)) (now (seconds .entry)) texts planted q (r .way) (r .written) (pageState (r .layout) (r .page) (r .collected) (now (cells .exit)) (r .stack) (now (arena .exit)) (now (ends .exit))) (now (row .exit)) ⌝ }
 {
     match placed {
         Placed::All(length) => collect(length, gap, layout, page, collected, stack),
@@ -222,11 +222,11 @@ fn fill_new(
     firsts: &ByteColumn,
     seconds: &ByteColumn,
     texts: usize,
-) -> Outcome
-    ghost { Desk }
-    requires { λ q. ⌜ desk layout page collected (now cells) stack (now arena) (now ends) ≡ q ⌝ }
-    requires { λ q. ⌜ Begins planted q (now line) (now row) (now firsts) (now seconds) texts × Starts (now line) to (acrossOf lead) gap found × (collected .there ≡ false) ⌝ }
-    ensures { λ q r. ⌜ Worked (λ ts s. rule.fill (leadingWord (acrossOf lead) (part (now (line .entry)) (found .from) (found .to)) ∷ words (part (now (line .entry)) (found .to) to)) gap s) (now (firsts .entry)) (now (seconds .entry)) texts planted q (r .way) (r .written) (desk (r .layout) (r .page) (r .collected) (now (cells .exit)) (r .stack) (now (arena .exit)) (now (ends .exit))) (now (row .exit)) ⌝ }
+) -> PageOutcome
+    ghost { PageState }
+    requires { λ q. ⌜ pageState layout page collected (now cells) stack (now arena) (now ends) ≡ q ⌝ }
+    requires { λ q. ⌜ PageReady planted q (now line) (now row) (now firsts) (now seconds) texts × WordStarts (now line) to (acrossOf lead) gap found × (collected .there ≡ false) ⌝ }
+    ensures { λ q r. ⌜ PageRefines (λ ts s. rule.fill (leadingWord (acrossOf lead) (bytesBetween (now (line .entry)) (found .from) (found .to)) ∷ words (bytesBetween (now (line .entry)) (found .to) to)) gap s) (now (firsts .entry)) (now (seconds .entry)) texts planted q (r .way) (r .written) (pageState (r .layout) (r .page) (r .collected) (now (cells .exit)) (r .stack) (now (arena .exit)) (now (ends .exit))) (now (row .exit)) ⌝ }
 {
     let at = found.to;
     let indent = settings::layout::indent_now(layout);
@@ -278,13 +278,13 @@ pub fn fill_rest(
     firsts: &ByteColumn,
     seconds: &ByteColumn,
     texts: usize,
-) -> Outcome
-    ghost { Desk }
-    requires { λ q. ⌜ desk layout page collected (now cells) stack (now arena) (now ends) ≡ q ⌝ }
-    requires { λ q. ⌜ Begins planted q (now line) (now row) (now firsts) (now seconds) texts × Places (now line) 0 to × (gap ≤ 2) ⌝ }
-    ensures { λ q r. ⌜ Worked (λ ts s. rule.fill (words (part (now (line .entry)) 0 to)) gap s) (now (firsts .entry)) (now (seconds .entry)) texts planted q (r .way) (r .written) (desk (r .layout) (r .page) (r .collected) (now (cells .exit)) (r .stack) (now (arena .exit)) (now (ends .exit))) (now (row .exit)) ⌝ }
+) -> PageOutcome
+    ghost { PageState }
+    requires { λ q. ⌜ pageState layout page collected (now cells) stack (now arena) (now ends) ≡ q ⌝ }
+    requires { λ q. ⌜ PageReady planted q (now line) (now row) (now firsts) (now seconds) texts × Places (now line) 0 to × (gap ≤ 2) ⌝ }
+    ensures { λ q r. ⌜ PageRefines (λ ts s. rule.fill (words (bytesBetween (now (line .entry)) 0 to)) gap s) (now (firsts .entry)) (now (seconds .entry)) texts planted q (r .way) (r .written) (pageState (r .layout) (r .page) (r .collected) (now (cells .exit)) (r .stack) (now (arena .exit)) (now (ends .exit))) (now (row .exit)) ⌝ }
 {
-    let Next::Found(found) = fill::words::next_word(line, 0, to) else {
+    let NextWord::Found(found) = fill::words::next_word(line, 0, to) else {
         return stay(Way::On, layout, page, collected, stack);
     };
     if collected.there {
@@ -353,13 +353,13 @@ pub fn fill_line(
     firsts: &ByteColumn,
     seconds: &ByteColumn,
     texts: usize,
-) -> Outcome
-    ghost { Desk }
-    requires { λ q. ⌜ desk layout page collected (now cells) stack (now arena) (now ends) ≡ q ⌝ }
-    requires { λ q. ⌜ Begins planted q (now line) (now row) (now firsts) (now seconds) texts × Places (now line) 0 to × Follows (collected .there) (words (part (now line) 0 to)) ⌝ }
-    ensures { λ q r. ⌜ Worked (λ ts s. rule.textWay fills (words (part (now (line .entry)) 0 to)) (part (now (line .entry)) 0 to) s) (now (firsts .entry)) (now (seconds .entry)) texts planted q (r .way) (r .written) (desk (r .layout) (r .page) (r .collected) (now (cells .exit)) (r .stack) (now (arena .exit)) (now (ends .exit))) (now (row .exit)) ⌝ }
+) -> PageOutcome
+    ghost { PageState }
+    requires { λ q. ⌜ pageState layout page collected (now cells) stack (now arena) (now ends) ≡ q ⌝ }
+    requires { λ q. ⌜ PageReady planted q (now line) (now row) (now firsts) (now seconds) texts × Places (now line) 0 to × Follows (collected .there) (words (bytesBetween (now line) 0 to)) ⌝ }
+    ensures { λ q r. ⌜ PageRefines (λ ts s. rule.textWay fills (words (bytesBetween (now (line .entry)) 0 to)) (bytesBetween (now (line .entry)) 0 to) s) (now (firsts .entry)) (now (seconds .entry)) texts planted q (r .way) (r .written) (pageState (r .layout) (r .page) (r .collected) (now (cells .exit)) (r .stack) (now (arena .exit)) (now (ends .exit))) (now (row .exit)) ⌝ }
 {
-    let Next::Found(found) = fill::words::next_word(line, 0, to) else {
+    let NextWord::Found(found) = fill::words::next_word(line, 0, to) else {
         return stay(Way::On, layout, page, collected, stack);
     };
     let behind = fill::words::gap_after(line, 0, to);

@@ -1,10 +1,10 @@
 // Requests that neither break nor change a table: those that set the layout, and if.
 use super::page_rows::Collected;
-use super::page_rows::Outcome;
+use super::page_rows::PageOutcome;
 use super::page_rows::stay;
 use input_stack::frames::What;
 use input_stack::stack::Stack;
-use line_syntax::conditions::Condition;
+use line_syntax::conditions::ConditionResult;
 use line_syntax::lines::Line;
 use measure::Rows;
 use page::position::Page;
@@ -26,10 +26,10 @@ ghost use Prim.Native.Nat.{_≤_};
 ghost use lib.ListN.{length};
 ghost use Rattle.measure.specs.Counts.{downOf};
 ghost use Rattle.rules.specs.Acts as rule;
-ghost use Rattle.rules.specs.Acts.{settles, argument};
-ghost use Rattle.settings.specs.Layout.Layouts.{printerOf, SoundPrinter, Ready, PageSet};
+ghost use Rattle.rules.specs.Acts.{settles, argumentAt};
+ghost use Rattle.settings.specs.Layout.Layouts.{printerOf, PrinterInvariant, LayoutReady, PageSettingRefines};
 ghost use Rattle.page.specs.Springs.Held as springs;
-ghost use Rattle.composition.specs.PageRows.Desk.{Desk, desk, Begins, Worked};
+ghost use Rattle.composition.specs.PageRows.PageState.{PageState, pageState, PageReady, PageRefines};
 ghost use Rattle.composition.specs.NoBreakRequests.Following.{Followed};
 
 // What pl, po, ll, ad and na make of the layout, by what follows their name.
@@ -41,8 +41,8 @@ pub fn set_page(
     layout: Layout,
     printer: Printer,
 ) -> NewLayout
-    requires { ⌜ Ready printer layout × (length (now line) ≤ 512) × (length (now parts) ≡ 512) ⌝ }
-    ensures { λ r. ⌜ PageSet printer request layout (downOf used) (argument 0 (now (line .entry))) r ⌝ }
+    requires { ⌜ LayoutReady printer layout × (length (now line) ≤ 512) × (length (now parts) ≡ 512) ⌝ }
+    ensures { λ r. ⌜ PageSettingRefines printer request layout (downOf used) (argumentAt 0 (now (line .entry))) r ⌝ }
 {
     let mut given = [0u16; ARGUMENT_COUNT];
     let count = scan::arguments::arguments(line, 0, &mut *parts, &mut given);
@@ -52,7 +52,7 @@ pub fn set_page(
 
 // if: "What follows its spaces, if anything, is dealt with as a line without second expansion"
 fn follow(rest: &[u8], stack: Stack, arena: &mut StackBytes, ends: &mut StackEnds) -> Stack
-    requires { ⌜ springs.Ready stack (now arena) (now ends) (now rest) ⌝ }
+    requires { ⌜ springs.StackReady stack (now arena) (now ends) (now rest) ⌝ }
     ensures { λ r. ⌜ Followed (now (rest .entry)) stack (now (arena .entry)) (now (ends .entry)) r (now (arena .exit)) (now (ends .exit)) ⌝ }
 {
     if rest.len() == 0 {
@@ -87,11 +87,11 @@ pub fn decide(
     firsts: &ByteColumn,
     seconds: &ByteColumn,
     texts: usize,
-) -> Outcome
-    ghost { Desk }
-    requires { λ q. ⌜ desk layout page collected (now cells) stack (now arena) (now ends) ≡ q ⌝ }
-    requires { λ q. ⌜ Begins planted q (now line) (now row) (now firsts) (now seconds) texts × SoundPrinter printer ⌝ }
-    ensures { λ q r. ⌜ Worked (λ ts s. settles (rule.decide (printerOf printer) (now (line .entry)) s) s) (now (firsts .entry)) (now (seconds .entry)) texts planted q (r .way) (r .written) (desk (r .layout) (r .page) (r .collected) (now (cells .entry)) (r .stack) (now (arena .exit)) (now (ends .exit))) (now (row .entry)) ⌝ }
+) -> PageOutcome
+    ghost { PageState }
+    requires { λ q. ⌜ pageState layout page collected (now cells) stack (now arena) (now ends) ≡ q ⌝ }
+    requires { λ q. ⌜ PageReady planted q (now line) (now row) (now firsts) (now seconds) texts × PrinterInvariant printer ⌝ }
+    ensures { λ q r. ⌜ PageRefines (λ ts s. settles (rule.decide (printerOf printer) (now (line .entry)) s) s) (now (firsts .entry)) (now (seconds .entry)) texts planted q (r .way) (r .written) (pageState (r .layout) (r .page) (r .collected) (now (cells .entry)) (r .stack) (now (arena .exit)) (now (ends .exit))) (now (row .entry)) ⌝ }
 {
     let places = line_syntax::lines::condition_at(line, 0);
     let from = places.from;
@@ -101,11 +101,11 @@ pub fn decide(
         return stay(Way::On, layout, page, collected, stack);
     }
     match line_syntax::conditions::holds(&line[from..to], page.number, printer.pitch) {
-        Condition::Holds => {
+        ConditionResult::Holds => {
             let over = follow(&line[rest..], stack, arena, ends);
             stay(Way::On, layout, page, collected, over)
         }
-        Condition::Fails => stay(Way::On, layout, page, collected, stack),
-        Condition::Malformed => stay(Way::Refused(6), layout, page, collected, stack),
+        ConditionResult::Fails => stay(Way::On, layout, page, collected, stack),
+        ConditionResult::Malformed => stay(Way::Refused(6), layout, page, collected, stack),
     }
 }

@@ -19,9 +19,9 @@ ghost use mathlib.Core.List.{[]};
 ghost use Prim.Native.Nat.{_≤_};
 ghost use Rattle.measure.specs.Counts.{acrossOf, downOf};
 ghost use Rattle.rules.specs.Rows as rule;
-ghost use Rattle.fill.specs.Collected.Filled.{lineOf};
+ghost use Rattle.fill.specs.Collected.Filled.{collectedLine};
 ghost use Rattle.page.specs.Springs.Held.{heldOf, Plain};
-ghost use Rattle.composition.specs.PageRows.Desk.{Desk, desk, noLine, stayed, settledBy, outcomeOf, Begins, Worked};
+ghost use Rattle.composition.specs.PageRows.PageState.{PageState, pageState, noLine, pageStayed, settledBy, outcomeOf, PageReady, PageRefines};
 
 // The collected line, if there is one: its first `length` cells lie in an array of their own.
 pub struct Collected {
@@ -33,7 +33,7 @@ pub struct Collected {
 }
 
 // What a piece of work leads to: so many bytes of the row are to be written, then the session goes on or is closed.
-pub struct Outcome {
+pub struct PageOutcome {
     pub way: Way,
     pub layout: Layout,
     pub page: Page,
@@ -56,10 +56,10 @@ pub fn nothing_collected() -> Collected
 }
 
 // Nothing is written or moved.
-pub fn stay(way: Way, layout: Layout, page: Page, collected: Collected, stack: Stack) -> Outcome
-    ensures { λ r. ⌜ r ≡ stayed way layout page collected stack ⌝ }
+pub fn stay(way: Way, layout: Layout, page: Page, collected: Collected, stack: Stack) -> PageOutcome
+    ensures { λ r. ⌜ r ≡ pageStayed way layout page collected stack ⌝ }
 {
-    Outcome {
+    PageOutcome {
         way,
         layout,
         page,
@@ -76,7 +76,7 @@ pub fn settle(
     page: Page,
     collected: Collected,
     stack: Stack,
-) -> Outcome
+) -> PageOutcome
     ensures { λ r. ⌜ r ≡ settledBy new layout page collected stack ⌝ }
 {
     match new {
@@ -87,13 +87,13 @@ pub fn settle(
 }
 
 // What is written, and where the move down after it leads.
-pub fn lead_to(layout: Layout, collected: Collected, landed: Landed, written: usize) -> Outcome
+pub fn lead_to(layout: Layout, collected: Collected, landed: Landed, written: usize) -> PageOutcome
     ensures { λ r. ⌜ r ≡ outcomeOf layout collected landed written ⌝ }
 {
     let way = landed.way;
     let page = landed.page;
     let stack = landed.stack;
-    Outcome {
+    PageOutcome {
         way,
         layout,
         page,
@@ -119,11 +119,11 @@ pub fn break_line(
     firsts: &ByteColumn,
     seconds: &ByteColumn,
     texts: usize,
-) -> Outcome
-    ghost { Desk }
-    requires { λ q. ⌜ desk layout page collected (now cells) stack (now arena) (now ends) ≡ q ⌝ }
-    requires { λ q. ⌜ Begins planted q (now bytes) (now row) (now firsts) (now seconds) texts × Plain held ⌝ }
-    ensures { λ q r. ⌜ Worked (λ ts s. rule.break (lineOf (acrossOf (collected .indent)) (acrossOf (collected .room)) (now (cells .entry)) (collected .length) (collected .next)) (heldOf ts held (now (bytes .entry))) s) (now (firsts .entry)) (now (seconds .entry)) texts planted q (r .way) (r .written) (desk (r .layout) (r .page) (r .collected) (now (cells .entry)) (r .stack) (now (arena .exit)) (now (ends .exit))) (now (row .exit)) ⌝ }
+) -> PageOutcome
+    ghost { PageState }
+    requires { λ q. ⌜ pageState layout page collected (now cells) stack (now arena) (now ends) ≡ q ⌝ }
+    requires { λ q. ⌜ PageReady planted q (now bytes) (now row) (now firsts) (now seconds) texts × Plain held ⌝ }
+    ensures { λ q r. ⌜ PageRefines (λ ts s. rule.break (collectedLine (acrossOf (collected .indent)) (acrossOf (collected .room)) (now (cells .entry)) (collected .length) (collected .next)) (heldOf ts held (now (bytes .entry))) s) (now (firsts .entry)) (now (seconds .entry)) texts planted q (r .way) (r .written) (pageState (r .layout) (r .page) (r .collected) (now (cells .entry)) (r .stack) (now (arena .exit)) (now (ends .exit))) (now (row .exit)) ⌝ }
 {
     let offset = layout.offset.now;
     let length = layout.page;
@@ -168,11 +168,11 @@ pub fn blank(
     firsts: &ByteColumn,
     seconds: &ByteColumn,
     texts: usize,
-) -> Outcome
-    ghost { Desk }
-    requires { λ q. ⌜ desk layout page collected (now cells) stack (now arena) (now ends) ≡ q ⌝ }
-    requires { λ q. ⌜ Begins planted q (now bytes) (now row) (now firsts) (now seconds) texts × Plain held × (downOf rows ≤ 500) ⌝ }
-    ensures { λ q r. ⌜ Worked (λ ts s. rule.blank (downOf rows) (heldOf ts held (now (bytes .entry))) s) (now (firsts .entry)) (now (seconds .entry)) texts planted q (r .way) (r .written) (desk (r .layout) (r .page) (r .collected) (now (cells .entry)) (r .stack) (now (arena .exit)) (now (ends .exit))) (now (row .exit)) ⌝ }
+) -> PageOutcome
+    ghost { PageState }
+    requires { λ q. ⌜ pageState layout page collected (now cells) stack (now arena) (now ends) ≡ q ⌝ }
+    requires { λ q. ⌜ PageReady planted q (now bytes) (now row) (now firsts) (now seconds) texts × Plain held × (downOf rows ≤ 500) ⌝ }
+    ensures { λ q r. ⌜ PageRefines (λ ts s. rule.blank (downOf rows) (heldOf ts held (now (bytes .entry))) s) (now (firsts .entry)) (now (seconds .entry)) texts planted q (r .way) (r .written) (pageState (r .layout) (r .page) (r .collected) (now (cells .entry)) (r .stack) (now (arena .exit)) (now (ends .exit))) (now (row .exit)) ⌝ }
 {
     let length = layout.page;
     let written = fill::unfilled::blank_rows(rows, &mut *row);
@@ -208,11 +208,11 @@ pub fn skip(
     firsts: &ByteColumn,
     seconds: &ByteColumn,
     texts: usize,
-) -> Outcome
-    ghost { Desk }
-    requires { λ q. ⌜ desk layout page collected (now cells) stack (now arena) (now ends) ≡ q ⌝ }
-    requires { λ q. ⌜ Begins planted q [] (now row) (now firsts) (now seconds) texts ⌝ }
-    ensures { λ q r. ⌜ Worked (λ ts s. rule.skip (count .0) s) (now (firsts .entry)) (now (seconds .entry)) texts planted q (r .way) (r .written) (desk (r .layout) (r .page) (r .collected) (now (cells .entry)) (r .stack) (now (arena .exit)) (now (ends .exit))) (now (row .exit)) ⌝ }
+) -> PageOutcome
+    ghost { PageState }
+    requires { λ q. ⌜ pageState layout page collected (now cells) stack (now arena) (now ends) ≡ q ⌝ }
+    requires { λ q. ⌜ PageReady planted q [] (now row) (now firsts) (now seconds) texts ⌝ }
+    ensures { λ q r. ⌜ PageRefines (λ ts s. rule.skip (count .0) s) (now (firsts .entry)) (now (seconds .entry)) texts planted q (r .way) (r .written) (pageState (r .layout) (r .page) (r .collected) (now (cells .entry)) (r .stack) (now (arena .exit)) (now (ends .exit))) (now (row .exit)) ⌝ }
 {
     let length = layout.page;
     let rows = page::position::blanks(count, page, length, planted);
@@ -263,11 +263,11 @@ pub fn start(
     firsts: &ByteColumn,
     seconds: &ByteColumn,
     texts: usize,
-) -> Outcome
-    ghost { Desk }
-    requires { λ q. ⌜ desk layout page collected (now cells) stack (now arena) (now ends) ≡ q ⌝ }
-    requires { λ q. ⌜ Begins planted q (now bytes) (now row) (now firsts) (now seconds) texts × Plain held ⌝ }
-    ensures { λ q r. ⌜ Worked (λ ts s. rule.goes (rule.startPage (heldOf ts held (now (bytes .entry))) s)) (now (firsts .entry)) (now (seconds .entry)) texts planted q (r .way) (r .written) (desk (r .layout) (r .page) (r .collected) (now (cells .entry)) (r .stack) (now (arena .exit)) (now (ends .exit))) (now (row .exit)) ⌝ }
+) -> PageOutcome
+    ghost { PageState }
+    requires { λ q. ⌜ pageState layout page collected (now cells) stack (now arena) (now ends) ≡ q ⌝ }
+    requires { λ q. ⌜ PageReady planted q (now bytes) (now row) (now firsts) (now seconds) texts × Plain held ⌝ }
+    ensures { λ q r. ⌜ PageRefines (λ ts s. rule.goes (rule.startPage (heldOf ts held (now (bytes .entry))) s)) (now (firsts .entry)) (now (seconds .entry)) texts planted q (r .way) (r .written) (pageState (r .layout) (r .page) (r .collected) (now (cells .entry)) (r .stack) (now (arena .exit)) (now (ends .exit))) (now (row .exit)) ⌝ }
 {
     let length = layout.page;
     let landed = page::springs::start_page(

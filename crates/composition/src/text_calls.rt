@@ -1,6 +1,6 @@
 // A text is called by its name.
 use super::page_rows::Collected;
-use super::page_rows::Outcome;
+use super::page_rows::PageOutcome;
 use super::page_rows::stay;
 use input_stack::stack::Stack;
 use page::position::Page;
@@ -20,12 +20,12 @@ ghost use mathlib.Core.Path.{_≡_};
 ghost use lib.ListN.{length};
 ghost use Rattle.rules.specs.Texts.{textOf};
 ghost use Rattle.rules.specs.Rows.{goes};
-ghost use Rattle.composition.specs.PageRows.Desk.{Desk, desk, Begins, Worked};
-ghost use Rattle.composition.specs.TextCalls.Calls.{calledTo, calledText, Known};
+ghost use Rattle.composition.specs.PageRows.PageState.{PageState, pageState, PageReady, PageRefines};
+ghost use Rattle.composition.specs.TextCalls.Calls.{calledOutcome, calledText, Known};
 
 // A text that is called, or "10: input stack past 16 items".
-fn land(called: Called, layout: Layout, page: Page, collected: Collected) -> Outcome
-    ensures { λ r. ⌜ r ≡ calledTo called layout page collected ⌝ }
+fn land(called: Called, layout: Layout, page: Page, collected: Collected) -> PageOutcome
+    ensures { λ r. ⌜ r ≡ calledOutcome called layout page collected ⌝ }
 {
     let stack = called.stack;
     if called.full {
@@ -51,11 +51,11 @@ pub fn call(
     firsts: &ByteColumn,
     seconds: &ByteColumn,
     texts: usize,
-) -> Outcome
-    ghost { Desk }
-    requires { λ q. ⌜ desk layout page collected (now cells) stack (now arena) (now ends) ≡ q ⌝ }
-    requires { λ q. ⌜ Begins planted q (now line) (now row) (now firsts) (now seconds) texts × (length (now parts) ≡ 512) × Known name (now firsts) (now seconds) texts ⌝ }
-    ensures { λ q r. ⌜ Worked (λ ts s. goes (calledText (textOf name ts) (now (line .entry)) s)) (now (firsts .entry)) (now (seconds .entry)) texts planted q (r .way) (r .written) (desk (r .layout) (r .page) (r .collected) (now (cells .entry)) (r .stack) (now (arena .exit)) (now (ends .exit))) (now (row .entry)) ⌝ }
+) -> PageOutcome
+    ghost { PageState }
+    requires { λ q. ⌜ pageState layout page collected (now cells) stack (now arena) (now ends) ≡ q ⌝ }
+    requires { λ q. ⌜ PageReady planted q (now line) (now row) (now firsts) (now seconds) texts × (length (now parts) ≡ 512) × Known name (now firsts) (now seconds) texts ⌝ }
+    ensures { λ q r. ⌜ PageRefines (λ ts s. goes (calledText (textOf name ts) (now (line .entry)) s)) (now (firsts .entry)) (now (seconds .entry)) texts planted q (r .way) (r .written) (pageState (r .layout) (r .page) (r .collected) (now (cells .entry)) (r .stack) (now (arena .exit)) (now (ends .exit))) (now (row .entry)) ⌝ }
 {
     let mut given = [0u16; ARGUMENT_COUNT];
     let count = scan::arguments::arguments(line, 0, &mut *parts, &mut given);

@@ -1,6 +1,6 @@
 // What a text line does: its words are filled, or it is written as it stands.
 use super::page_rows::Collected;
-use super::page_rows::Outcome;
+use super::page_rows::PageOutcome;
 use input_stack::frames::What;
 use input_stack::stack::Stack;
 use measure::Rows;
@@ -20,10 +20,10 @@ ghost use Rattle.measure.specs.Counts.{acrossOf};
 ghost use Rattle.rules.specs.Filling.{words, leads};
 ghost use Rattle.rules.specs.TextLines as rule;
 ghost use Rattle.rules.specs.TextLines.{stands, breaks};
-ghost use Rattle.fill.specs.Words.Parts.{part, Places};
-ghost use Rattle.fill.specs.Collected.Filled.{lineOf};
+ghost use Rattle.fill.specs.Words.Parts.{bytesBetween, Places};
+ghost use Rattle.fill.specs.Collected.Filled.{collectedLine};
 ghost use Rattle.settings.specs.Layout.Layouts.{layoutOf};
-ghost use Rattle.composition.specs.PageRows.Desk.{Desk, desk, Begins, Worked};
+ghost use Rattle.composition.specs.PageRows.PageState.{PageState, pageState, PageReady, PageRefines};
 ghost use Rattle.composition.specs.Filling.Words.{wordWay, breaksFirst, freshWay};
 ghost use mathlib.Core.Path.{_≡_};
 ghost use mathlib.Core.Bool.{false};
@@ -44,11 +44,11 @@ fn stand(
     firsts: &ByteColumn,
     seconds: &ByteColumn,
     texts: usize,
-) -> Outcome
-    ghost { Desk }
-    requires { λ q. ⌜ desk layout page collected (now cells) stack (now arena) (now ends) ≡ q ⌝ }
-    requires { λ q. ⌜ Begins planted q (now line) (now row) (now firsts) (now seconds) texts × Places (now line) 0 to ⌝ }
-    ensures { λ q r. ⌜ Worked (λ ts s. rule.textWay stands (words (part (now (line .entry)) 0 to)) (part (now (line .entry)) 0 to) s) (now (firsts .entry)) (now (seconds .entry)) texts planted q (r .way) (r .written) (desk (r .layout) (r .page) (r .collected) (now (cells .entry)) (r .stack) (now (arena .exit)) (now (ends .exit))) (now (row .exit)) ⌝ }
+) -> PageOutcome
+    ghost { PageState }
+    requires { λ q. ⌜ pageState layout page collected (now cells) stack (now arena) (now ends) ≡ q ⌝ }
+    requires { λ q. ⌜ PageReady planted q (now line) (now row) (now firsts) (now seconds) texts × Places (now line) 0 to ⌝ }
+    ensures { λ q r. ⌜ PageRefines (λ ts s. rule.textWay stands (words (bytesBetween (now (line .entry)) 0 to)) (bytesBetween (now (line .entry)) 0 to) s) (now (firsts .entry)) (now (seconds .entry)) texts planted q (r .way) (r .written) (pageState (r .layout) (r .page) (r .collected) (now (cells .entry)) (r .stack) (now (arena .exit)) (now (ends .exit))) (now (row .exit)) ⌝ }
 {
     let margin = layout.offset;
     let offset = margin.now;
@@ -99,11 +99,11 @@ fn blank_line(
     firsts: &ByteColumn,
     seconds: &ByteColumn,
     texts: usize,
-) -> Outcome
-    ghost { Desk }
-    requires { λ q. ⌜ desk layout page collected (now cells) stack (now arena) (now ends) ≡ q ⌝ }
-    requires { λ q. ⌜ Begins planted q (now cells) (now row) (now firsts) (now seconds) texts ⌝ }
-    ensures { λ q r. ⌜ Worked (λ ts s. rule.blankFrom (s .collected) s) (now (firsts .entry)) (now (seconds .entry)) texts planted q (r .way) (r .written) (desk (r .layout) (r .page) (r .collected) (now (cells .entry)) (r .stack) (now (arena .exit)) (now (ends .exit))) (now (row .exit)) ⌝ }
+) -> PageOutcome
+    ghost { PageState }
+    requires { λ q. ⌜ pageState layout page collected (now cells) stack (now arena) (now ends) ≡ q ⌝ }
+    requires { λ q. ⌜ PageReady planted q (now cells) (now row) (now firsts) (now seconds) texts ⌝ }
+    ensures { λ q r. ⌜ PageRefines (λ ts s. rule.blankFrom (s .collected) s) (now (firsts .entry)) (now (seconds .entry)) texts planted q (r .way) (r .written) (pageState (r .layout) (r .page) (r .collected) (now (cells .entry)) (r .stack) (now (arena .exit)) (now (ends .exit))) (now (row .exit)) ⌝ }
 {
     if collected.there {
         let none = fill::words::slice(cells, 0, 0);
@@ -157,11 +157,11 @@ fn break_first(
     firsts: &ByteColumn,
     seconds: &ByteColumn,
     texts: usize,
-) -> Outcome
-    ghost { Desk }
-    requires { λ q. ⌜ desk layout page collected (now cells) stack (now arena) (now ends) ≡ q ⌝ }
-    requires { λ q. ⌜ Begins planted q (now line) (now row) (now firsts) (now seconds) texts × Places (now line) 0 to ⌝ }
-    ensures { λ q r. ⌜ Worked (λ ts s. rule.textWay (breaks (lineOf (acrossOf (collected .indent)) (acrossOf (collected .room)) (now (cells .entry)) (collected .length) (collected .next))) (words (part (now (line .entry)) 0 to)) (part (now (line .entry)) 0 to) s) (now (firsts .entry)) (now (seconds .entry)) texts planted q (r .way) (r .written) (desk (r .layout) (r .page) (r .collected) (now (cells .entry)) (r .stack) (now (arena .exit)) (now (ends .exit))) (now (row .exit)) ⌝ }
+) -> PageOutcome
+    ghost { PageState }
+    requires { λ q. ⌜ pageState layout page collected (now cells) stack (now arena) (now ends) ≡ q ⌝ }
+    requires { λ q. ⌜ PageReady planted q (now line) (now row) (now firsts) (now seconds) texts × Places (now line) 0 to ⌝ }
+    ensures { λ q r. ⌜ PageRefines (λ ts s. rule.textWay (breaks (collectedLine (acrossOf (collected .indent)) (acrossOf (collected .room)) (now (cells .entry)) (collected .length) (collected .next))) (words (bytesBetween (now (line .entry)) 0 to)) (bytesBetween (now (line .entry)) 0 to) s) (now (firsts .entry)) (now (seconds .entry)) texts planted q (r .way) (r .written) (pageState (r .layout) (r .page) (r .collected) (now (cells .entry)) (r .stack) (now (arena .exit)) (now (ends .exit))) (now (row .exit)) ⌝ }
 {
     let bytes = fill::words::slice(line, 0, to);
     super::page_rows::break_line(
@@ -185,7 +185,7 @@ fn break_first(
 // Whether a line of words breaks first: one is collected, and nf, ce or leading spaces ask for it.
 fn breaks_first(line: &LineBytes, to: usize, layout: Layout, there: bool) -> bool
     requires { ⌜ Places (now line) 0 to ⌝ }
-    ensures { λ r. ⌜ r ≡ breaksFirst there (rule.asItStands (layoutOf layout)) (leads (words (part (now (line .entry)) 0 to))) ⌝ }
+    ensures { λ r. ⌜ r ≡ breaksFirst there (rule.asItStands (layoutOf layout)) (leads (words (bytesBetween (now (line .entry)) 0 to))) ⌝ }
 {
     if !there {
         return false;
@@ -212,11 +212,11 @@ fn fresh_line(
     firsts: &ByteColumn,
     seconds: &ByteColumn,
     texts: usize,
-) -> Outcome
-    ghost { Desk }
-    requires { λ q. ⌜ desk layout page collected (now cells) stack (now arena) (now ends) ≡ q ⌝ }
-    requires { λ q. ⌜ Begins planted q (now line) (now row) (now firsts) (now seconds) texts × Places (now line) 0 to × (breaksFirst (collected .there) (rule.asItStands (layoutOf layout)) (leads (words (part (now line) 0 to))) ≡ false) ⌝ }
-    ensures { λ q r. ⌜ Worked (λ ts s. rule.textWay (freshWay (rule.asItStands (layoutOf layout))) (words (part (now (line .entry)) 0 to)) (part (now (line .entry)) 0 to) s) (now (firsts .entry)) (now (seconds .entry)) texts planted q (r .way) (r .written) (desk (r .layout) (r .page) (r .collected) (now (cells .exit)) (r .stack) (now (arena .exit)) (now (ends .exit))) (now (row .exit)) ⌝ }
+) -> PageOutcome
+    ghost { PageState }
+    requires { λ q. ⌜ pageState layout page collected (now cells) stack (now arena) (now ends) ≡ q ⌝ }
+    requires { λ q. ⌜ PageReady planted q (now line) (now row) (now firsts) (now seconds) texts × Places (now line) 0 to × (breaksFirst (collected .there) (rule.asItStands (layoutOf layout)) (leads (words (bytesBetween (now line) 0 to))) ≡ false) ⌝ }
+    ensures { λ q r. ⌜ PageRefines (λ ts s. rule.textWay (freshWay (rule.asItStands (layoutOf layout))) (words (bytesBetween (now (line .entry)) 0 to)) (bytesBetween (now (line .entry)) 0 to) s) (now (firsts .entry)) (now (seconds .entry)) texts planted q (r .way) (r .written) (pageState (r .layout) (r .page) (r .collected) (now (cells .exit)) (r .stack) (now (arena .exit)) (now (ends .exit))) (now (row .exit)) ⌝ }
 {
     if settings::layout::stands(layout) {
         return stand(
@@ -270,11 +270,11 @@ fn word_line(
     firsts: &ByteColumn,
     seconds: &ByteColumn,
     texts: usize,
-) -> Outcome
-    ghost { Desk }
-    requires { λ q. ⌜ desk layout page collected (now cells) stack (now arena) (now ends) ≡ q ⌝ }
-    requires { λ q. ⌜ Begins planted q (now line) (now row) (now firsts) (now seconds) texts × Places (now line) 0 to ⌝ }
-    ensures { λ q r. ⌜ Worked (λ ts s. rule.textWay (wordWay (collected .there) (rule.asItStands (layoutOf layout)) (leads (words (part (now (line .entry)) 0 to))) (lineOf (acrossOf (collected .indent)) (acrossOf (collected .room)) (now (cells .entry)) (collected .length) (collected .next))) (words (part (now (line .entry)) 0 to)) (part (now (line .entry)) 0 to) s) (now (firsts .entry)) (now (seconds .entry)) texts planted q (r .way) (r .written) (desk (r .layout) (r .page) (r .collected) (now (cells .exit)) (r .stack) (now (arena .exit)) (now (ends .exit))) (now (row .exit)) ⌝ }
+) -> PageOutcome
+    ghost { PageState }
+    requires { λ q. ⌜ pageState layout page collected (now cells) stack (now arena) (now ends) ≡ q ⌝ }
+    requires { λ q. ⌜ PageReady planted q (now line) (now row) (now firsts) (now seconds) texts × Places (now line) 0 to ⌝ }
+    ensures { λ q r. ⌜ PageRefines (λ ts s. rule.textWay (wordWay (collected .there) (rule.asItStands (layoutOf layout)) (leads (words (bytesBetween (now (line .entry)) 0 to))) (collectedLine (acrossOf (collected .indent)) (acrossOf (collected .room)) (now (cells .entry)) (collected .length) (collected .next))) (words (bytesBetween (now (line .entry)) 0 to)) (bytesBetween (now (line .entry)) 0 to) s) (now (firsts .entry)) (now (seconds .entry)) texts planted q (r .way) (r .written) (pageState (r .layout) (r .page) (r .collected) (now (cells .exit)) (r .stack) (now (arena .exit)) (now (ends .exit))) (now (row .exit)) ⌝ }
 {
     if breaks_first(line, to, layout, collected.there) {
         return break_first(
@@ -328,11 +328,11 @@ pub fn text_line(
     firsts: &ByteColumn,
     seconds: &ByteColumn,
     texts: usize,
-) -> Outcome
-    ghost { Desk }
-    requires { λ q. ⌜ desk layout page collected (now cells) stack (now arena) (now ends) ≡ q ⌝ }
-    requires { λ q. ⌜ Begins planted q (now line) (now row) (now firsts) (now seconds) texts × Places (now line) 0 to ⌝ }
-    ensures { λ q r. ⌜ Worked (λ ts s. rule.textLine (part (now (line .entry)) 0 to) s) (now (firsts .entry)) (now (seconds .entry)) texts planted q (r .way) (r .written) (desk (r .layout) (r .page) (r .collected) (now (cells .exit)) (r .stack) (now (arena .exit)) (now (ends .exit))) (now (row .exit)) ⌝ }
+) -> PageOutcome
+    ghost { PageState }
+    requires { λ q. ⌜ pageState layout page collected (now cells) stack (now arena) (now ends) ≡ q ⌝ }
+    requires { λ q. ⌜ PageReady planted q (now line) (now row) (now firsts) (now seconds) texts × Places (now line) 0 to ⌝ }
+    ensures { λ q r. ⌜ PageRefines (λ ts s. rule.textLine (bytesBetween (now (line .entry)) 0 to) s) (now (firsts .entry)) (now (seconds .entry)) texts planted q (r .way) (r .written) (pageState (r .layout) (r .page) (r .collected) (now (cells .exit)) (r .stack) (now (arena .exit)) (now (ends .exit))) (now (row .exit)) ⌝ }
 {
     if page.number == 0 {
         let bytes = fill::words::slice(line, 0, to);

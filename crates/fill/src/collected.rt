@@ -14,8 +14,8 @@ ghost use Prim.Native.Nat.{_+_, _-_, _≤_};
 ghost use lib.Dec.{eqb};
 ghost use Rattle.rules.specs.Bytes.{fixedBlank};
 ghost use Rattle.rules.specs.Filling.{words, width, printed, gapCells, after};
-ghost use Rattle.fill.specs.Words.Parts.{part, Places};
-ghost use Rattle.fill.specs.Collected.Filled.{Line, PlacedTo};
+ghost use Rattle.fill.specs.Words.Parts.{bytesBetween, Places};
+ghost use Rattle.fill.specs.Collected.Filled.{CollectedInvariant, PlacedTo};
 
 // A collected line that is full: its cells, and the word that did not fit, with the gap that is lost.
 pub struct Overflow {
@@ -54,8 +54,8 @@ pub fn put_run(buffer: &mut [u8], at: usize, n: usize, byte: u8)
 
 // Puts what is printed of a part of a line at a place: marks are not, fixed blanks are spaces.
 pub fn put_word(line: &LineBytes, from: usize, to: usize, buffer: &mut [u8], at: usize) -> usize
-    requires { ⌜ Places (now line) from to × (at + width (part (now line) from to) ≤ length (now buffer)) ⌝ }
-    ensures { λ r. ⌜ Written (now (buffer .entry)) at (printed (part (now (line .entry)) from to)) (now (buffer .exit)) r ⌝ }
+    requires { ⌜ Places (now line) from to × (at + width (bytesBetween (now line) from to) ≤ length (now buffer)) ⌝ }
+    ensures { λ r. ⌜ Written (now (buffer .entry)) at (printed (bytesBetween (now (line .entry)) from to)) (now (buffer .exit)) r ⌝ }
 {
     let mut i = from;
     let mut n = at;
@@ -93,7 +93,7 @@ pub fn begin_line(
     cells: &mut LineBytes,
 ) -> usize
     requires { ⌜ Places (now line) from to × (acrossOf lead ≤ from) × (length (now cells) ≡ 512) ⌝ }
-    ensures { λ r. ⌜ Written (now (cells .entry)) 0 (printed (replicate (acrossOf lead) fixedBlank ++ part (now (line .entry)) from to)) (now (cells .exit)) r ⌝ }
+    ensures { λ r. ⌜ Written (now (cells .entry)) 0 (printed (replicate (acrossOf lead) fixedBlank ++ bytesBetween (now (line .entry)) from to)) (now (cells .exit)) r ⌝ }
     ensures { λ r. ⌜ Places (now (cells .exit)) 0 r ⌝ }
 {
     let n = super::words::count(lead);
@@ -111,8 +111,8 @@ pub fn place(
     length: usize,
     room: Cells,
 ) -> Placed
-    requires { ⌜ Places (now line) at to × (acrossOf gap ≤ 512) × Line (now cells) length (acrossOf room) ⌝ }
-    ensures { λ r. ⌜ PlacedTo (now (line .entry)) at to (after (acrossOf gap) (words (part (now (line .entry)) at to))) (now (cells .entry)) length (acrossOf room) r (now (cells .exit)) ⌝ }
+    requires { ⌜ Places (now line) at to × (acrossOf gap ≤ 512) × CollectedInvariant (now cells) length (acrossOf room) ⌝ }
+    ensures { λ r. ⌜ PlacedTo (now (line .entry)) at to (after (acrossOf gap) (words (bytesBetween (now (line .entry)) at to))) (now (cells .entry)) length (acrossOf room) r (now (cells .exit)) ⌝ }
 {
     let limit = super::words::count(room);
     let mut from = super::words::skip_spaces(line, at, to);
@@ -148,8 +148,8 @@ pub fn place_others(
     length: usize,
     room: Cells,
 ) -> Placed
-    requires { ⌜ Places (now line) at to × Line (now cells) length (acrossOf room) ⌝ }
-    ensures { λ r. ⌜ PlacedTo (now (line .entry)) at to (words (part (now (line .entry)) at to)) (now (cells .entry)) length (acrossOf room) r (now (cells .exit)) ⌝ }
+    requires { ⌜ Places (now line) at to × CollectedInvariant (now cells) length (acrossOf room) ⌝ }
+    ensures { λ r. ⌜ PlacedTo (now (line .entry)) at to (words (bytesBetween (now (line .entry)) at to)) (now (cells .entry)) length (acrossOf room) r (now (cells .exit)) ⌝ }
 {
     let from = super::words::skip_spaces(line, at, to);
     let gap = super::words::as_cells(from - at);

@@ -12,14 +12,14 @@ ghost use Prim.Native.Nat.{_+_, _-_, _≤_};
 ghost use lib.Dec.{eqb};
 ghost use Rattle.rules.specs.Bytes.{gapStart};
 ghost use Rattle.rules.specs.Filling.{words, gaps, spread, adjusted, moreIf, fewAfter, spreadCell, level, row as rowOf, left};
-ghost use Rattle.fill.specs.Words.Parts.{part, Places};
-ghost use Rattle.fill.specs.Collected.Filled.{lineOf, Line};
+ghost use Rattle.fill.specs.Words.Parts.{bytesBetween, Places};
+ghost use Rattle.fill.specs.Collected.Filled.{collectedLine, CollectedInvariant};
 ghost use Rattle.fill.specs.Unfilled.Lines.{isBlankCell, CellsEnd, RowRoom, Margins};
 
 // The gaps of a collected line.
 fn count_gaps(cells: &LineBytes, length: usize) -> usize
     requires { ⌜ Places (now cells) 0 length ⌝ }
-    ensures { λ r. ⌜ r ≡ gaps (part (now (cells .entry)) 0 length) ⌝ }
+    ensures { λ r. ⌜ r ≡ gaps (bytesBetween (now (cells .entry)) 0 length) ⌝ }
 {
     let mut i = 0;
     let mut n = 0;
@@ -43,7 +43,7 @@ struct Share {
 // "Lines written for overflow, with adjusting on, share the missing e cells over k gaps."
 fn share_of(cells: &LineBytes, length: usize, room: usize, adjusting: bool) -> Share
     requires { ⌜ Places (now cells) 0 length ⌝ }
-    ensures { λ r. ⌜ spread (r .each) (r .few) (part (now (cells .entry)) 0 length) ≡ adjusted adjusting (lineOf 0 room (now (cells .entry)) length 1) ⌝ }
+    ensures { λ r. ⌜ spread (r .each) (r .few) (bytesBetween (now (cells .entry)) 0 length) ≡ adjusted adjusting (collectedLine 0 room (now (cells .entry)) length 1) ⌝ }
 {
     if adjusting {
         let k = count_gaps(cells, length);
@@ -128,8 +128,8 @@ fn spread_cells(
     row: &mut RowBytes,
     at: usize,
 ) -> usize
-    requires { ⌜ Places (now cells) 0 length × RowRoom (now row) at (spread each few (part (now cells) 0 length)) ⌝ }
-    ensures { λ r. ⌜ Written (now (row .entry)) at (spread each few (part (now (cells .entry)) 0 length)) (now (row .exit)) r ⌝ }
+    requires { ⌜ Places (now cells) 0 length × RowRoom (now row) at (spread each few (bytesBetween (now cells) 0 length)) ⌝ }
+    ensures { λ r. ⌜ Written (now (row .entry)) at (spread each few (bytesBetween (now (cells .entry)) 0 length)) (now (row .exit)) r ⌝ }
 {
     let mut i = 0;
     let mut n = at;
@@ -152,8 +152,8 @@ fn put_row(
     blanks: usize,
     row: &mut RowBytes,
 ) -> usize
-    requires { ⌜ Places (now cells) 0 length × RowRoom (now row) (blanks + 1) (spread each few (part (now cells) 0 length)) ⌝ }
-    ensures { λ r. ⌜ Written (now (row .entry)) 0 (rowOf blanks (spread each few (part (now (cells .entry)) 0 length))) (now (row .exit)) r ⌝ }
+    requires { ⌜ Places (now cells) 0 length × RowRoom (now row) (blanks + 1) (spread each few (bytesBetween (now cells) 0 length)) ⌝ }
+    ensures { λ r. ⌜ Written (now (row .entry)) 0 (rowOf blanks (spread each few (bytesBetween (now (cells .entry)) 0 length))) (now (row .exit)) r ⌝ }
     ensures { λ r. ⌜ r ≤ 872 ⌝ }
 {
     let end = cells_end(cells, length);
@@ -193,8 +193,8 @@ pub fn full_row(
     indent: Cells,
     row: &mut RowBytes,
 ) -> usize
-    requires { ⌜ Line (now cells) length (acrossOf room) × Margins (now row) offset indent ⌝ }
-    ensures { λ r. ⌜ Written (now (row .entry)) 0 (rowOf (acrossOf offset + acrossOf indent) (adjusted adjusting (lineOf (acrossOf indent) (acrossOf room) (now (cells .entry)) length 1))) (now (row .exit)) r ⌝ }
+    requires { ⌜ CollectedInvariant (now cells) length (acrossOf room) × Margins (now row) offset indent ⌝ }
+    ensures { λ r. ⌜ Written (now (row .entry)) 0 (rowOf (acrossOf offset + acrossOf indent) (adjusted adjusting (collectedLine (acrossOf indent) (acrossOf room) (now (cells .entry)) length 1))) (now (row .exit)) r ⌝ }
     ensures { λ r. ⌜ r ≤ 872 ⌝ }
 {
     let blanks = super::words::count(offset) + super::words::count(indent);

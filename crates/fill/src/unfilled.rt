@@ -12,7 +12,7 @@ ghost use Rattle.fill.specs.Collected.Writing.{Written};
 ghost use Prim.Native.Nat.{_+_, _-_, _≤_};
 ghost use Rattle.rules.specs.Filling.{words, width, printed, row as rowOf, left};
 ghost use Rattle.rules.specs.Traps.{blankRows};
-ghost use Rattle.fill.specs.Words.Parts.{part, Places};
+ghost use Rattle.fill.specs.Words.Parts.{bytesBetween, Places};
 ghost use Rattle.fill.specs.Unfilled.Lines.{RowRoom, Margins, oneIf, isBlankByte, TextEnd, standingOf};
 
 // A count of rows as a plain number.
@@ -35,7 +35,7 @@ pub fn spare(count: usize, taken: usize) -> usize
 // "left blanks half the spare room, cut down, none if the line is wider"
 fn left_blanks(line: &LineBytes, at: usize, to: usize, centred: bool, room: usize) -> usize
     requires { ⌜ Places (now line) at to ⌝ }
-    ensures { λ r. ⌜ r ≡ left (oneIf centred) (room - width (part (now (line .entry)) at to)) ⌝ }
+    ensures { λ r. ⌜ r ≡ left (oneIf centred) (room - width (bytesBetween (now (line .entry)) at to)) ⌝ }
 {
     if centred {
         let width = super::words::width_of(line, at, to);
@@ -74,8 +74,8 @@ fn text_end(line: &LineBytes, at: usize, to: usize) -> usize
 
 // Puts a part of a line as a row.
 fn put_text(line: &LineBytes, at: usize, to: usize, blanks: usize, row: &mut RowBytes) -> usize
-    requires { ⌜ Places (now line) at to × RowRoom (now row) (blanks + 1) (printed (part (now line) at to)) ⌝ }
-    ensures { λ r. ⌜ Written (now (row .entry)) 0 (rowOf blanks (printed (part (now (line .entry)) at to))) (now (row .exit)) r ⌝ }
+    requires { ⌜ Places (now line) at to × RowRoom (now row) (blanks + 1) (printed (bytesBetween (now line) at to)) ⌝ }
+    ensures { λ r. ⌜ Written (now (row .entry)) 0 (rowOf blanks (printed (bytesBetween (now (line .entry)) at to))) (now (row .exit)) r ⌝ }
     ensures { λ r. ⌜ r ≤ 872 ⌝ }
 {
     let end = text_end(line, at, to);
@@ -101,7 +101,7 @@ pub fn standing_row(
     row: &mut RowBytes,
 ) -> usize
     requires { ⌜ Places (now line) at to × (acrossOf room ≤ 512) × Margins (now row) offset indent ⌝ }
-    ensures { λ r. ⌜ Written (now (row .entry)) 0 (standingOf (acrossOf offset) (acrossOf indent) (acrossOf room) centred (words (part (now (line .entry)) at to))) (now (row .exit)) r ⌝ }
+    ensures { λ r. ⌜ Written (now (row .entry)) 0 (standingOf (acrossOf offset) (acrossOf indent) (acrossOf room) centred (words (bytesBetween (now (line .entry)) at to))) (now (row .exit)) r ⌝ }
     ensures { λ r. ⌜ r ≤ 872 ⌝ }
 {
     let end = super::words::trim_end(line, at, to);

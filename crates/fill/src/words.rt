@@ -9,8 +9,8 @@ ghost use lib.Dec.{eqb};
 ghost use lib.ListN.{length};
 ghost use Rattle.rules.specs.Bytes.{mark};
 ghost use Rattle.rules.specs.Filling.{words, countIf, leads as leadsOf, trimmed, isStop, gapIf, gapAfter, width};
-ghost use Rattle.fill.specs.Words.Parts.{part, Places};
-ghost use Rattle.fill.specs.Words.Words.{spaces, WordEndIs, nextOf, GoodNext, isNone};
+ghost use Rattle.fill.specs.Words.Parts.{bytesBetween, Places};
+ghost use Rattle.fill.specs.Words.Words.{spaces, WordEndIs, wordsFrom, GoodNext, isNone};
 
 // The place behind a word, and the word's width.
 pub struct WordEnd {
@@ -27,7 +27,7 @@ pub struct WordAt {
 }
 
 // The next word, if there is one.
-pub enum Next {
+pub enum NextWord {
     Found(WordAt),
     Nothing,
 }
@@ -35,7 +35,7 @@ pub enum Next {
 // The bytes of a line from a place up to another.
 pub fn slice(bytes: &[u8], at: usize, to: usize) -> &[u8]
     requires { ⌜ (at ≤ to) × (to ≤ length (now bytes)) ⌝ }
-    ensures { λ r. ⌜ now r ≡ part (now (bytes .entry)) at to ⌝ }
+    ensures { λ r. ⌜ now r ≡ bytesBetween (now (bytes .entry)) at to ⌝ }
 {
     &bytes[at..to]
 }
@@ -43,7 +43,7 @@ pub fn slice(bytes: &[u8], at: usize, to: usize) -> &[u8]
 // The place behind the spaces that lead.
 pub fn skip_spaces(line: &LineBytes, at: usize, to: usize) -> usize
     requires { ⌜ Places (now line) at to ⌝ }
-    ensures { λ r. ⌜ r ≡ at + spaces (part (now (line .entry)) at to) ⌝ }
+    ensures { λ r. ⌜ r ≡ at + spaces (bytesBetween (now (line .entry)) at to) ⌝ }
     ensures { λ r. ⌜ (at ≤ r) × (r ≤ to) ⌝ }
 {
     let mut i = at;
@@ -91,7 +91,7 @@ pub fn word_end(line: &LineBytes, at: usize, to: usize) -> WordEnd
 // The width of a part of a line.
 pub fn width_of(line: &LineBytes, at: usize, to: usize) -> Cells
     requires { ⌜ Places (now line) at to ⌝ }
-    ensures { λ r. ⌜ r ≡ cellsAcross (width (part (now (line .entry)) at to)) ⌝ }
+    ensures { λ r. ⌜ r ≡ cellsAcross (width (bytesBetween (now (line .entry)) at to)) ⌝ }
 {
     let mut i = at;
     let mut n = 0;
@@ -103,18 +103,18 @@ pub fn width_of(line: &LineBytes, at: usize, to: usize) -> Cells
 }
 
 // The first word of a part of a line.
-pub fn next_word(line: &LineBytes, at: usize, to: usize) -> Next
+pub fn next_word(line: &LineBytes, at: usize, to: usize) -> NextWord
     requires { ⌜ Places (now line) at to ⌝ }
-    ensures { λ r. ⌜ nextOf (now (line .entry)) to r ≡ words (part (now (line .entry)) at to) ⌝ }
+    ensures { λ r. ⌜ wordsFrom (now (line .entry)) to r ≡ words (bytesBetween (now (line .entry)) at to) ⌝ }
     ensures { λ r. ⌜ GoodNext (now (line .entry)) at to r ⌝ }
 {
     let from = skip_spaces(line, at, to);
     if from == to {
-        return Next::Nothing;
+        return NextWord::Nothing;
     }
     let end = word_end(line, from, to);
     let width = end.width;
-    Next::Found(WordAt {
+    NextWord::Found(WordAt {
         gap: as_cells(from - at),
         from,
         to: end.to,
@@ -125,7 +125,7 @@ pub fn next_word(line: &LineBytes, at: usize, to: usize) -> Next
 // "A line that, as expanded, has no bytes or only spaces"
 pub fn is_blank(line: &LineBytes, at: usize, to: usize) -> bool
     requires { ⌜ Places (now line) at to ⌝ }
-    ensures { λ r. ⌜ r ≡ isNone (words (part (now (line .entry)) at to)) ⌝ }
+    ensures { λ r. ⌜ r ≡ isNone (words (bytesBetween (now (line .entry)) at to)) ⌝ }
 {
     skip_spaces(line, at, to) == to
 }
@@ -133,7 +133,7 @@ pub fn is_blank(line: &LineBytes, at: usize, to: usize) -> bool
 // "Leading spaces break": whether there are any before a word.
 pub fn leads(line: &LineBytes, at: usize, to: usize) -> bool
     requires { ⌜ Places (now line) at to ⌝ }
-    ensures { λ r. ⌜ r ≡ leadsOf (words (part (now (line .entry)) at to)) ⌝ }
+    ensures { λ r. ⌜ r ≡ leadsOf (words (bytesBetween (now (line .entry)) at to)) ⌝ }
 {
     let from = skip_spaces(line, at, to);
     if from == to {
@@ -145,7 +145,7 @@ pub fn leads(line: &LineBytes, at: usize, to: usize) -> bool
 // The place behind the last byte that is no space: "trailing spaces are dropped".
 pub fn trim_end(line: &LineBytes, at: usize, to: usize) -> usize
     requires { ⌜ Places (now line) at to ⌝ }
-    ensures { λ r. ⌜ part (now (line .entry)) at r ≡ trimmed (part (now (line .entry)) at to) ⌝ }
+    ensures { λ r. ⌜ bytesBetween (now (line .entry)) at r ≡ trimmed (bytesBetween (now (line .entry)) at to) ⌝ }
     ensures { λ r. ⌜ (at ≤ r) × (r ≤ to) ⌝ }
 {
     let mut i = to;
@@ -178,7 +178,7 @@ fn gap_behind(byte: u8) -> Cells
 // The gap that a line's ending asks for.
 pub fn gap_after(line: &LineBytes, at: usize, to: usize) -> Cells
     requires { ⌜ Places (now line) at to ⌝ }
-    ensures { λ r. ⌜ r ≡ cellsAcross (gapAfter (words (part (now (line .entry)) at to))) ⌝ }
+    ensures { λ r. ⌜ r ≡ cellsAcross (gapAfter (words (bytesBetween (now (line .entry)) at to))) ⌝ }
     ensures { λ r. ⌜ acrossOf r ≤ 2 ⌝ }
 {
     let end = trim_end(line, at, to);

@@ -12,15 +12,15 @@ use rules::arrays::StackBytes;
 use rules::arrays::StackEnds;
 use settings::layout::Printer;
 use state::Status;
-use state::Step;
+use state::WorkOutcome;
 use state::moved;
 use state::stay;
 ghost use mathlib.Core.Bool.{true};
 ghost use lib.ListN.{take};
 ghost use Rattle.settings.specs.Layout.Layouts.{printerOf};
-ghost use Rattle.state.specs.Whole.{Whole, Did};
-ghost use Rattle.state.specs.Statuses.{wholeOf, Begins};
-ghost use Rattle.formatter.specs.StoredLines.Works.{resumed, ReadyItem, ReadyTaken, WorkedTo};
+ghost use Rattle.state.specs.Whole.{WholeState, StateRefines};
+ghost use Rattle.state.specs.Statuses.{wholeOf, StateReady};
+ghost use Rattle.formatter.specs.StoredLines.Works.{resumed, ItemReady, TakenReady, StepRefines};
 ghost use mathlib.Core.Path.{_≡_};
 
 // An item that is no text, taken off the stack: an expanded line, words, a request after its break, or a bp.
@@ -43,11 +43,11 @@ fn resume(
     seconds: &mut ByteColumn,
     values: &mut NumberColumn,
     steps: &mut NumberColumn,
-) -> Step
-    ghost { Whole }
+) -> WorkOutcome
+    ghost { WholeState }
     requires { λ q. ⌜ wholeOf status (now cells) (now arena) (now ends) (now store) (now «text_firsts») (now «text_seconds») (now kinds) (now lengths) (now firsts) (now seconds) (now values) (now steps) ≡ q ⌝ }
-    requires { λ q. ⌜ Begins q (now line) (now row) printer × ReadyItem what (now line) size (status .opening .there) ⌝ }
-    ensures { λ q r. ⌜ Did (resumed (printerOf printer) what (take size (now (line .entry)))) q (r .way) (r .written) (wholeOf (r .status) (now (cells .exit)) (now (arena .exit)) (now (ends .exit)) (now (store .exit)) (now («text_firsts» .exit)) (now («text_seconds» .exit)) (now (kinds .exit)) (now (lengths .exit)) (now (firsts .exit)) (now (seconds .exit)) (now (values .exit)) (now (steps .exit))) (now (row .exit)) ⌝ }
+    requires { λ q. ⌜ StateReady q (now line) (now row) printer × ItemReady what (now line) size (status .opening .there) ⌝ }
+    ensures { λ q r. ⌜ StateRefines (resumed (printerOf printer) what (take size (now (line .entry)))) q (r .way) (r .written) (wholeOf (r .status) (now (cells .exit)) (now (arena .exit)) (now (ends .exit)) (now (store .exit)) (now («text_firsts» .exit)) (now («text_seconds» .exit)) (now (kinds .exit)) (now (lengths .exit)) (now (firsts .exit)) (now (seconds .exit)) (now (values .exit)) (now (steps .exit))) (now (row .exit)) ⌝ }
 {
     let layout = status.layout;
     let page = status.page;
@@ -194,10 +194,10 @@ pub fn take_item(
     values: &mut NumberColumn,
     steps: &mut NumberColumn,
 ) -> Performed
-    ghost { Whole }
+    ghost { WholeState }
     requires { λ q. ⌜ wholeOf status (now cells) (now arena) (now ends) (now store) (now «text_firsts») (now «text_seconds») (now kinds) (now lengths) (now firsts) (now seconds) (now values) (now steps) ≡ q ⌝ }
-    requires { λ q. ⌜ ReadyTaken q stored (now row) printer what ⌝ }
-    ensures { λ q r. ⌜ WorkedTo (printerOf printer) q stored (r .way) (r .written) (wholeOf (r .status) (now (cells .exit)) (now (arena .exit)) (now (ends .exit)) (now (store .exit)) (now («text_firsts» .exit)) (now («text_seconds» .exit)) (now (kinds .exit)) (now (lengths .exit)) (now (firsts .exit)) (now (seconds .exit)) (now (values .exit)) (now (steps .exit))) (r .stored) (now (row .exit)) ⌝ }
+    requires { λ q. ⌜ TakenReady q stored (now row) printer what ⌝ }
+    ensures { λ q r. ⌜ StepRefines (printerOf printer) q stored (r .way) (r .written) (wholeOf (r .status) (now (cells .exit)) (now (arena .exit)) (now (ends .exit)) (now (store .exit)) (now («text_firsts» .exit)) (now («text_seconds» .exit)) (now (kinds .exit)) (now (lengths .exit)) (now (firsts .exit)) (now (seconds .exit)) (now (values .exit)) (now (steps .exit))) (r .stored) (now (row .exit)) ⌝ }
 {
     let stack = status.stack;
     let mut line = [0u8; LINE_SIZE];

@@ -3,7 +3,7 @@ pub mod held_items;
 pub mod stored_lines;
 pub mod stored_text;
 
-use composition::page_rows::Outcome;
+use composition::page_rows::PageOutcome;
 use input_stack::frames::What;
 use page::springs::Way;
 use rules::arrays::ARGUMENT_COUNT;
@@ -17,7 +17,7 @@ use rules::arrays::StackBytes;
 use rules::arrays::StackEnds;
 use settings::layout::Printer;
 use state::Status;
-use state::Step;
+use state::WorkOutcome;
 use state::moved;
 use state::stay;
 use stored_lines::Performed;
@@ -26,11 +26,11 @@ ghost use mathlib.Core.List.{[]};
 ghost use Rattle.rules.specs.ControlLines as rules;
 ghost use Rattle.rules.specs.Session.{workEnd};
 ghost use Rattle.settings.specs.Layout.Layouts.{printerOf};
-ghost use Rattle.composition.specs.PageRows.Desk as sheet;
-ghost use Rattle.composition.specs.PageRows.Desk.{Desk, desk, Worked};
-ghost use Rattle.state.specs.Whole.{Whole, Did};
-ghost use Rattle.state.specs.Statuses.{wholeOf, Begins};
-ghost use Rattle.formatter.specs.StoredLines.Works.{ReadyWork, WorkedTo};
+ghost use Rattle.composition.specs.PageRows.PageState as page-state;
+ghost use Rattle.composition.specs.PageRows.PageState.{PageState, pageState, PageRefines};
+ghost use Rattle.state.specs.Whole.{WholeState, StateRefines};
+ghost use Rattle.state.specs.Statuses.{wholeOf, StateReady};
+ghost use Rattle.formatter.specs.StoredLines.Works.{StepReady, StepRefines};
 ghost use mathlib.Core.Path.{_≡_};
 
 // A source line, as it was taken.
@@ -51,11 +51,11 @@ pub fn deal(
     seconds: &mut ByteColumn,
     values: &mut NumberColumn,
     steps: &mut NumberColumn,
-) -> Step
-    ghost { Whole }
+) -> WorkOutcome
+    ghost { WholeState }
     requires { λ q. ⌜ wholeOf status (now cells) (now arena) (now ends) (now store) (now «text_firsts») (now «text_seconds») (now kinds) (now lengths) (now firsts) (now seconds) (now values) (now steps) ≡ q ⌝ }
-    requires { λ q. ⌜ Begins q (now line) (now row) printer ⌝ }
-    ensures { λ q r. ⌜ Did (λ s. rules.deal (printerOf printer) [] (now (line .entry)) s) q (r .way) (r .written) (wholeOf (r .status) (now (cells .exit)) (now (arena .exit)) (now (ends .exit)) (now (store .exit)) (now («text_firsts» .exit)) (now («text_seconds» .exit)) (now (kinds .exit)) (now (lengths .exit)) (now (firsts .exit)) (now (seconds .exit)) (now (values .exit)) (now (steps .exit))) (now (row .exit)) ⌝ }
+    requires { λ q. ⌜ StateReady q (now line) (now row) printer ⌝ }
+    ensures { λ q r. ⌜ StateRefines (λ s. rules.deal (printerOf printer) [] (now (line .entry)) s) q (r .way) (r .written) (wholeOf (r .status) (now (cells .exit)) (now (arena .exit)) (now (ends .exit)) (now (store .exit)) (now («text_firsts» .exit)) (now («text_seconds» .exit)) (now (kinds .exit)) (now (lengths .exit)) (now (firsts .exit)) (now (seconds .exit)) (now (values .exit)) (now (steps .exit))) (now (row .exit)) ⌝ }
 {
     let layout = status.layout;
     let page = status.page;
@@ -115,11 +115,11 @@ fn work_end(
     ends: &mut StackEnds,
     text_firsts: &ByteColumn,
     text_seconds: &ByteColumn,
-) -> Outcome
-    ghost { Desk }
-    requires { λ q. ⌜ desk (status .layout) (status .page) (status .collected) (now cells) (status .stack) (now arena) (now ends) ≡ q ⌝ }
-    requires { λ q. ⌜ sheet.Begins (status .planted) q [] (now row) (now «text_firsts») (now «text_seconds») (status .texts) ⌝ }
-    ensures { λ q r. ⌜ Worked (λ ts s. workEnd (s .page .last) s) (now («text_firsts» .entry)) (now («text_seconds» .entry)) (status .texts) (status .planted) q (r .way) (r .written) (desk (r .layout) (r .page) (r .collected) (now (cells .entry)) (r .stack) (now (arena .exit)) (now (ends .exit))) (now (row .exit)) ⌝ }
+) -> PageOutcome
+    ghost { PageState }
+    requires { λ q. ⌜ pageState (status .layout) (status .page) (status .collected) (now cells) (status .stack) (now arena) (now ends) ≡ q ⌝ }
+    requires { λ q. ⌜ page-state.PageReady (status .planted) q [] (now row) (now «text_firsts») (now «text_seconds») (status .texts) ⌝ }
+    ensures { λ q r. ⌜ PageRefines (λ ts s. workEnd (s .page .last) s) (now («text_firsts» .entry)) (now («text_seconds» .entry)) (status .texts) (status .planted) q (r .way) (r .written) (pageState (r .layout) (r .page) (r .collected) (now (cells .entry)) (r .stack) (now (arena .exit)) (now (ends .exit))) (now (row .exit)) ⌝ }
 {
     let layout = status.layout;
     let page = status.page;
@@ -177,10 +177,10 @@ pub fn work(
     values: &mut NumberColumn,
     steps: &mut NumberColumn,
 ) -> Performed
-    ghost { Whole }
+    ghost { WholeState }
     requires { λ q. ⌜ wholeOf status (now cells) (now arena) (now ends) (now store) (now «text_firsts») (now «text_seconds») (now kinds) (now lengths) (now firsts) (now seconds) (now values) (now steps) ≡ q ⌝ }
-    requires { λ q. ⌜ ReadyWork q stored (now row) printer ⌝ }
-    ensures { λ q r. ⌜ WorkedTo (printerOf printer) q stored (r .way) (r .written) (wholeOf (r .status) (now (cells .exit)) (now (arena .exit)) (now (ends .exit)) (now (store .exit)) (now («text_firsts» .exit)) (now («text_seconds» .exit)) (now (kinds .exit)) (now (lengths .exit)) (now (firsts .exit)) (now (seconds .exit)) (now (values .exit)) (now (steps .exit))) (r .stored) (now (row .exit)) ⌝ }
+    requires { λ q. ⌜ StepReady q stored (now row) printer ⌝ }
+    ensures { λ q r. ⌜ StepRefines (printerOf printer) q stored (r .way) (r .written) (wholeOf (r .status) (now (cells .exit)) (now (arena .exit)) (now (ends .exit)) (now (store .exit)) (now («text_firsts» .exit)) (now («text_seconds» .exit)) (now (kinds .exit)) (now (lengths .exit)) (now (firsts .exit)) (now (seconds .exit)) (now (values .exit)) (now (steps .exit))) (r .stored) (now (row .exit)) ⌝ }
 {
     let stack = status.stack;
     let opening = status.opening;

@@ -14,7 +14,7 @@ use rules::arrays::StackBytes;
 use rules::arrays::StackEnds;
 use settings::layout::Printer;
 use state::Status;
-use state::Step;
+use state::WorkOutcome;
 use state::stay;
 use texts::lines::Top;
 ghost use mathlib.Core.List.{[]};
@@ -24,9 +24,9 @@ ghost use Rattle.scan.specs.Arguments.Around.{argumentsOf, Arguments};
 ghost use Rattle.texts.specs.Lines.Lines.{nextLine, TopInside};
 ghost use Rattle.settings.specs.Layout.Layouts.{printerOf};
 ghost use Rattle.input_stack.specs.Stack.Frames.{topBytes, topEnds, Topped};
-ghost use Rattle.state.specs.Whole.{Whole, Did};
-ghost use Rattle.state.specs.Statuses.{wholeOf, Begins};
-ghost use Rattle.formatter.specs.StoredLines.Works.{ReadyText, WorkedTo};
+ghost use Rattle.state.specs.Whole.{WholeState, StateRefines};
+ghost use Rattle.state.specs.Statuses.{wholeOf, StateReady};
+ghost use Rattle.formatter.specs.StoredLines.Works.{TextReady, StepRefines};
 ghost use mathlib.Core.Path.{_≡_};
 
 // A line of the text on top of the stack, with the arguments of its call.
@@ -48,11 +48,11 @@ fn deal_stored(
     seconds: &mut ByteColumn,
     values: &mut NumberColumn,
     steps: &mut NumberColumn,
-) -> Step
-    ghost { Whole }
+) -> WorkOutcome
+    ghost { WholeState }
     requires { λ q. ⌜ wholeOf status (now cells) (now arena) (now ends) (now store) (now «text_firsts») (now «text_seconds») (now kinds) (now lengths) (now firsts) (now seconds) (now values) (now steps) ≡ q ⌝ }
-    requires { λ q. ⌜ Begins q [] (now row) printer × TopInside [] (now store) top × Topped (status .stack) (now ends) × Arguments (topBytes (status .stack) (now arena) (now ends)) (topEnds (status .stack) (now ends)) count ⌝ }
-    ensures { λ q r. ⌜ Did (λ s. rules.deal (printerOf printer) (argumentsOf (topBytes (status .stack) (now (arena .entry)) (now (ends .entry))) (topEnds (status .stack) (now (ends .entry))) count) (nextLine [] (now (store .entry)) top) s) q (r .way) (r .written) (wholeOf (r .status) (now (cells .exit)) (now (arena .exit)) (now (ends .exit)) (now (store .exit)) (now («text_firsts» .exit)) (now («text_seconds» .exit)) (now (kinds .exit)) (now (lengths .exit)) (now (firsts .exit)) (now (seconds .exit)) (now (values .exit)) (now (steps .exit))) (now (row .exit)) ⌝ }
+    requires { λ q. ⌜ StateReady q [] (now row) printer × TopInside [] (now store) top × Topped (status .stack) (now ends) × Arguments (topBytes (status .stack) (now arena) (now ends)) (topEnds (status .stack) (now ends)) count ⌝ }
+    ensures { λ q r. ⌜ StateRefines (λ s. rules.deal (printerOf printer) (argumentsOf (topBytes (status .stack) (now (arena .entry)) (now (ends .entry))) (topEnds (status .stack) (now (ends .entry))) count) (nextLine [] (now (store .entry)) top) s) q (r .way) (r .written) (wholeOf (r .status) (now (cells .exit)) (now (arena .exit)) (now (ends .exit)) (now (store .exit)) (now («text_firsts» .exit)) (now («text_seconds» .exit)) (now (kinds .exit)) (now (lengths .exit)) (now (firsts .exit)) (now (seconds .exit)) (now (values .exit)) (now (steps .exit))) (now (row .exit)) ⌝ }
 {
     let layout = status.layout;
     let page = status.page;
@@ -128,10 +128,10 @@ pub fn read_text(
     values: &mut NumberColumn,
     steps: &mut NumberColumn,
 ) -> Performed
-    ghost { Whole }
+    ghost { WholeState }
     requires { λ q. ⌜ wholeOf status (now cells) (now arena) (now ends) (now store) (now «text_firsts») (now «text_seconds») (now kinds) (now lengths) (now firsts) (now seconds) (now values) (now steps) ≡ q ⌝ }
-    requires { λ q. ⌜ ReadyText q stored (now row) printer name place count ⌝ }
-    ensures { λ q r. ⌜ WorkedTo (printerOf printer) q stored (r .way) (r .written) (wholeOf (r .status) (now (cells .exit)) (now (arena .exit)) (now (ends .exit)) (now (store .exit)) (now («text_firsts» .exit)) (now («text_seconds» .exit)) (now (kinds .exit)) (now (lengths .exit)) (now (firsts .exit)) (now (seconds .exit)) (now (values .exit)) (now (steps .exit))) (r .stored) (now (row .exit)) ⌝ }
+    requires { λ q. ⌜ TextReady q stored (now row) printer name place count ⌝ }
+    ensures { λ q r. ⌜ StepRefines (printerOf printer) q stored (r .way) (r .written) (wholeOf (r .status) (now (cells .exit)) (now (arena .exit)) (now (ends .exit)) (now (store .exit)) (now («text_firsts» .exit)) (now («text_seconds» .exit)) (now (kinds .exit)) (now (lengths .exit)) (now (firsts .exit)) (now (seconds .exit)) (now (values .exit)) (now (steps .exit))) (r .stored) (now (row .exit)) ⌝ }
 {
     let stack = status.stack;
     let found = texts::table::look_up(

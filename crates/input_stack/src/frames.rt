@@ -4,7 +4,7 @@ use rules::LineSetting;
 use rules::Name;
 ghost use mathlib.Core.Path.{_≡_};
 ghost use Prim.Native.Nat.{_+_, _-_, _*_, _<_};
-ghost use Rattle.input_stack.specs.Frames.Words.{settingNumber, numberOf, requestOf, nameWord, nameIn, periodOf, words, wordsOf, whatIn, whatOf};
+ghost use Rattle.input_stack.specs.Frames.Words.{settingNumber, requestNumber, requestBy, nameWord, nameIn, periodOf, frameWords, itemWords, whatIn, whatOf};
 
 // What an item of the input stack is, beside its bytes.
 pub enum What {
@@ -46,7 +46,7 @@ fn setting_number(request: LineSetting) -> u8
 
 // The number by which a request is held.
 fn number_of(request: Breaking) -> u8
-    ensures { λ r. ⌜ r ≡ numberOf request ⌝ }
+    ensures { λ r. ⌜ r ≡ requestNumber request ⌝ }
 {
     match request {
         Breaking::Br => 0,
@@ -58,7 +58,7 @@ fn number_of(request: Breaking) -> u8
 
 // The request of a number; a number that is none of theirs counts as the last.
 fn request_of(number: u8) -> Breaking
-    ensures { λ r. ⌜ r ≡ requestOf number ⌝ }
+    ensures { λ r. ⌜ r ≡ requestBy number ⌝ }
 {
     match number {
         0 => Breaking::Br,
@@ -104,7 +104,7 @@ fn period_word(period: bool) -> u16
 
 // The words of an item that has no name, place or page.
 fn alone(first: u16) -> Words
-    ensures { λ r. ⌜ r ≡ words first 0 0 ⌝ }
+    ensures { λ r. ⌜ r ≡ frameWords first 0 0 ⌝ }
 {
     Words {
         first,
@@ -115,7 +115,7 @@ fn alone(first: u16) -> Words
 
 // The words of an item.
 pub fn words_of(what: What) -> Words
-    ensures { λ r. ⌜ (r ≡ wordsOf what) × (whatIn r ≡ what) ⌝ }
+    ensures { λ r. ⌜ (r ≡ itemWords what) × (whatIn r ≡ what) ⌝ }
 {
     match what {
         What::Reading(name, place, count) => Words {

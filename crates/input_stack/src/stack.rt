@@ -12,8 +12,8 @@ ghost use mathlib.Core.Path.{_≡_};
 ghost use Prim.Native.Nat.{_+_, _-_, _*_, _≤_, _<_};
 ghost use lib.ListN.{length};
 ghost use lib.Seq.{paste};
-ghost use Rattle.input_stack.specs.Frames.Words.{words, wordsOf, whatIn};
-ghost use Rattle.input_stack.specs.Stack.Frames.{noFrames, entryAt, entered, Columns, Topped, PushedTo, LoadedTo, topEntry, topBytes, topEnds, below, placedAt, isCalled, calledTo};
+ghost use Rattle.input_stack.specs.Frames.Words.{frameWords, itemWords, whatIn};
+ghost use Rattle.input_stack.specs.Stack.Frames.{noFrames, entryAt, entered, StackInvariant, Topped, PushedTo, LoadedTo, topEntry, topBytes, topEnds, popped, placedAt, isCalled, calledBelow};
 
 // What a frame is, and how many bytes it has.
 pub struct Entry {
@@ -48,7 +48,7 @@ fn put_ends(all: &mut StackEnds, at: usize, ends: &ArgumentEnds)
 // What a frame is, and how many bytes it has, in its first four words.
 fn put_entry(all: &mut StackEnds, at: usize, what: What, size: u16)
     requires { ⌜ at + 4 ≤ 221 ⌝ }
-    ensures { λ _. ⌜ (now (all .exit) ≡ entered (now (all .entry)) at (wordsOf what) size) × (whatIn (wordsOf what) ≡ what) ⌝ }
+    ensures { λ _. ⌜ (now (all .exit) ≡ entered (now (all .entry)) at (itemWords what) size) × (whatIn (itemWords what) ≡ what) ⌝ }
 {
     let words = super::frames::words_of(what);
     all[at] = words.first;
@@ -66,7 +66,7 @@ pub fn push(
     bytes: &[u8],
     given: &ArgumentEnds,
 ) -> Stack
-    requires { ⌜ Columns stack (now arena) (now ends) × (stack .depth < 17) × (length (now bytes) ≤ 512) × (length (now given) ≡ 9) ⌝ }
+    requires { ⌜ StackInvariant stack (now arena) (now ends) × (stack .depth < 17) × (length (now bytes) ≤ 512) × (length (now given) ≡ 9) ⌝ }
     ensures { λ r. ⌜ PushedTo stack (now (arena .entry)) (now (ends .entry)) what (now (bytes .entry)) (now (given .entry)) r (now (arena .exit)) (now (ends .exit)) ⌝ }
 {
     let depth = stack.depth;
@@ -143,7 +143,7 @@ pub fn load_ends(stack: Stack, ends: &StackEnds, out: &mut ArgumentEnds)
 // The stack without the frame on top.
 pub fn pop(stack: Stack) -> Stack
     requires { ⌜ 0 < stack .depth ⌝ }
-    ensures { λ r. ⌜ r ≡ below stack ⌝ }
+    ensures { λ r. ⌜ r ≡ popped stack ⌝ }
 {
     Stack {
         depth: stack.depth - 1,
@@ -180,7 +180,7 @@ fn is_called(what: What, name: Name) -> bool
 // Whether a text of this name lies on the stack.
 pub fn is_on_stack(stack: Stack, ends: &StackEnds, name: Name) -> bool
     requires { ⌜ stack .depth ≤ 17 ⌝ }
-    ensures { λ r. ⌜ r ≡ calledTo name (now (ends .entry)) (stack .depth) ⌝ }
+    ensures { λ r. ⌜ r ≡ calledBelow name (now (ends .entry)) (stack .depth) ⌝ }
 {
     let mut i = stack.depth;
     while 0 < i {

@@ -5,12 +5,12 @@ use Prim.Native.Nat.{ℕ}
 use Rattle.rules.specs.declared.Name.{Name}
 use Rattle.rules.specs.Names.{Named, one, tooLong}
 use Rattle.rules.specs.Refusals.{Judged, value, bad, judge, _>>=_}
-use Rattle.rules.specs.Laws.Refusals.{Every, here, refused}
+use Rattle.rules.specs.Laws.Refusals.{Every, everyValue, everyRefused}
 use Rattle.rules.specs.Settings.{Layout}
 use Rattle.rules.specs.State.{State}
 use Rattle.rules.specs.StateSetters.{withLayout}
 use Rattle.rules.specs.Rows.{Next}
-use Rattle.rules.specs.Acts.{given, settles, laidOut, onName}
+use Rattle.rules.specs.Acts.{onValue, settles, laidOut, onName}
 use Rattle.limits.specs.Within.{Refusal, Within, Keeps}
 use Rattle.limits.specs.Parts.{is-7, refuse-kept}
 use Rattle.limits.specs.Numbered.{Numbered}
@@ -22,8 +22,8 @@ pub data Fair {A : Type 0} (P : A → Type 0) : Judged A → Type 0 where
 
 -- of a value whose refusal is numbered
 pub fair : {A : Type 0} {P : A → Type 0} {j : Judged A} → Every P j → Numbered j → Fair P j
-fair (here h) n = fine h
-fair refused n = refusal n
+fair (everyValue h) n = fine h
+fair everyRefused n = refusal n
 
 -- of any value whose refusal is numbered
 pub fair-any : {A : Type 0} (j : Judged A) → Numbered j → Fair (λ (a : A). Unit) j
@@ -46,7 +46,7 @@ fair-given (value a) n f = fine (f a refl)
 fair-given (bad k) n f = refusal n
 
 -- on with a value, or a refusal
-pub given-kept : {A : Type 0} {P : A → Type 0} {j : Judged A} (s : State) (k : A → Next) → Within s → Fair P j → ((a : A) → P a → Keeps (k a)) → Keeps (given j s k)
+pub given-kept : {A : Type 0} {P : A → Type 0} {j : Judged A} (s : State) (k : A → Next) → Within s → Fair P j → ((a : A) → P a → Keeps (k a)) → Keeps (onValue j s k)
 given-kept s k h (fine {a = a} i) f = f a i
 given-kept s k h (refusal {n = n} r) f = refuse-kept s n r h
 
@@ -62,6 +62,6 @@ laid-kept s h (refusal {n = n} r) = refuse-kept s n r h
 
 -- a request on a name
 pub name-kept : (m : Named) (s : State) (f : Name → Judged State) → Within s → ((n : Name) → Fair Within (f n)) → Fair Within (onName m s f)
-name-kept Named.none s f h k = fine h
+name-kept Named.noName s f h k = fine h
 name-kept tooLong s f h k = refusal is-7
 name-kept (one n) s f h k = k n

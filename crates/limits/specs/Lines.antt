@@ -15,23 +15,23 @@ use Rattle.rules.specs.Printers.{Printer}
 use Rattle.rules.specs.Laws.Registers.{BoundedTable}
 use Rattle.rules.specs.Texts.{Text, keepLineIn, keepLine, closeMacro}
 use Rattle.rules.specs.Laws.Texts.{distinct-close}
-use Rattle.rules.specs.Escapes.{Surroundings, Scanned, scanned, refused}
+use Rattle.rules.specs.Escapes.{Surroundings, Scanned, scanned, scanRefused}
 use Rattle.rules.specs.Laws.Escapes.{registersAfter}
 use Rattle.rules.specs.Arguments.{arguments}
 use Rattle.rules.specs.Filling.{Collected}
 use Rattle.rules.specs.Requests.{traits, startsPage, modeOf}
 use Rattle.rules.specs.Lines.{lineOf, isClosing}
-use Rattle.rules.specs.State.{State, Line, text, control, ignored, again, acts, Definition, seen}
+use Rattle.rules.specs.State.{State, Line, plainText, control, ignored, again, acts, Definition, seen}
 use Rattle.rules.specs.StateSetters.{withRegisters, withOpened}
 use Rattle.rules.specs.Rows.{Next, goes}
 use Rattle.rules.specs.TextLines.{textLine}
-use Rattle.rules.specs.ControlLines.{Meaning, calls, requests, nothing, meaningOf, heldAfter, heldFirst, prefixOf, onScan, breakOrAct, startOrBreak, obey, dealAgain, expand, controlLine, freshLine, keepBody, bodyLine, dealFrom, deal}
+use Rattle.rules.specs.ControlLines.{Meaning, calls, meansRequest, nothing, meaningOf, heldAfter, heldFirst, prefixOf, onScan, breakOrAct, startOrBreak, obey, dealAgain, expand, controlLine, freshLine, keepBody, bodyLine, dealFrom, deal}
 use Rattle.limits.specs.Within.{Gone, OverText, Within, Keeps}
 use Rattle.limits.specs.Parts.{is-11, next-over, over-next, registers-kept, opened-kept, refuse-kept}
 use Rattle.limits.specs.Numbered.{Numbered, judge-numbered}
 use Rattle.limits.specs.Fair.{fair-any, given-kept, settles-kept}
-use Rattle.limits.specs.Expansion.{NumberedScan, scan-numbered, scan-bounded}
-use Rattle.limits.specs.Rows.{Ready, hold-none, hold-if, call-kept, startPage-kept, break-kept}
+use Rattle.limits.specs.Expansion.{NumberedScan, scan-numbered, expansion-bounded}
+use Rattle.limits.specs.Rows.{LineReady, hold-none, hold-if, call-kept, startPage-kept, break-kept}
 use Rattle.limits.specs.TextLines.{text-kept}
 use Rattle.limits.specs.Texts.{defines-kept}
 use Rattle.limits.specs.Requests.{change-kept, decide-kept, lay-kept, act-kept}
@@ -40,36 +40,36 @@ use Rattle.limits.specs.Requests.{change-kept, decide-kept, lay-kept, ac
 scan-kept : (x : Scanned) (s : State) (k : List ℕ → State → Next) → Within s → NumberedScan x → BoundedTable (registersAfter x)
     → ((l : List ℕ) (rs : List Register) → BoundedTable rs → Keeps (k l (withRegisters rs s))) → Keeps (onScan x s k)
 scan-kept (scanned l rs) s k h r b f = f l rs b
-scan-kept (refused n rs) s k h r b f = refuse-kept (withRegisters rs s) n r (registers-kept s h rs b)
+scan-kept (scanRefused n rs) s k h r b f = refuse-kept (withRegisters rs s) n r (registers-kept s h rs b)
 
 keep-numbered : (ts : List Text) (body l : List ℕ) → Numbered (keepLine ts body l)
 unfolding keepLineIn
 keep-numbered ts body l = search (judge-numbered, is-11)
 
 module _ (p : Printer) where
-  break-or-act-kept : (q : Bool) (c : Option Collected) (r : Breaking) (l : List ℕ) (s : State) → Ready s → Keeps (breakOrAct p q c r l s)
+  break-or-act-kept : (q : Bool) (c : Option Collected) (r : Breaking) (l : List ℕ) (s : State) → LineReady s → Keeps (breakOrAct p q c r l s)
   break-or-act-kept true (some c) r l s h = break-kept c (heldAfter r l) s (hold-if (traits r .acts) (acts r l) s tt h)
   break-or-act-kept true none r l s h = act-kept p r l s h
   break-or-act-kept false c r l s h = act-kept p r l s h
 
-  start-or-break-kept : (t q : Bool) (r : Breaking) (n : Name) (l : List ℕ) (s : State) → Ready s → Keeps (startOrBreak p t q r n l s)
+  start-or-break-kept : (t q : Bool) (r : Breaking) (n : Name) (l : List ℕ) (s : State) → LineReady s → Keeps (startOrBreak p t q r n l s)
   start-or-break-kept true q r n l s h = startPage-kept (heldFirst r (control q n l)) s (hold-if (traits r .again) (again (control q n l)) s tt h)
   start-or-break-kept false q r n l s h = break-or-act-kept q (s .collected) r l s h
 
-  obey-kept : (x : Meaning) (i q : Bool) (n : Name) (l : List ℕ) (s : State) → Ready s → Keeps (obey p x i q n l s)
+  obey-kept : (x : Meaning) (i q : Bool) (n : Name) (l : List ℕ) (s : State) → LineReady s → Keeps (obey p x i q n l s)
   obey-kept nothing i q n l s h = h .0
   obey-kept (calls t) i q n l s h = call-kept t (arguments l) [] s (hold-none s (h .0))
-  obey-kept (requests (Breaks r)) i q n l s h = start-or-break-kept (eqb (s .page .number) 0 && startsPage q r) q r n l s h
-  obey-kept (requests (Lays r)) i q n l s h = lay-kept p r l s (h .0)
-  obey-kept (requests (Changes r)) i q n l s h = settles-kept s (h .0) (change-kept p r l s h)
-  obey-kept (requests Ds) i q n l s h = settles-kept s (h .0) (defines-kept s h i l)
-  obey-kept (requests If) i q n l s h = settles-kept s (h .0) (decide-kept p l s h)
+  obey-kept (meansRequest (Breaks r)) i q n l s h = start-or-break-kept (eqb (s .page .number) 0 && startsPage q r) q r n l s h
+  obey-kept (meansRequest (Lays r)) i q n l s h = lay-kept p r l s (h .0)
+  obey-kept (meansRequest (Changes r)) i q n l s h = settles-kept s (h .0) (change-kept p r l s h)
+  obey-kept (meansRequest Ds) i q n l s h = settles-kept s (h .0) (defines-kept s h i l)
+  obey-kept (meansRequest If) i q n l s h = settles-kept s (h .0) (decide-kept p l s h)
 
   -- a line that is expanded
-  pub again-kept : (x : Line) (s : State) → Ready s → Keeps (dealAgain p x s)
+  pub again-kept : (x : Line) (s : State) → LineReady s → Keeps (dealAgain p x s)
   unfolding dealAgain
   again-kept ignored s h = h .0
-  again-kept (text l) s h = text-kept l s h
+  again-kept (plainText l) s h = text-kept l s h
   again-kept (control q n l) s h = obey-kept (meaningOf n s) true q n l s h
 
   -- its expansion: whatever is in force, registers stay within their bounds
@@ -77,20 +77,20 @@ module _ (p : Printer) where
       → ((e : List ℕ) (rs : List Register) → BoundedTable rs → Keeps (k e (withRegisters rs s))) → Keeps (onScan (expand p args m j l s) s k)
   expand-kept args m j l s k h f =
       let w : Surroundings = record { seen = seen p s; texts = s .tables .texts; arguments = args } in
-      scan-kept (expand p args m j l s) s k h (scan-numbered w m (s .tables .registers) j l) (scan-bounded w m (s .tables .registers) j l (h .registers)) f
+      scan-kept (expand p args m j l s) s k h (scan-numbered w m (s .tables .registers) j l) (expansion-bounded w m (s .tables .registers) j l (h .registers)) f
 
-  control-kept : (x : Meaning) (args : List (List ℕ)) (q : Bool) (n : Name) (l : List ℕ) (s : State) → Ready s → Keeps (controlLine p x args q n l s)
+  control-kept : (x : Meaning) (args : List (List ℕ)) (q : Bool) (n : Name) (l : List ℕ) (s : State) → LineReady s → Keeps (controlLine p x args q n l s)
   control-kept nothing args q n l s h = h .0
   control-kept (calls t) args q n l s h =
       expand-kept args Plain (prefixOf n) l s (obey p (calls t) false q n) (h .0)
       (λ e rs b. obey-kept (calls t) false q n e (withRegisters rs s) (registers-kept s (h .0) rs b, h .1, h .2))
-  control-kept (requests r) args q n l s h =
-      expand-kept args (modeOf r) (prefixOf n) l s (obey p (requests r) false q n) (h .0)
-      (λ e rs b. obey-kept (requests r) false q n e (withRegisters rs s) (registers-kept s (h .0) rs b, h .1, h .2))
+  control-kept (meansRequest r) args q n l s h =
+      expand-kept args (modeOf r) (prefixOf n) l s (obey p (meansRequest r) false q n) (h .0)
+      (λ e rs b. obey-kept (meansRequest r) false q n e (withRegisters rs s) (registers-kept s (h .0) rs b, h .1, h .2))
 
-  fresh-kept : (x : Line) (args : List (List ℕ)) (s : State) → Ready s → Keeps (freshLine p x args s)
+  fresh-kept : (x : Line) (args : List (List ℕ)) (s : State) → LineReady s → Keeps (freshLine p x args s)
   fresh-kept ignored args s h = h .0
-  fresh-kept (text l) args s h =
+  fresh-kept (plainText l) args s h =
       expand-kept args Plain 0 l s textLine (h .0) (λ e rs b. text-kept e (withRegisters rs s) (registers-kept s (h .0) rs b, h .1, h .2))
   fresh-kept (control q n l) args s h = control-kept (meaningOf n s) args q n l s h
 

@@ -15,7 +15,7 @@ use Rattle.rules.specs.declared.Operator.{Operator}
 use Rattle.rules.specs.declared.Operator.the-variants.{Add, Subtract, Multiply, Divide, Remainder, Less, Greater, AtMost, AtLeast, Equal, And, Or}
 use Rattle.rules.specs.Bytes.{byte}
 use Rattle.rules.specs.Refusals.{Judged, value, bad, judge, _>>=_}
-use Rattle.rules.specs.Numbers.{Read, within, truth, divisor, operate, Joint, joins, stops, jointOf, digits, scaled, scaledOr, scaledBy, literalAt, Start, literal, opens, plus, minus, noTerm, startOf, closed, expressionBy, whole, term, onward, evaluate, cells, rows, units}
+use Rattle.rules.specs.Numbers.{Read, within, truth, divisor, operate, Joint, joins, stops, jointOf, digits, scaled, scaledOr, scaledBy, literalAt, Start, literal, opens, plus, minus, noTerm, startOf, parenthesized, expressionBy, whole, term, onward, evaluate, cells, rows, units}
 use Rattle.limits.specs.Within.{Refusal}
 use Rattle.limits.specs.Parts.{is-6}
 
@@ -59,7 +59,7 @@ operate-numbered Equal a b = search truth-numbered
 operate-numbered And a b = search truth-numbered
 operate-numbered Or a b = search truth-numbered
 
-closed-numbered : (v : ℤ) (l : List ℕ) → Numbered (closed v l)
+closed-numbered : (v : ℤ) (l : List ℕ) → Numbered (parenthesized v l)
 closed-numbered v [] = is-6
 closed-numbered v (b ∷ l) = judge-numbered (eqb b (byte ")")) 6 (v, l) is-6
 

@@ -89,13 +89,13 @@ over-layer (acts r l) k h = h
 over-layer (ejects n) k h = h
 
 -- an item that is no text
-abbrev pub Held : Item → Type 0
-Held (reading n ls args) = ⊥
-Held (fresh l) = Unit
-Held (again x) = Unit
-Held (others ws g) = Unit
-Held (acts r l) = Unit
-Held (ejects n) = Unit
+abbrev pub NoText : Item → Type 0
+NoText (reading n ls args) = ⊥
+NoText (fresh l) = Unit
+NoText (again x) = Unit
+NoText (others ws g) = Unit
+NoText (acts r l) = Unit
+NoText (ejects n) = Unit
 
 limit-least : (k : List Item) → 16 ≤ limitOf k
 limit-least [] = omega arith
@@ -124,7 +124,7 @@ over-limit (others ws g ∷ k) h = absurd h
 over-limit (acts r l ∷ k) h = absurd h
 over-limit (ejects n ∷ k) h = absurd h
 
-held-limit : (i : Item) (k : List Item) → Held i → 17 ≤ limitOf (i ∷ k)
+held-limit : (i : Item) (k : List Item) → NoText i → 17 ≤ limitOf (i ∷ k)
 held-limit (reading n ls args) k h = absurd h
 held-limit (fresh l) k h = omega arith
 held-limit (again x) k h = omega arith
@@ -133,7 +133,7 @@ held-limit (acts r l) k h = omega arith
 held-limit (ejects n) k h = omega arith
 
 -- such an item may be the 17th
-pub held-deep : (i : Item) (e : Bool) (k : List Item) → Held i → OverText k → Deep e k → Deep e (i ∷ k)
+pub held-deep : (i : Item) (e : Bool) (k : List Item) → NoText i → OverText k → Deep e k → Deep e (i ∷ k)
 held-deep i e k t h d = omega (arith, held-limit i k t, over-limit k h)
 
 -- without the item on top the stack is within its limit

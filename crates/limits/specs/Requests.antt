@@ -25,8 +25,8 @@ use Rattle.rules.specs.Names.{Named, one, tooLong, nameOf}
 use Rattle.rules.specs.Laws.Tables.{Each, OfSome, entry-each}
 use Rattle.rules.specs.Numbers.{equalZ, units, signed}
 use Rattle.rules.specs.Laws.Numbers.{Bounded, within-bounded, rows-bounded, units-bounded}
-use Rattle.rules.specs.Registers.{lookup, setValue, predefined, valueOr0, stepOr0}
-use Rattle.rules.specs.Laws.Registers.{BoundedRegister, lookup-bounded, set-bounded}
+use Rattle.rules.specs.Registers.{registerOf, setValue, predefined, valueOr0, stepOr0}
+use Rattle.rules.specs.Laws.Registers.{BoundedRegister, register-bounded, set-bounded}
 use Rattle.rules.specs.Texts.{textOf}
 use Rattle.rules.specs.Traps.{plant, removeTrap}
 use Rattle.rules.specs.Laws.Traps.{plant-here, plant-on, remove-here, remove-on, single-plant, single-remove}
@@ -36,12 +36,12 @@ use Rattle.rules.specs.Lines.{lineOf, expression, letters, simplyHolds, holdsIf
 use Rattle.rules.specs.State.{State, again}
 use Rattle.rules.specs.StateSetters.{withLayout, withTraps}
 use Rattle.rules.specs.Rows.{skip}
-use Rattle.rules.specs.Acts.{argument, openText, removeText, plantAt, follows, newValue, setLine, act, lay, newStep, writeIf, writeRegister, plantTrap, ifLine, change, decide}
+use Rattle.rules.specs.Acts.{argumentAt, openText, removeText, plantAt, follows, newValue, setLine, act, lay, newStep, writeIf, writeRegister, plantTrap, ifLine, change, decide}
 use Rattle.limits.specs.Within.{BoundedTrap, Within, Keeps}
 use Rattle.limits.specs.Parts.{is-6, is-7, is-11, registers-kept, traps-kept, line-kept, centred-kept}
 use Rattle.limits.specs.Numbered.{Numbered, judge-numbered, after-numbered, within-numbered, rows-numbered, units-numbered}
 use Rattle.limits.specs.Fair.{Fair, fine, refusal, fair, fair-any, fair-of, fair-judge, given-kept, laid-kept, name-kept}
-use Rattle.limits.specs.Rows.{Ready, hold, skip-kept, eject-kept}
+use Rattle.limits.specs.Rows.{LineReady, hold, skip-kept, eject-kept}
 use Rattle.limits.specs.Texts.{open-kept, remove-kept}
 use Rattle.limits.specs.Settings.{setting-fair, line-fair, page-fair, total-fair, spacing-fair, centring-fair}
 
@@ -65,7 +65,7 @@ remove-places z (t ∷ ts) h = go (equalZ z (t .place .0)) refl (remove-places z
     go false e ih = rw (remove-on z t ts e) (h .0, ih)
 
 plantAt-kept : (z : ℤ) (m : Named) (s : State) → Bounded z → Within s → Fair Within (plantAt z m s)
-plantAt-kept z Named.none s b h = let ts = s .tables .traps in fine (traps-kept s h (removeTrap z ts) (single-remove z ts (h .traps)) (remove-places z ts (h .places)))
+plantAt-kept z Named.noName s b h = let ts = s .tables .traps in fine (traps-kept s h (removeTrap z ts) (single-remove z ts (h .traps)) (remove-places z ts (h .places)))
 plantAt-kept z tooLong s b h = refusal is-7
 plantAt-kept z (one n) s b h =
     let ts = s .tables .traps in
@@ -103,8 +103,8 @@ module _ (p : Printer) where
   write-kept false v l s n h =
       let rs = s .tables .registers in
       fair-of _ (units-fair v) (λ x i.
-      fair-of _ (new-fair (signed v) (valueOr0 (lookup n rs)) x i) (λ y j.
-      fair-of _ (step-fair l (stepOr0 (lookup n rs)) (old-step (lookup n rs) (lookup-bounded n rs (h .registers)))) (λ z k.
+      fair-of _ (new-fair (signed v) (valueOr0 (registerOf n rs)) x i) (λ y j.
+      fair-of _ (step-fair l (stepOr0 (registerOf n rs)) (old-step (registerOf n rs) (register-bounded n rs (h .registers)))) (λ z k.
       fair-of _ (fair (set-bounded n y z rs j k (h .registers)) (set-numbered n y z rs)) (λ qs m. fine (registers-kept s h qs m)))))
 
   writes-kept : (v l : List ℕ) (s : State) (n : Name) → Within s → Fair Within (writeRegister p v l s n)
@@ -130,34 +130,34 @@ module _ (p : Printer) where
   holds-numbered page [] = is-6
   holds-numbered page (b ∷ l) = holdsIf-numbered (eqb b (byte "!")) page b l
 
-  follows-kept : (t : Bool) (l : List ℕ) (s : State) → Ready s → Within (follows t l s)
+  follows-kept : (t : Bool) (l : List ℕ) (s : State) → LineReady s → Within (follows t l s)
   follows-kept true [] s h = h .0
   follows-kept true (b ∷ l) s h = hold (again (lineOf (b ∷ l))) s tt h .1
   follows-kept false l s h = h .0
 
-  if-kept : (c l : List ℕ) (s : State) → Ready s → Fair Within (ifLine p c l s)
+  if-kept : (c l : List ℕ) (s : State) → LineReady s → Fair Within (ifLine p c l s)
   if-kept [] l s h = fine (h .0)
   if-kept (b ∷ c) l s h =
       fair-of _ (fair-any (holds p (s .page .number) (b ∷ c)) (holds-numbered (s .page .number) (b ∷ c))) (λ v u. fine (follows-kept v l s h))
 
   -- A request that changes a table.
-  pub change-kept : (r : TableChange) (l : List ℕ) (s : State) → Ready s → Fair Within (change p r l s)
+  pub change-kept : (r : TableChange) (l : List ℕ) (s : State) → LineReady s → Fair Within (change p r l s)
   unfolding change
   change-kept Nr l s h =
-      name-kept (nameOf (argument 0 l)) s (writeRegister p (argument 1 l) (argument 2 l) s) (h .0) (λ n. writes-kept (argument 1 l) (argument 2 l) s n (h .0))
-  change-kept De l s h = name-kept (nameOf (argument 0 l)) s (openText s) (h .0) (λ n. open-kept s h n)
-  change-kept Rm l s h = name-kept (nameOf (argument 0 l)) s (removeText s) (h .0) (λ n. remove-kept s h (isThere (textOf n (s .tables .texts))) n)
-  change-kept Wh l s h = plant-kept (argument 0 l) (argument 1 l) s (h .0)
+      name-kept (nameOf (argumentAt 0 l)) s (writeRegister p (argumentAt 1 l) (argumentAt 2 l) s) (h .0) (λ n. writes-kept (argumentAt 1 l) (argumentAt 2 l) s n (h .0))
+  change-kept De l s h = name-kept (nameOf (argumentAt 0 l)) s (openText s) (h .0) (λ n. open-kept s h n)
+  change-kept Rm l s h = name-kept (nameOf (argumentAt 0 l)) s (removeText s) (h .0) (λ n. remove-kept s h (isThere (textOf n (s .tables .texts))) n)
+  change-kept Wh l s h = plant-kept (argumentAt 0 l) (argumentAt 1 l) s (h .0)
 
-  pub decide-kept : (l : List ℕ) (s : State) → Ready s → Fair Within (decide p l s)
+  pub decide-kept : (l : List ℕ) (s : State) → LineReady s → Fair Within (decide p l s)
   unfolding decide
   decide-kept l s h = let c = condition l in if-kept (c .part) (c .rest) s h
 
   -- A request that sets the layout and does not break.
   pub lay-kept : (r : PageSetting) (l : List ℕ) (s : State) → Within s → Keeps (lay p r l s)
-  lay-kept Pl l s h = laid-kept s h (fair-of _ (page-fair p (s .page .used) (s .layout .page) (argument 0 l)) (λ n k. fine {a = withPageLength n (s .layout)} h))
-  lay-kept Po l s h = laid-kept s h (fair-of _ (setting-fair p 0 120 (s .layout .offset) (argument 0 l)) (λ v k. fine {a = withOffset v (s .layout)} h))
-  lay-kept Ll l s h = laid-kept s h (fair-of _ (line-fair p (s .layout .line) (argument 0 l) (h .line)) (λ v k. fine (line-kept s h v k)))
+  lay-kept Pl l s h = laid-kept s h (fair-of _ (page-fair p (s .page .used) (s .layout .page) (argumentAt 0 l)) (λ n k. fine {a = withPageLength n (s .layout)} h))
+  lay-kept Po l s h = laid-kept s h (fair-of _ (setting-fair p 0 120 (s .layout .offset) (argumentAt 0 l)) (λ v k. fine {a = withOffset v (s .layout)} h))
+  lay-kept Ll l s h = laid-kept s h (fair-of _ (line-fair p (s .layout .line) (argumentAt 0 l) (h .line)) (λ v k. fine (line-kept s h v k)))
   lay-kept Ad l s h = h
   lay-kept Na l s h = h
 
@@ -170,9 +170,9 @@ module _ (p : Printer) where
   set-line-kept Ti l s h = total-fair p s l h
 
   -- A request that breaks, after its break.
-  pub act-kept : (r : Breaking) (l : List ℕ) (s : State) → Ready s → Keeps (act p r l s)
+  pub act-kept : (r : Breaking) (l : List ℕ) (s : State) → LineReady s → Keeps (act p r l s)
   unfolding act
   act-kept Br l s h = h .0
-  act-kept Sp l s h = given-kept s (λ n. skip n s) (h .0) (spacing-fair p (argument 0 l)) (λ n u. skip-kept n s (h .0))
+  act-kept Sp l s h = given-kept s (λ n. skip n s) (h .0) (spacing-fair p (argumentAt 0 l)) (λ n u. skip-kept n s (h .0))
   act-kept Bp l s h = eject-kept (s .page .number) s h
-  act-kept (Sets r) l s h = laid-kept s (h .0) (set-line-kept r (argument 0 l) s (h .0))
+  act-kept (Sets r) l s h = laid-kept s (h .0) (set-line-kept r (argumentAt 0 l) s (h .0))

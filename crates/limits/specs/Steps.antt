@@ -19,7 +19,7 @@ use Rattle.rules.specs.StateSetters.{withInput, withStack, withStored}
 use Rattle.rules.specs.Session.{leave, begunBy, withBegun, gather, takeBy, takeByte, lastLine, readEnd, workEnd, readLine, work, idle, stepFrom, step}
 use Rattle.limits.specs.Within.{SourceByte, OverText, Layer, Layered, Deep, NextLine, OpenOver, Answered, Within, Keeps}
 use Rattle.limits.specs.Parts.{is-2, is-3, is-8, is-10, is-12, next-over, none-over, over-next, popped-deep, stack-kept, refuse-popped, refuse-kept}
-use Rattle.limits.specs.Rows.{Ready, eject-kept, ejectLast-kept, beginEnd-kept}
+use Rattle.limits.specs.Rows.{LineReady, eject-kept, ejectLast-kept, beginEnd-kept}
 use Rattle.limits.specs.TextLines.{fill-kept}
 use Rattle.limits.specs.Requests.{act-kept}
 use Rattle.limits.specs.Lines.{again-kept, deal-kept}
@@ -89,7 +89,7 @@ module _ (p : Printer) where
 
   -- the item on top, over the others
   module _ (k : List Item) (s : State) (h : Within s) (l : Layered k) (d : Deep (s .page .last) k) where
-    ready : (i : Item) → OverText k → (NextLine (i ∷ k) → ⊥) → OpenOver (s .tables .opened) none (i ∷ k) → Ready (withStack k s)
+    ready : (i : Item) → OverText k → (NextLine (i ∷ k) → ⊥) → OpenOver (s .tables .opened) none (i ∷ k) → LineReady (withStack k s)
     ready i y f o =
         let e = shut (s .tables .opened) (i ∷ k) f o in
         (stack-kept s h k l d (none-over (s .tables .opened) (s .closing) k e), y, e)

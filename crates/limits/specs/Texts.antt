@@ -15,9 +15,9 @@ use Rattle.limits.specs.Within.{Gone, Within}
 use Rattle.limits.specs.Parts.{is-9, is-11, next-over, over-next, texts-kept, opened-kept}
 use Rattle.limits.specs.Numbered.{Numbered, judge-numbered}
 use Rattle.limits.specs.Fair.{Fair, fine, fair-of, fair-judge, fair-given, name-kept}
-use Rattle.limits.specs.Rows.{Ready}
+use Rattle.limits.specs.Rows.{LineReady}
 
-module _ (s : State) (h : Ready s) where
+module _ (s : State) (h : LineReady s) where
   abbrev ts : List Text
   ts = s .tables .texts
 

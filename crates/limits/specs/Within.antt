@@ -106,7 +106,7 @@ Answered none l = Unit
 Answered (some done) l = Unit
 Answered (some (refused n m)) l = Refusal n × (m ≡ l)
 
--- THE LIMITS, part by part. Those of the settings' other ranges are `Limits` (settings); those of counts and lengths are in what the code asks for.
+-- THE LIMITS, part by part. Those of the settings' other ranges are `LayoutInvariant` (settings); those of counts and lengths are in what the code asks for.
 pub record Limited (t : Tables) (ll : Setting) (ce : ℕ) (g : List ℕ) (l : ℕ) (k : List Item) (e : Bool) (c : Option Closing) : Type 0 where
   -- "6: .. literal, step or result outside ±1,000,000,000": values and steps
   pub registers : BoundedTable (t .registers)

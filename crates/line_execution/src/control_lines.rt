@@ -13,15 +13,15 @@ use rules::arrays::StackBytes;
 use rules::arrays::StackEnds;
 use settings::layout::Printer;
 use state::Status;
-use state::Step;
+use state::WorkOutcome;
 ghost use mathlib.Core.Path.{_≡_};
 ghost use mathlib.Core.Bool.{false};
 ghost use Rattle.rules.specs.ControlLines as rules;
-ghost use Rattle.rules.specs.ControlLines.{requests, meaningOf};
+ghost use Rattle.rules.specs.ControlLines.{meansRequest, meaningOf};
 ghost use Rattle.settings.specs.Layout.Layouts.{printerOf};
 ghost use Rattle.line_syntax.specs.Lines.Meanings.{MeaningIs};
-ghost use Rattle.state.specs.Whole.{Whole, textsIn, Did};
-ghost use Rattle.state.specs.Statuses.{wholeOf, Begins};
+ghost use Rattle.state.specs.Whole.{WholeState, textsIn, StateRefines};
+ghost use Rattle.state.specs.Statuses.{wholeOf, StateReady};
 
 // A request, whose line is expanded behind its name.
 fn request(
@@ -45,11 +45,11 @@ fn request(
     seconds: &mut ByteColumn,
     values: &mut NumberColumn,
     steps: &mut NumberColumn,
-) -> Step
-    ghost { Whole }
+) -> WorkOutcome
+    ghost { WholeState }
     requires { λ q. ⌜ wholeOf status (now cells) (now arena) (now ends) (now store) (now «text_firsts») (now «text_seconds») (now kinds) (now lengths) (now firsts) (now seconds) (now values) (now steps) ≡ q ⌝ }
-    requires { λ q. ⌜ Begins q (now line) (now row) printer × (status .opening .there ≡ false) ⌝ }
-    ensures { λ q r. ⌜ Did (λ s. rules.obey (printerOf printer) (requests request) «after_if» period name (now (line .entry)) s) q (r .way) (r .written) (wholeOf (r .status) (now (cells .entry)) (now (arena .exit)) (now (ends .exit)) (now (store .exit)) (now («text_firsts» .exit)) (now («text_seconds» .exit)) (now (kinds .exit)) (now (lengths .exit)) (now (firsts .exit)) (now (seconds .exit)) (now (values .exit)) (now (steps .exit))) (now (row .exit)) ⌝ }
+    requires { λ q. ⌜ StateReady q (now line) (now row) printer × (status .opening .there ≡ false) ⌝ }
+    ensures { λ q r. ⌜ StateRefines (λ s. rules.obey (printerOf printer) (meansRequest request) «after_if» period name (now (line .entry)) s) q (r .way) (r .written) (wholeOf (r .status) (now (cells .entry)) (now (arena .exit)) (now (ends .exit)) (now (store .exit)) (now («text_firsts» .exit)) (now («text_seconds» .exit)) (now (kinds .exit)) (now (lengths .exit)) (now (firsts .exit)) (now (seconds .exit)) (now (values .exit)) (now (steps .exit))) (now (row .exit)) ⌝ }
 {
     let layout = status.layout;
     let page = status.page;
@@ -172,11 +172,11 @@ pub fn obey(
     seconds: &mut ByteColumn,
     values: &mut NumberColumn,
     steps: &mut NumberColumn,
-) -> Step
-    ghost { Whole }
+) -> WorkOutcome
+    ghost { WholeState }
     requires { λ q. ⌜ wholeOf status (now cells) (now arena) (now ends) (now store) (now «text_firsts») (now «text_seconds») (now kinds) (now lengths) (now firsts) (now seconds) (now values) (now steps) ≡ q ⌝ }
-    requires { λ q. ⌜ Begins q (now line) (now row) printer × (status .opening .there ≡ false) × MeaningIs (textsIn (q .texts)) name meaning ⌝ }
-    ensures { λ q r. ⌜ Did (λ s. rules.obey (printerOf printer) (meaningOf name s) «after_if» period name (now (line .entry)) s) q (r .way) (r .written) (wholeOf (r .status) (now (cells .entry)) (now (arena .exit)) (now (ends .exit)) (now (store .exit)) (now («text_firsts» .exit)) (now («text_seconds» .exit)) (now (kinds .exit)) (now (lengths .exit)) (now (firsts .exit)) (now (seconds .exit)) (now (values .exit)) (now (steps .exit))) (now (row .exit)) ⌝ }
+    requires { λ q. ⌜ StateReady q (now line) (now row) printer × (status .opening .there ≡ false) × MeaningIs (textsIn (q .texts)) name meaning ⌝ }
+    ensures { λ q r. ⌜ StateRefines (λ s. rules.obey (printerOf printer) (meaningOf name s) «after_if» period name (now (line .entry)) s) q (r .way) (r .written) (wholeOf (r .status) (now (cells .entry)) (now (arena .exit)) (now (ends .exit)) (now (store .exit)) (now («text_firsts» .exit)) (now («text_seconds» .exit)) (now (kinds .exit)) (now (lengths .exit)) (now (firsts .exit)) (now (seconds .exit)) (now (values .exit)) (now (steps .exit))) (now (row .exit)) ⌝ }
 {
     let layout = status.layout;
     let page = status.page;

@@ -12,21 +12,21 @@ use rules::arrays::StackEnds;
 use settings::layout::Printer;
 use state::Opening;
 use state::Status;
-use state::Step;
-use texts::table::Kept;
+use state::WorkOutcome;
+use texts::table::KeptLine;
 ghost use mathlib.Core.Path.{_≡_};
 ghost use mathlib.Core.Bool.{false};
 ghost use lib.ListN.{length};
-ghost use Rattle.texts.specs.Table.Table.{Lies};
+ghost use Rattle.texts.specs.Table.Table.{TextsInvariant};
 ghost use Rattle.texts.specs.Table.Changes.{Opens, ClosedTo};
 ghost use Rattle.settings.specs.Layout.Layouts.{printerOf};
-ghost use Rattle.state.specs.Whole.{Whole, textsIn, Did};
-ghost use Rattle.state.specs.Statuses.{wholeOf, Begins};
-ghost use Rattle.line_expansion.specs.Dealing.{dealtOf, SoundDealt};
+ghost use Rattle.state.specs.Whole.{WholeState, textsIn, StateRefines};
+ghost use Rattle.state.specs.Statuses.{wholeOf, StateReady};
+ghost use Rattle.line_expansion.specs.Dealing.{dealtOf, DealtInvariant};
 ghost use Rattle.line_execution.specs.ExpandedLines.Steps.{closedTo, keptTo, LineKept};
 
 // A definition is closed: so many texts, and none open.
-fn closed(texts: usize, status: Status) -> Step
+fn closed(texts: usize, status: Status) -> WorkOutcome
     ensures { λ r. ⌜ r ≡ closedTo texts status ⌝ }
 {
     let name = Name {
@@ -42,11 +42,11 @@ fn closed(texts: usize, status: Status) -> Step
 }
 
 // A body line is kept, or "11: .. live text past 8,192 bytes".
-fn kept(answer: Kept, status: Status) -> Step
+fn kept(answer: KeptLine, status: Status) -> WorkOutcome
     ensures { λ r. ⌜ r ≡ keptTo answer status ⌝ }
 {
     match answer {
-        Kept::Longer(length) => {
+        KeptLine::Longer(length) => {
             let old = status.opening;
             let name = old.name;
             let opening = Opening {
@@ -56,7 +56,7 @@ fn kept(answer: Kept, status: Status) -> Step
             };
             state::stay(Way::On, state::with_texts(status, status.texts, opening))
         }
-        Kept::Full => state::stay(Way::Refused(11), status),
+        KeptLine::Full => state::stay(Way::Refused(11), status),
     }
 }
 
@@ -68,8 +68,8 @@ fn close(
     text_seconds: &mut ByteColumn,
     kinds: &mut ByteColumn,
     lengths: &mut LengthColumn,
-) -> Step
-    requires { ⌜ Lies (now store) (now «text_firsts») (now «text_seconds») (now kinds) (now lengths) (status .texts) × Opens (now store) (now lengths) (status .texts) (status .opening .length) ⌝ }
+) -> WorkOutcome
+    requires { ⌜ TextsInvariant (now store) (now «text_firsts») (now «text_seconds») (now kinds) (now lengths) (status .texts) × Opens (now store) (now lengths) (status .texts) (status .opening .length) ⌝ }
     ensures { λ r. ⌜ (r ≡ closedTo (r .status .texts) status) × ClosedTo (now (store .entry)) (now («text_firsts» .entry)) (now («text_seconds» .entry)) (now (kinds .entry)) (now (lengths .entry)) (status .texts) (status .opening .length) (status .opening .name) (r .status .texts) (now («text_firsts» .exit)) (now («text_seconds» .exit)) (now (kinds .exit)) (now (lengths .exit)) ⌝ }
 {
     let opening = status.opening;
@@ -88,7 +88,7 @@ fn close(
 }
 
 // A line goes to the end of the open definition.
-fn keep(line: &[u8], status: Status, store: &mut [u8], lengths: &LengthColumn) -> Step
+fn keep(line: &[u8], status: Status, store: &mut [u8], lengths: &LengthColumn) -> WorkOutcome
     requires { ⌜ Opens (now store) (now lengths) (status .texts) (status .opening .length) ⌝ }
     ensures { λ r. ⌜ LineKept status (now (store .entry)) (now (lengths .entry)) (now (line .entry)) r (now (store .exit)) ⌝ }
 {
@@ -116,11 +116,11 @@ pub fn finish(
     seconds: &mut ByteColumn,
     values: &mut NumberColumn,
     steps: &mut NumberColumn,
-) -> Step
-    ghost { Whole }
+) -> WorkOutcome
+    ghost { WholeState }
     requires { λ q. ⌜ wholeOf status (now cells) (now arena) (now ends) (now store) (now «text_firsts») (now «text_seconds») (now kinds) (now lengths) (now firsts) (now seconds) (now values) (now steps) ≡ q ⌝ }
-    requires { λ q. ⌜ Begins q (now out) (now row) printer × (length (now out) ≡ 512) × SoundDealt (status .opening .there) (textsIn (q .texts)) dealt ⌝ }
-    ensures { λ q r. ⌜ Did (dealtOf (printerOf printer) dealt (now (out .entry))) q (r .way) (r .written) (wholeOf (r .status) (now (cells .exit)) (now (arena .exit)) (now (ends .exit)) (now (store .exit)) (now («text_firsts» .exit)) (now («text_seconds» .exit)) (now (kinds .exit)) (now (lengths .exit)) (now (firsts .exit)) (now (seconds .exit)) (now (values .exit)) (now (steps .exit))) (now (row .exit)) ⌝ }
+    requires { λ q. ⌜ StateReady q (now out) (now row) printer × (length (now out) ≡ 512) × DealtInvariant (status .opening .there) (textsIn (q .texts)) dealt ⌝ }
+    ensures { λ q r. ⌜ StateRefines (dealtOf (printerOf printer) dealt (now (out .entry))) q (r .way) (r .written) (wholeOf (r .status) (now (cells .exit)) (now (arena .exit)) (now (ends .exit)) (now (store .exit)) (now («text_firsts» .exit)) (now («text_seconds» .exit)) (now (kinds .exit)) (now (lengths .exit)) (now (firsts .exit)) (now (seconds .exit)) (now (values .exit)) (now (steps .exit))) (now (row .exit)) ⌝ }
 {
     let layout = status.layout;
     let page = status.page;

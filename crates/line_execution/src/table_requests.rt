@@ -16,14 +16,14 @@ use settings::layout::Printer;
 use state::Opened;
 use state::Opening;
 use traps::table::Planted;
-ghost use Rattle.rules.specs.Acts.{argument, change};
+ghost use Rattle.rules.specs.Acts.{argumentAt, change};
 ghost use Rattle.rules.specs.declared.TableChange.the-variants.{Nr, Wh, Rm, De};
-ghost use Rattle.requests.specs.Nr.Registers.{AssignsAs};
+ghost use Rattle.requests.specs.Nr.Registers.{AssignRefines};
 ghost use Rattle.requests.specs.Nr.Registers as registers;
-ghost use Rattle.requests.specs.Wh.Traps.{PlantsAs};
+ghost use Rattle.requests.specs.Wh.Traps.{PlantRefines};
 ghost use Rattle.requests.specs.Wh.Traps as traps;
 ghost use Rattle.rules.specs.Names.{nameOf};
-ghost use Rattle.requests.specs.Definitions.Texts.{ChangesAs, OpensAs, alone};
+ghost use Rattle.requests.specs.Definitions.Texts.{ChangeRefines, OpensAs, alone};
 ghost use Rattle.state.specs.WholeLaws.{OpeningIs, openedWith};
 ghost use Rattle.requests.specs.Definitions.Texts as texts;
 ghost use Rattle.settings.specs.Layout.Layouts.{printerOf};
@@ -32,7 +32,7 @@ ghost use mathlib.Core.Path.{_≡_};
 ghost use mathlib.Core.List.{[]};
 ghost use Prim.Native.Nat.{_*_};
 ghost use lib.ListN.{getD, length};
-ghost use Rattle.scan.specs.Arguments.Parting.{Unread};
+ghost use Rattle.scan.specs.Arguments.Parting.{UnreadRoom};
 ghost use Rattle.scan.specs.Arguments.Around.{argumentsOf, Arguments};
 
 // nr, by its arguments.
@@ -47,8 +47,8 @@ fn assign_parted(
     steps: &mut NumberColumn,
     count: usize,
 ) -> Assigned
-    requires { ⌜ registers.Ready (now firsts) (now seconds) (now values) (now steps) count printer × Arguments (now parts) (now ends) given ⌝ }
-    ensures { λ r. ⌜ AssignsAs (now (firsts .entry)) (now (seconds .entry)) (now (values .entry)) (now (steps .entry)) count (registers.assigns printer (getD (argumentsOf (now (parts .entry)) (now (ends .entry)) given) 0 []) (getD (argumentsOf (now (parts .entry)) (now (ends .entry)) given) 1 []) (getD (argumentsOf (now (parts .entry)) (now (ends .entry)) given) 2 [])) r (now (firsts .exit)) (now (seconds .exit)) (now (values .exit)) (now (steps .exit)) ⌝ }
+    requires { ⌜ registers.AssignReady (now firsts) (now seconds) (now values) (now steps) count printer × Arguments (now parts) (now ends) given ⌝ }
+    ensures { λ r. ⌜ AssignRefines (now (firsts .entry)) (now (seconds .entry)) (now (values .entry)) (now (steps .entry)) count (registers.assigns printer (getD (argumentsOf (now (parts .entry)) (now (ends .entry)) given) 0 []) (getD (argumentsOf (now (parts .entry)) (now (ends .entry)) given) 1 []) (getD (argumentsOf (now (parts .entry)) (now (ends .entry)) given) 2 [])) r (now (firsts .exit)) (now (seconds .exit)) (now (values .exit)) (now (steps .exit)) ⌝ }
 {
     let name = line_syntax::lines::argument(parts, ends, given, 0);
     let value = line_syntax::lines::argument(parts, ends, given, 1);
@@ -77,8 +77,8 @@ pub fn assign(
     steps: &mut NumberColumn,
     count: usize,
 ) -> Assigned
-    requires { ⌜ registers.Ready (now firsts) (now seconds) (now values) (now steps) count printer × Unread (now line) 0 (now parts) 0 ⌝ }
-    ensures { λ r. ⌜ AssignsAs (now (firsts .entry)) (now (seconds .entry)) (now (values .entry)) (now (steps .entry)) count (λ s. change (printerOf printer) Nr (now (line .entry)) s) r (now (firsts .exit)) (now (seconds .exit)) (now (values .exit)) (now (steps .exit)) ⌝ }
+    requires { ⌜ registers.AssignReady (now firsts) (now seconds) (now values) (now steps) count printer × UnreadRoom (now line) 0 (now parts) 0 ⌝ }
+    ensures { λ r. ⌜ AssignRefines (now (firsts .entry)) (now (seconds .entry)) (now (values .entry)) (now (steps .entry)) count (λ s. change (printerOf printer) Nr (now (line .entry)) s) r (now (firsts .exit)) (now (seconds .exit)) (now (values .exit)) (now (steps .exit)) ⌝ }
 {
     let mut ends = [0u16; ARGUMENT_COUNT];
     let given = scan::arguments::arguments(line, 0, &mut *parts, &mut ends);
@@ -103,7 +103,7 @@ fn plant_parted(
     printer: Printer,
     planted: Planted,
 ) -> Plants
-    requires { ⌜ traps.Ready planted printer × Arguments (now parts) (now ends) given ⌝ }
+    requires { ⌜ traps.PlantReady planted printer × Arguments (now parts) (now ends) given ⌝ }
     ensures { λ r. ⌜ traps.PlantedTo (getD (argumentsOf (now (parts .entry)) (now (ends .entry)) given) 0 []) (getD (argumentsOf (now (parts .entry)) (now (ends .entry)) given) 1 []) planted printer r ⌝ }
 {
     let row = line_syntax::lines::argument(parts, ends, given, 0);
@@ -113,8 +113,8 @@ fn plant_parted(
 
 // wh, by what follows its name.
 pub fn plant(line: &[u8], parts: &mut LineBytes, printer: Printer, planted: Planted) -> Plants
-    requires { ⌜ traps.Ready planted printer × Unread (now line) 0 (now parts) 0 ⌝ }
-    ensures { λ r. ⌜ PlantsAs planted (λ s. change (printerOf printer) Wh (now (line .entry)) s) r ⌝ }
+    requires { ⌜ traps.PlantReady planted printer × UnreadRoom (now line) 0 (now parts) 0 ⌝ }
+    ensures { λ r. ⌜ PlantRefines planted (λ s. change (printerOf printer) Wh (now (line .entry)) s) r ⌝ }
 {
     let mut ends = [0u16; ARGUMENT_COUNT];
     let given = scan::arguments::arguments(line, 0, &mut *parts, &mut ends);
@@ -135,8 +135,8 @@ pub fn remove(
     lengths: &mut LengthColumn,
     count: usize,
 ) -> Changed
-    requires { ⌜ texts.Ready (now store) (now firsts) (now seconds) (now kinds) (now lengths) count stack × Unread (now line) 0 (now parts) 0 ⌝ }
-    ensures { λ r. ⌜ ChangesAs (now (store .entry)) (now (firsts .entry)) (now (seconds .entry)) (now (kinds .entry)) (now (lengths .entry)) count stack (now (frames .entry)) alone (λ s. change (printerOf printer) Rm (now (line .entry)) s) r (now (store .exit)) (now (firsts .exit)) (now (seconds .exit)) (now (kinds .exit)) (now (lengths .exit)) ⌝ }
+    requires { ⌜ texts.ChangeReady (now store) (now firsts) (now seconds) (now kinds) (now lengths) count stack × UnreadRoom (now line) 0 (now parts) 0 ⌝ }
+    ensures { λ r. ⌜ ChangeRefines (now (store .entry)) (now (firsts .entry)) (now (seconds .entry)) (now (kinds .entry)) (now (lengths .entry)) count stack (now (frames .entry)) alone (λ s. change (printerOf printer) Rm (now (line .entry)) s) r (now (store .exit)) (now (firsts .exit)) (now (seconds .exit)) (now (kinds .exit)) (now (lengths .exit)) ⌝ }
 {
     let mut ends = [0u16; ARGUMENT_COUNT];
     let given = scan::arguments::arguments(line, 0, &mut *parts, &mut ends);
@@ -188,7 +188,7 @@ fn open_named(
     lengths: &mut LengthColumn,
     count: usize,
 ) -> Opened
-    requires { ⌜ texts.Ready (now store) (now firsts) (now seconds) (now kinds) (now lengths) count stack ⌝ }
+    requires { ⌜ texts.ChangeReady (now store) (now firsts) (now seconds) (now kinds) (now lengths) count stack ⌝ }
     ensures { λ r. ⌜ OpensAs (now (store .entry)) (now (firsts .entry)) (now (seconds .entry)) (now (kinds .entry)) (now (lengths .entry)) count stack (now (frames .entry)) (nameOf (now (name .entry))) (texts.opensText (now (name .entry))) (r .changed) (now (store .exit)) (now (firsts .exit)) (now (seconds .exit)) (now (kinds .exit)) (now (lengths .exit)) × OpeningIs (nameOf (now (name .entry))) (r .changed) opening (r .opening) ⌝ }
 {
     match line_syntax::lines::name_of(name) {
@@ -232,8 +232,8 @@ pub fn open(
     lengths: &mut LengthColumn,
     count: usize,
 ) -> Opened
-    requires { ⌜ texts.Ready (now store) (now firsts) (now seconds) (now kinds) (now lengths) count stack × Unread (now line) 0 (now parts) 0 ⌝ }
-    ensures { λ r. ⌜ OpensAs (now (store .entry)) (now (firsts .entry)) (now (seconds .entry)) (now (kinds .entry)) (now (lengths .entry)) count stack (now (frames .entry)) (nameOf (argument 0 (now (line .entry)))) (λ s. change (printerOf printer) De (now (line .entry)) s) (r .changed) (now (store .exit)) (now (firsts .exit)) (now (seconds .exit)) (now (kinds .exit)) (now (lengths .exit)) × OpeningIs (nameOf (argument 0 (now (line .entry)))) (r .changed) opening (r .opening) ⌝ }
+    requires { ⌜ texts.ChangeReady (now store) (now firsts) (now seconds) (now kinds) (now lengths) count stack × UnreadRoom (now line) 0 (now parts) 0 ⌝ }
+    ensures { λ r. ⌜ OpensAs (now (store .entry)) (now (firsts .entry)) (now (seconds .entry)) (now (kinds .entry)) (now (lengths .entry)) count stack (now (frames .entry)) (nameOf (argumentAt 0 (now (line .entry)))) (λ s. change (printerOf printer) De (now (line .entry)) s) (r .changed) (now (store .exit)) (now (firsts .exit)) (now (seconds .exit)) (now (kinds .exit)) (now (lengths .exit)) × OpeningIs (nameOf (argumentAt 0 (now (line .entry)))) (r .changed) opening (r .opening) ⌝ }
 {
     let mut ends = [0u16; ARGUMENT_COUNT];
     let given = scan::arguments::arguments(line, 0, &mut *parts, &mut ends);

@@ -15,7 +15,7 @@ use rules::arrays::StackEnds;
 use settings::layout::Printer;
 use state::Opened;
 use state::Status;
-use state::Step;
+use state::WorkOutcome;
 use state::stay;
 use state::with_planted;
 use state::with_registers;
@@ -25,12 +25,12 @@ ghost use mathlib.Core.Bool.{false};
 ghost use Rattle.rules.specs.Acts as rule;
 ghost use Rattle.rules.specs.Acts.{settles};
 ghost use Rattle.settings.specs.Layout.Layouts.{printerOf};
-ghost use Rattle.state.specs.Whole.{Whole, Did};
-ghost use Rattle.state.specs.Statuses.{wholeOf, Begins};
+ghost use Rattle.state.specs.Whole.{WholeState, StateRefines};
+ghost use Rattle.state.specs.Statuses.{wholeOf, StateReady};
 ghost use Rattle.line_execution.specs.TableSteps.Steps.{assignedTo, plantedTo, changedTo, openedTo};
 
 // After nr.
-fn assigned(answer: Assigned, status: Status) -> Step
+fn assigned(answer: Assigned, status: Status) -> WorkOutcome
     ensures { λ r. ⌜ r ≡ assignedTo answer status ⌝ }
 {
     match answer {
@@ -40,7 +40,7 @@ fn assigned(answer: Assigned, status: Status) -> Step
 }
 
 // After wh.
-fn trapped(answer: Plants, status: Status) -> Step
+fn trapped(answer: Plants, status: Status) -> WorkOutcome
     ensures { λ r. ⌜ r ≡ plantedTo answer status ⌝ }
 {
     let planted = answer.planted;
@@ -53,7 +53,7 @@ fn trapped(answer: Plants, status: Status) -> Step
 }
 
 // After de.
-fn opened(answer: Opened, status: Status) -> Step
+fn opened(answer: Opened, status: Status) -> WorkOutcome
     ensures { λ r. ⌜ r ≡ openedTo answer status ⌝ }
 {
     let opening = answer.opening;
@@ -66,7 +66,7 @@ fn opened(answer: Opened, status: Status) -> Step
 }
 
 // After ds and rm.
-pub fn changed(answer: Changed, status: Status) -> Step
+pub fn changed(answer: Changed, status: Status) -> WorkOutcome
     ensures { λ r. ⌜ r ≡ changedTo answer status ⌝ }
 {
     match answer {
@@ -98,11 +98,11 @@ pub fn change(
     seconds: &mut ByteColumn,
     values: &mut NumberColumn,
     steps: &mut NumberColumn,
-) -> Step
-    ghost { Whole }
+) -> WorkOutcome
+    ghost { WholeState }
     requires { λ q. ⌜ wholeOf status (now cells) (now arena) (now ends) (now store) (now «text_firsts») (now «text_seconds») (now kinds) (now lengths) (now firsts) (now seconds) (now values) (now steps) ≡ q ⌝ }
-    requires { λ q. ⌜ Begins q (now line) (now row) printer × (status .opening .there ≡ false) ⌝ }
-    ensures { λ q r. ⌜ Did (λ s. settles (rule.change (printerOf printer) request (now (line .entry)) s) s) q (r .way) (r .written) (wholeOf (r .status) (now (cells .entry)) (now (arena .entry)) (now (ends .entry)) (now (store .exit)) (now («text_firsts» .exit)) (now («text_seconds» .exit)) (now (kinds .exit)) (now (lengths .exit)) (now (firsts .exit)) (now (seconds .exit)) (now (values .exit)) (now (steps .exit))) (now (row .entry)) ⌝ }
+    requires { λ q. ⌜ StateReady q (now line) (now row) printer × (status .opening .there ≡ false) ⌝ }
+    ensures { λ q r. ⌜ StateRefines (λ s. settles (rule.change (printerOf printer) request (now (line .entry)) s) s) q (r .way) (r .written) (wholeOf (r .status) (now (cells .entry)) (now (arena .entry)) (now (ends .entry)) (now (store .exit)) (now («text_firsts» .exit)) (now («text_seconds» .exit)) (now (kinds .exit)) (now (lengths .exit)) (now (firsts .exit)) (now (seconds .exit)) (now (values .exit)) (now (steps .exit))) (now (row .entry)) ⌝ }
 {
     let planted = status.planted;
     let stack = status.stack;

@@ -20,7 +20,7 @@ read-back n m s z a e =
 
 -- what is shown, field by field
 abbrev pub seenBy : ℤ → ℤ → ℤ → ℤ → ℤ → Seen
-seenBy p r l i g = record { page = p; rows = r; length = l; indent = i; pageLength = g }
+seenBy p r l i g = record { page = p; rows = r; lineLength = l; indent = i; pageLength = g }
 
 pub seen-same : (p r l i g p' r' l' i' g' : ℤ) → p ≡ p' → r ≡ r' → l ≡ l' → i ≡ i' → g ≡ g' → seenBy p r l i g ≡ seenBy p' r' l' i' g'
 seen-same p r l i g p' r' l' i' g' a b c d e = cc

@@ -18,7 +18,7 @@ use Rattle.rules.specs.StateSetters.{tables}
 use Rattle.rules.specs.Rows.{Next, goes, refuses}
 use Rattle.rules.specs.TextLines.{textLine}
 use Rattle.rules.specs.ControlLines.{meaningOf, obey, keepBody, bodyLine, deal}
-use Rattle.registers.specs.Table.Columns.{tableOf, Table}
+use Rattle.registers.specs.Table.Columns.{tableOf, RegistersInvariant}
 use Rattle.rules.specs.declared.Mode.the-variants.{Plain}
 use Rattle.rules.specs.Requests.{modeOf}
 use Rattle.line_syntax.specs.declared.lines.Meaning.{Meaning}
@@ -81,24 +81,24 @@ dealtOf p Nothing out s = goes s
 dealtOf p (Refused k) out s = refuses k s
 
 -- an expanded line within its buffer, and what its name means; where a definition is open, a line is kept or closes it, and nowhere else
-abbrev pub SoundDealt : (opened : Bool) → List Text → Dealt → Type 0
-SoundDealt true ts Closes = Unit
-SoundDealt true ts (Keeps n) = n ≤ 512
-SoundDealt true ts (Words n) = ⊥
-SoundDealt true ts (Control q k m n) = ⊥
-SoundDealt true ts Nothing = Unit
-SoundDealt true ts (Refused k) = Unit
-SoundDealt false ts Closes = ⊥
-SoundDealt false ts (Keeps n) = ⊥
-SoundDealt false ts (Words n) = n ≤ 512
-SoundDealt false ts (Control q k m n) = (n ≤ 512) × MeaningIs ts k m
-SoundDealt false ts Nothing = Unit
-SoundDealt false ts (Refused k) = Unit
+abbrev pub DealtInvariant : (opened : Bool) → List Text → Dealt → Type 0
+DealtInvariant true ts Closes = Unit
+DealtInvariant true ts (Keeps n) = n ≤ 512
+DealtInvariant true ts (Words n) = ⊥
+DealtInvariant true ts (Control q k m n) = ⊥
+DealtInvariant true ts Nothing = Unit
+DealtInvariant true ts (Refused k) = Unit
+DealtInvariant false ts Closes = ⊥
+DealtInvariant false ts (Keeps n) = ⊥
+DealtInvariant false ts (Words n) = n ≤ 512
+DealtInvariant false ts (Control q k m n) = (n ≤ 512) × MeaningIs ts k m
+DealtInvariant false ts Nothing = Unit
+DealtInvariant false ts (Refused k) = Unit
 
 -- The line is dealt with as the rules say, once what is left is done.
-pub record DealtTo (r : Dealt) (p : Printer) (y : Layout) (g : Page) (ts : List Text) (opened : Bool) (args : List (List ℕ)) (line : List ℕ) (fs ss : List ℕ) (vs us : List ℤ) (count : ℕ) (out' : List ℕ) (vs' : List ℤ) : Type 0 where
+pub record DealRefines (r : Dealt) (p : Printer) (y : Layout) (g : Page) (ts : List Text) (opened : Bool) (args : List (List ℕ)) (line : List ℕ) (fs ss : List ℕ) (vs us : List ℤ) (count : ℕ) (out' : List ℕ) (vs' : List ℤ) : Type 0 where
   pub is : (o : Option Definition) → isThere o ≡ opened → (x : State)
       → dealtOf p r out' (scene y g ts (tableOf fs ss vs' us count) o x) ≡ deal p args line (scene y g ts (tableOf fs ss vs us count) o x)
-  pub table : Table fs ss vs' us count
+  pub table : RegistersInvariant fs ss vs' us count
   pub long : length out' ≡ 512
-  pub sound : SoundDealt opened ts r
+  pub sound : DealtInvariant opened ts r

@@ -16,16 +16,16 @@ use Rattle.rules.specs.Settings.{Layout}
 use Rattle.rules.specs.Traps.{Page}
 use Rattle.rules.specs.Texts.{Text, textOf}
 use Rattle.rules.specs.Escapes as rules
-use Rattle.rules.specs.State.{State, Definition, Line, text, control, ignored}
+use Rattle.rules.specs.State.{State, Definition, Line, plainText, control, ignored}
 use Rattle.rules.specs.TextLines.{textLine}
 use Rattle.rules.specs.Requests.{modeOf}
 use Rattle.rules.specs.Lines.{lineOf, isClosing}
-use Rattle.rules.specs.ControlLines.{Meaning, calls, requests, nothing, textMeaning, prefixOf, obey, onScan, keepBody, bodyLine, controlLine, freshLine, deal}
+use Rattle.rules.specs.ControlLines.{Meaning, calls, meansRequest, nothing, textMeaning, prefixOf, obey, onScan, keepBody, bodyLine, controlLine, freshLine, deal}
 use Rattle.rules.specs.ControlLines as control-lines
-use Rattle.registers.specs.Table.Columns.{tableOf, Table}
+use Rattle.registers.specs.Table.Columns.{tableOf, RegistersInvariant}
 use Rattle.line_syntax.specs.declared.lines.Meaning as lines
 use Rattle.line_syntax.specs.declared.lines.Meaning.the-variants as meaning
-use Rattle.line_syntax.specs.Lines.Meanings.{MeaningIs, Called, called-means}
+use Rattle.line_syntax.specs.Lines.Meanings.{MeaningIs, CallsText, called-means}
 use Rattle.rules.specs.declared.Kind.{Kind}
 use Rattle.rules.specs.declared.Request.{Request}
 use Rattle.scan.specs.declared.expansion.Scanned.{Scanned}
@@ -35,7 +35,7 @@ use Rattle.line_expansion.specs.declared.Expansion.the-variants.{In, Ign
 use Rattle.line_expansion.specs.declared.Dealt.{Dealt}
 use Rattle.line_expansion.specs.declared.Dealt.the-variants.{Closes, Nothing}
 use Rattle.state.specs.Whole.{surroundings}
-use Rattle.line_expansion.specs.Dealing.{scene, keptAs, wordsAs, controlAs, expansionOf, dealtOf, SoundDealt, DealtTo}
+use Rattle.line_expansion.specs.Dealing.{scene, keptAs, wordsAs, controlAs, expansionOf, dealtOf, DealtInvariant, DealRefines}
 
 module _ (p : Printer) (y : Layout) (g : Page) (ts : List Text) (args : List (List ℕ)) (line : List ℕ) (fs ss : List ℕ) (vs us : List ℤ) (count : ℕ) where
   abbrev before : Option Definition → State → State
@@ -54,7 +54,7 @@ module _ (p : Printer) (y : Layout) (g : Page) (ts : List Text) (args : List (Li
       subst (λ (v : List ℕ). Expanded r m' j' v out out' vs') c (subst (λ (v : ℕ). Expanded r m' v l out out' vs') b (subst (λ (v : Mode). Expanded r v j l out out' vs') a h))
 
   -- a line of text
-  words-is : (r : Scanned) (out out' : List ℕ) (vs' : List ℤ) → Expanded r Plain 0 line out out' vs' → lineOf line ≡ text line → (x : State)
+  words-is : (r : Scanned) (out out' : List ℕ) (vs' : List ℤ) → Expanded r Plain 0 line out out' vs' → lineOf line ≡ plainText line → (x : State)
       → dealtOf p (wordsAs r) out' (after vs' none x) ≡ deal p args line (before none x)
   unfolding deal
   words-is (scan.Line n) out out' vs' a e x =
@@ -86,23 +86,23 @@ module _ (p : Printer) (y : Layout) (g : Page) (ts : List Text) (args : List (Li
       ∙ sym (h (before none x)) ∙ sym (ap (λ (v : Meaning). controlLine p v args q k rest (before none x)) f) ∙ sym (ap (λ (l : Line). freshLine p l args (before none x)) e)
 
   -- what an expansion is within
-  words-sound : (r : Scanned) (m : Mode) (k : ℕ) (l out out' : List ℕ) (vs' : List ℤ) → Expanded r m k l out out' vs' → SoundDealt false ts (wordsAs r)
+  words-sound : (r : Scanned) (m : Mode) (k : ℕ) (l out out' : List ℕ) (vs' : List ℤ) → Expanded r m k l out out' vs' → DealtInvariant false ts (wordsAs r)
   words-sound (scan.Line n) m k l out out' vs' a = a .kept .0
   words-sound (scan.Refused i) m k l out out' vs' a = tt
 
-  keeps-sound : (r : Scanned) (m : Mode) (k : ℕ) (l out out' : List ℕ) (vs' : List ℤ) → Expanded r m k l out out' vs' → SoundDealt true ts (keptAs r)
+  keeps-sound : (r : Scanned) (m : Mode) (k : ℕ) (l out out' : List ℕ) (vs' : List ℤ) → Expanded r m k l out out' vs' → DealtInvariant true ts (keptAs r)
   keeps-sound (scan.Line n) m k l out out' vs' a = a .kept .0
   keeps-sound (scan.Refused i) m k l out out' vs' a = tt
 
-  control-sound : (r : Scanned) (m : Mode) (j : ℕ) (l out out' : List ℕ) (vs' : List ℤ) (q : Bool) (k : Name) (u : lines.Meaning) → Expanded r m j l out out' vs' → MeaningIs ts k u → SoundDealt false ts (controlAs r q k u)
+  control-sound : (r : Scanned) (m : Mode) (j : ℕ) (l out out' : List ℕ) (vs' : List ℤ) (q : Bool) (k : Name) (u : lines.Meaning) → Expanded r m j l out out' vs' → MeaningIs ts k u → DealtInvariant false ts (controlAs r q k u)
   control-sound (scan.Line n) m j l out out' vs' q k u a h = (a .kept .0, h)
   control-sound (scan.Refused i) m j l out out' vs' q k u a h = tt
 
   abbrev Deals : Dealt → Bool → (out' : List ℕ) → List ℤ → Type 0
-  Deals r b out' vs' = DealtTo r p y g ts b args line fs ss vs us count out' vs'
+  Deals r b out' vs' = DealRefines r p y g ts b args line fs ss vs us count out' vs'
 
   -- a line where no definition is open
-  closed-dealt : (r : Dealt) (out' : List ℕ) (vs' : List ℤ) → Table fs ss vs' us count → length out' ≡ 512 → SoundDealt false ts r
+  closed-dealt : (r : Dealt) (out' : List ℕ) (vs' : List ℤ) → RegistersInvariant fs ss vs' us count → length out' ≡ 512 → DealtInvariant false ts r
       → ((x : State) → dealtOf p r out' (after vs' none x) ≡ deal p args line (before none x)) → Deals r false out' vs'
   closed-dealt r out' vs' t l s h = record { is = go; table = t; long = l; sound = s }
     where
@@ -111,7 +111,7 @@ module _ (p : Printer) (y : Layout) (g : Page) (ts : List Text) (args : List (Li
       go (some d) e x = let z : _≡_ {A = ℕ} 0 1 = cc in absurd (omega arith)
 
   -- and where one is
-  open-dealt : (r : Dealt) (out' : List ℕ) (vs' : List ℤ) → Table fs ss vs' us count → length out' ≡ 512 → SoundDealt true ts r
+  open-dealt : (r : Dealt) (out' : List ℕ) (vs' : List ℤ) → RegistersInvariant fs ss vs' us count → length out' ≡ 512 → DealtInvariant true ts r
       → ((d : Definition) (x : State) → dealtOf p r out' (after vs' (some d) x) ≡ deal p args line (before (some d) x)) → Deals r true out' vs'
   open-dealt r out' vs' t l s h = record { is = go; table = t; long = l; sound = s }
     where
@@ -119,23 +119,23 @@ module _ (p : Printer) (y : Layout) (g : Page) (ts : List Text) (args : List (Li
       go none e x = let z : _≡_ {A = ℕ} 0 1 = cc in absurd (omega arith)
       go (some d) e x = h d x
 
-  pub words-dealt : (r : Scanned) (out out' : List ℕ) (vs' : List ℤ) → Expanded r Plain 0 line out out' vs' → lineOf line ≡ text line → Deals (wordsAs r) false out' vs'
+  pub words-dealt : (r : Scanned) (out out' : List ℕ) (vs' : List ℤ) → Expanded r Plain 0 line out out' vs' → lineOf line ≡ plainText line → Deals (wordsAs r) false out' vs'
   words-dealt r out out' vs' a e = closed-dealt (wordsAs r) out' vs' (a .table) (a .long) (words-sound r Plain 0 line out out' vs' a) (words-is r out out' vs' a e)
 
   pub keeps-dealt : (r : Scanned) (out out' : List ℕ) (vs' : List ℤ) → Expanded r Copy 0 line out out' vs' → isClosing line ≡ false → Deals (keptAs r) true out' vs'
   keeps-dealt r out out' vs' a e = open-dealt (keptAs r) out' vs' (a .table) (a .long) (keeps-sound r Copy 0 line out out' vs' a) (keeps-is r out out' vs' a e)
 
-  call-dealt : (q : Bool) (k : Name) (rest : List ℕ) (h : Kind) (c : Called ts k h) (r : Scanned) (out out' : List ℕ) (vs' : List ℤ) → Expanded r Plain (prefixOf k) rest out out' vs'
+  call-dealt : (q : Bool) (k : Name) (rest : List ℕ) (h : Kind) (c : CallsText ts k h) (r : Scanned) (out out' : List ℕ) (vs' : List ℤ) → Expanded r Plain (prefixOf k) rest out out' vs'
       → lineOf line ≡ control q k rest → Deals (controlAs r q k (meaning.Calls h)) false out' vs'
   call-dealt q k rest h c r out out' vs' a e =
       closed-dealt (controlAs r q k (meaning.Calls h)) out' vs' (a .table) (a .long) (control-sound r Plain (prefixOf k) rest out out' vs' q k (meaning.Calls h) a c)
       (control-is q k rest (calls (c .text)) Plain (meaning.Calls h) r out out' vs' a e (called-means c) (λ s. refl))
 
-  request-dealt : (q : Bool) (k : Name) (rest : List ℕ) (i : Request) → textMeaning (textOf k ts) k ≡ requests i → (r : Scanned) (out out' : List ℕ) (vs' : List ℤ)
+  request-dealt : (q : Bool) (k : Name) (rest : List ℕ) (i : Request) → textMeaning (textOf k ts) k ≡ meansRequest i → (r : Scanned) (out out' : List ℕ) (vs' : List ℤ)
       → Expanded r (modeOf i) (prefixOf k) rest out out' vs' → lineOf line ≡ control q k rest → Deals (controlAs r q k (meaning.Requests i)) false out' vs'
   request-dealt q k rest i f r out out' vs' a e =
       closed-dealt (controlAs r q k (meaning.Requests i)) out' vs' (a .table) (a .long) (control-sound r (modeOf i) (prefixOf k) rest out out' vs' q k (meaning.Requests i) a f)
-      (control-is q k rest (requests i) (modeOf i) (meaning.Requests i) r out out' vs' a e f (λ s. refl))
+      (control-is q k rest (meansRequest i) (modeOf i) (meaning.Requests i) r out out' vs' a e f (λ s. refl))
 
   -- a control line whose name means something, in either mode
   pub control-dealt : (q : Bool) (k : Name) (rest : List ℕ) (u : lines.Meaning) → MeaningIs ts k u → (m : Mode) → expansionOf u ≡ In m → (r : Scanned) (out out' : List ℕ) (vs' : List ℤ)
@@ -146,7 +146,7 @@ module _ (p : Printer) (y : Layout) (g : Page) (ts : List Text) (args : List (Li
       let j : m ≡ modeOf i = cc in request-dealt q k rest i c r out out' vs' (rw j at a) e
   control-dealt q k rest meaning.Nothing c m f r out out' vs' a e = let z : _≡_ {A = ℕ} 0 1 = cc in absurd (omega arith)
 
-  module _ (out : List ℕ) (t : Table fs ss vs us count) (l : length out ≡ 512) where
+  module _ (out : List ℕ) (t : RegistersInvariant fs ss vs us count) (l : length out ≡ 512) where
     -- lines that are ignored unexpanded
     pub ignored-dealt : lineOf line ≡ ignored → Deals Nothing false out vs
     unfolding deal

@@ -22,8 +22,8 @@ ghost use Rattle.scan.specs.Output.Writes.{Room};
 ghost use Rattle.scan.specs.Expansion.Expansion.{ScannedTo};
 ghost use Rattle.texts.specs.Table.Table.{textsOf};
 ghost use Rattle.texts.specs.Lines.Lines.{nextLine, TopInside};
-ghost use Rattle.state.specs.Whole.{seenAt, surroundings, Shows};
-ghost use Rattle.line_expansion.specs.Dealing.{keptAs, wordsAs, controlAs, expansionOf, DealtTo};
+ghost use Rattle.state.specs.Whole.{shownAt, surroundings, ShownRanges};
+ghost use Rattle.line_expansion.specs.Dealing.{keptAs, wordsAs, controlAs, expansionOf, DealRefines};
 ghost use Rattle.rules.specs.Lines.{lineOf};
 ghost use Rattle.rules.specs.State.{control};
 ghost use mathlib.Core.Bool.{true, false};
@@ -84,8 +84,8 @@ fn in_units(count: u32, size: u8) -> i32
 
 // What the read-only registers show: "all but % in units".
 fn shown(layout: Layout, page: Page, printer: Printer) -> Shown
-    requires { ⌜ Shows (layoutOf layout) (pageOf page) ⌝ }
-    ensures { λ r. ⌜ seenOf r ≡ seenAt (printerOf printer) (layoutOf layout) (pageOf page) ⌝ }
+    requires { ⌜ ShownRanges (layoutOf layout) (pageOf page) ⌝ }
+    ensures { λ r. ⌜ seenOf r ≡ shownAt (printerOf printer) (layoutOf layout) (pageOf page) ⌝ }
 {
     let pitch = printer.pitch;
     let line = layout.line;
@@ -123,7 +123,7 @@ fn expand(
     given: usize,
     out: &mut LineBytes,
 ) -> Scanned
-    requires { ⌜ Shows (layoutOf layout) (pageOf page) × scanning.Ready (now store) (now «text_firsts») (now «text_seconds») (now kinds) (now lengths) texts (now firsts) (now seconds) (now values) (now steps) count (now arguments) (now ends) given × Room (now out) 0 512 ⌝ }
+    requires { ⌜ ShownRanges (layoutOf layout) (pageOf page) × scanning.ExpansionReady (now store) (now «text_firsts») (now «text_seconds») (now kinds) (now lengths) texts (now firsts) (now seconds) (now values) (now steps) count (now arguments) (now ends) given × Room (now out) 0 512 ⌝ }
     ensures { λ r. ⌜ ScannedTo r (surroundings (printerOf printer) (layoutOf layout) (pageOf page) (textsOf (now (store .entry)) (now («text_firsts» .entry)) (now («text_seconds» .entry)) (now (kinds .entry)) (now (lengths .entry)) texts) (argumentsOf (now (arguments .entry)) (now (ends .entry)) given)) mode prefix (now (line .entry)) (now (firsts .entry)) (now (seconds .entry)) (now (values .entry)) (now (steps .entry)) count (now (out .entry)) (now (out .exit)) (now (values .exit)) ⌝ }
 {
     scan::expansion::expand(
@@ -171,8 +171,8 @@ fn scan_body(
     given: usize,
     out: &mut LineBytes,
 ) -> Dealt
-    requires { ⌜ Shows (layoutOf layout) (pageOf page) × scanning.Ready (now store) (now «text_firsts») (now «text_seconds») (now kinds) (now lengths) texts (now firsts) (now seconds) (now values) (now steps) count (now arguments) (now ends) given × Room (now out) 0 512 ⌝ }
-    ensures { λ r. ⌜ DealtTo r (printerOf printer) (layoutOf layout) (pageOf page) (textsOf (now (store .entry)) (now («text_firsts» .entry)) (now («text_seconds» .entry)) (now (kinds .entry)) (now (lengths .entry)) texts) true (argumentsOf (now (arguments .entry)) (now (ends .entry)) given) (now (line .entry)) (now (firsts .entry)) (now (seconds .entry)) (now (values .entry)) (now (steps .entry)) count (now (out .exit)) (now (values .exit)) ⌝ }
+    requires { ⌜ ShownRanges (layoutOf layout) (pageOf page) × scanning.ExpansionReady (now store) (now «text_firsts») (now «text_seconds») (now kinds) (now lengths) texts (now firsts) (now seconds) (now values) (now steps) count (now arguments) (now ends) given × Room (now out) 0 512 ⌝ }
+    ensures { λ r. ⌜ DealRefines r (printerOf printer) (layoutOf layout) (pageOf page) (textsOf (now (store .entry)) (now («text_firsts» .entry)) (now («text_seconds» .entry)) (now (kinds .entry)) (now (lengths .entry)) texts) true (argumentsOf (now (arguments .entry)) (now (ends .entry)) given) (now (line .entry)) (now (firsts .entry)) (now (seconds .entry)) (now (values .entry)) (now (steps .entry)) count (now (out .exit)) (now (values .exit)) ⌝ }
 {
     if texts::lines::closes_body(line) {
         return Dealt::Closes;
@@ -244,8 +244,8 @@ fn scan_control(
     given: usize,
     out: &mut LineBytes,
 ) -> Dealt
-    requires { ⌜ Shows (layoutOf layout) (pageOf page) × scanning.Ready (now store) (now «text_firsts») (now «text_seconds») (now kinds) (now lengths) texts (now firsts) (now seconds) (now values) (now steps) count (now arguments) (now ends) given × Room (now out) 0 512 × (at ≤ length (now line)) × (lineOf (now line) ≡ control period name (drop at (now line))) ⌝ }
-    ensures { λ r. ⌜ DealtTo r (printerOf printer) (layoutOf layout) (pageOf page) (textsOf (now (store .entry)) (now («text_firsts» .entry)) (now («text_seconds» .entry)) (now (kinds .entry)) (now (lengths .entry)) texts) false (argumentsOf (now (arguments .entry)) (now (ends .entry)) given) (now (line .entry)) (now (firsts .entry)) (now (seconds .entry)) (now (values .entry)) (now (steps .entry)) count (now (out .exit)) (now (values .exit)) ⌝ }
+    requires { ⌜ ShownRanges (layoutOf layout) (pageOf page) × scanning.ExpansionReady (now store) (now «text_firsts») (now «text_seconds») (now kinds) (now lengths) texts (now firsts) (now seconds) (now values) (now steps) count (now arguments) (now ends) given × Room (now out) 0 512 × (at ≤ length (now line)) × (lineOf (now line) ≡ control period name (drop at (now line))) ⌝ }
+    ensures { λ r. ⌜ DealRefines r (printerOf printer) (layoutOf layout) (pageOf page) (textsOf (now (store .entry)) (now («text_firsts» .entry)) (now («text_seconds» .entry)) (now (kinds .entry)) (now (lengths .entry)) texts) false (argumentsOf (now (arguments .entry)) (now (ends .entry)) given) (now (line .entry)) (now (firsts .entry)) (now (seconds .entry)) (now (values .entry)) (now (steps .entry)) count (now (out .exit)) (now (values .exit)) ⌝ }
 {
     let meaning = line_syntax::lines::meaning_of(
         store,
@@ -308,8 +308,8 @@ fn scan_fresh(
     given: usize,
     out: &mut LineBytes,
 ) -> Dealt
-    requires { ⌜ Shows (layoutOf layout) (pageOf page) × scanning.Ready (now store) (now «text_firsts») (now «text_seconds») (now kinds) (now lengths) texts (now firsts) (now seconds) (now values) (now steps) count (now arguments) (now ends) given × Room (now out) 0 512 ⌝ }
-    ensures { λ r. ⌜ DealtTo r (printerOf printer) (layoutOf layout) (pageOf page) (textsOf (now (store .entry)) (now («text_firsts» .entry)) (now («text_seconds» .entry)) (now (kinds .entry)) (now (lengths .entry)) texts) false (argumentsOf (now (arguments .entry)) (now (ends .entry)) given) (now (line .entry)) (now (firsts .entry)) (now (seconds .entry)) (now (values .entry)) (now (steps .entry)) count (now (out .exit)) (now (values .exit)) ⌝ }
+    requires { ⌜ ShownRanges (layoutOf layout) (pageOf page) × scanning.ExpansionReady (now store) (now «text_firsts») (now «text_seconds») (now kinds) (now lengths) texts (now firsts) (now seconds) (now values) (now steps) count (now arguments) (now ends) given × Room (now out) 0 512 ⌝ }
+    ensures { λ r. ⌜ DealRefines r (printerOf printer) (layoutOf layout) (pageOf page) (textsOf (now (store .entry)) (now («text_firsts» .entry)) (now («text_seconds» .entry)) (now (kinds .entry)) (now (lengths .entry)) texts) false (argumentsOf (now (arguments .entry)) (now (ends .entry)) given) (now (line .entry)) (now (firsts .entry)) (now (seconds .entry)) (now (values .entry)) (now (steps .entry)) count (now (out .exit)) (now (values .exit)) ⌝ }
 {
     match line_syntax::lines::line_of(line) {
         Line::Text => words_as(expand(
@@ -387,8 +387,8 @@ pub fn read<'a>(
     given: usize,
     out: &mut LineBytes,
 ) -> Dealt
-    requires { ⌜ TopInside (now source) (now store) top × Shows (layoutOf layout) (pageOf page) × scanning.Ready (now store) (now «text_firsts») (now «text_seconds») (now kinds) (now lengths) texts (now firsts) (now seconds) (now values) (now steps) count (now arguments) (now ends) given × Room (now out) 0 512 ⌝ }
-    ensures { λ r. ⌜ DealtTo r (printerOf printer) (layoutOf layout) (pageOf page) (textsOf (now (store .entry)) (now («text_firsts» .entry)) (now («text_seconds» .entry)) (now (kinds .entry)) (now (lengths .entry)) texts) opened (argumentsOf (now (arguments .entry)) (now (ends .entry)) given) (nextLine (now (source .entry)) (now (store .entry)) top) (now (firsts .entry)) (now (seconds .entry)) (now (values .entry)) (now (steps .entry)) count (now (out .exit)) (now (values .exit)) ⌝ }
+    requires { ⌜ TopInside (now source) (now store) top × ShownRanges (layoutOf layout) (pageOf page) × scanning.ExpansionReady (now store) (now «text_firsts») (now «text_seconds») (now kinds) (now lengths) texts (now firsts) (now seconds) (now values) (now steps) count (now arguments) (now ends) given × Room (now out) 0 512 ⌝ }
+    ensures { λ r. ⌜ DealRefines r (printerOf printer) (layoutOf layout) (pageOf page) (textsOf (now (store .entry)) (now («text_firsts» .entry)) (now («text_seconds» .entry)) (now (kinds .entry)) (now (lengths .entry)) texts) opened (argumentsOf (now (arguments .entry)) (now (ends .entry)) given) (nextLine (now (source .entry)) (now (store .entry)) top) (now (firsts .entry)) (now (seconds .entry)) (now (values .entry)) (now (steps .entry)) count (now (out .exit)) (now (values .exit)) ⌝ }
 {
     let line = texts::lines::next_line(source, store, top);
     if opened {

@@ -9,19 +9,19 @@ use rules::Request;
 use rules::arrays::ArgumentEnds;
 use rules::arrays::ByteColumn;
 use rules::arrays::LengthColumn;
-use texts::table::Found;
+use texts::table::FoundText;
 ghost use mathlib.Core.Path.{_≡_};
 ghost use mathlib.Core.List.{[]};
 ghost use Prim.Native.Nat.{_<_, _≤_};
 ghost use lib.ListN.{length, getD};
 ghost use Rattle.rules.specs.Names.{nameOf};
 ghost use Rattle.rules.specs.Requests.{traits, startsPage, modeOf};
-ghost use Rattle.texts.specs.Table.Table.{textsOf, Lies};
+ghost use Rattle.texts.specs.Table.Table.{textsOf, TextsInvariant};
 ghost use Rattle.scan.specs.Arguments.Around.{Arguments, argumentsOf};
 ghost use Rattle.line_syntax.specs.Lines.Lines.{namedIs, LineIs, ControlIs};
 ghost use Rattle.line_syntax.specs.Lines.Places.{StringAt, ConditionAt};
 ghost use Rattle.line_syntax.specs.Lines.Meanings.{MeaningIs, PrefixIs};
-ghost use Rattle.line_syntax.specs.Lines.Backs.{Room, Behind, PairBehind, WrittenBack};
+ghost use Rattle.line_syntax.specs.Lines.Backs.{RoomForTwo, Behind, PairBehind, WrittenBack};
 
 // What a line is: text; a control line with a period or not, its name, and the place where its name ends; or ignored.
 pub enum Line {
@@ -38,7 +38,7 @@ pub enum Named {
 }
 
 // A condition is the bytes from a place up to another; what follows its spaces begins at `rest`.
-pub struct Condition {
+pub struct ConditionPart {
     pub from: usize,
     pub to: usize,
     pub rest: usize,
@@ -137,14 +137,14 @@ pub fn string_at(line: &[u8], at: usize) -> usize
 }
 
 // "The condition of an if ends at a space"; "What follows its spaces" is the rest.
-pub fn condition_at(line: &[u8], at: usize) -> Condition
+pub fn condition_at(line: &[u8], at: usize) -> ConditionPart
     requires { ⌜ at ≤ length (now line) ⌝ }
     ensures { λ r. ⌜ ConditionAt (now (line .entry)) at r ⌝ }
 {
     let from = scan::arguments::skip_spaces(line, at);
     let to = scan::arguments::word_end(line, from);
     let rest = scan::arguments::skip_spaces(line, to);
-    Condition { from, to, rest }
+    ConditionPart { from, to, rest }
 }
 
 // What a name stands for: "User names hide requests".
@@ -157,17 +157,17 @@ pub fn meaning_of(
     count: usize,
     name: Name,
 ) -> Meaning
-    requires { ⌜ Lies (now store) (now firsts) (now seconds) (now kinds) (now lengths) count ⌝ }
+    requires { ⌜ TextsInvariant (now store) (now firsts) (now seconds) (now kinds) (now lengths) count ⌝ }
     ensures { λ r. ⌜ MeaningIs (textsOf (now (store .entry)) (now (firsts .entry)) (now (seconds .entry)) (now (kinds .entry)) (now (lengths .entry)) count) name r ⌝ }
 {
     match texts::table::look_up(store, firsts, seconds, kinds, lengths, count, name) {
-        Found::There(spot) => {
+        FoundText::There(spot) => {
             let kind = spot.kind;
             Meaning::Calls(kind)
         }
-        Found::Nothing => match super::request_names::request_of(name) {
-            super::request_names::Named::Is(request) => Meaning::Requests(request),
-            super::request_names::Named::Other => Meaning::Nothing,
+        FoundText::Nothing => match super::request_names::request_of(name) {
+            super::request_names::RequestNamed::Is(request) => Meaning::Requests(request),
+            super::request_names::RequestNamed::Other => Meaning::Nothing,
         },
     }
 }
@@ -185,7 +185,7 @@ pub fn prefix_of(name: Name) -> usize
 
 // A backslash and a byte.
 fn put_pair(byte: u8, out: &mut [u8; 1024], at: usize) -> usize
-    requires { ⌜ Room (now out) at ⌝ }
+    requires { ⌜ RoomForTwo (now out) at ⌝ }
     ensures { λ r. ⌜ PairBehind byte (now (out .entry)) at r (now (out .exit)) ⌝ }
 {
     out[at] = b'\\';
@@ -196,7 +196,7 @@ fn put_pair(byte: u8, out: &mut [u8; 1024], at: usize) -> usize
 
 // One byte as it is written back.
 fn put_back(byte: u8, out: &mut [u8; 1024], at: usize) -> usize
-    requires { ⌜ Room (now out) at ⌝ }
+    requires { ⌜ RoomForTwo (now out) at ⌝ }
     ensures { λ r. ⌜ Behind byte (now (out .entry)) at r (now (out .exit)) ⌝ }
 {
     match byte {

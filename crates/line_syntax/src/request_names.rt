@@ -11,28 +11,28 @@ ghost use Prim.Native.Nat.{_-_};
 ghost use lib.ListN.{getD, take, drop};
 ghost use Rattle.rules.specs.Names.{twoBytes};
 ghost use Rattle.rules.specs.Requests.{requests, requestOf};
-ghost use Rattle.line_syntax.specs.declared.request_names.Named.the-variants.{Other};
+ghost use Rattle.line_syntax.specs.declared.request_names.RequestNamed.the-variants.{Other};
 ghost use Rattle.line_syntax.specs.RequestNames.Requests.{requestFrom, among};
 
 // The request that a name stands for, if there is one.
-pub enum Named {
+pub enum RequestNamed {
     Is(Request),
     Other,
 }
 
 // `request` where the name is the two bytes of `pair`, and `others` else.
-fn choose(name: Name, pair: &[u8; 2], request: Request, others: Named) -> Named
+fn choose(name: Name, pair: &[u8; 2], request: Request, others: RequestNamed) -> RequestNamed
     ensures { λ r. ⌜ requestFrom r ≡ among name ((twoBytes (getD (now (pair .entry)) 0 0) (getD (now (pair .entry)) 1 0), request) ∷ []) (requestFrom others) ⌝ }
 {
     if name.first == pair[0] {
         if name.second == pair[1] {
-            return Named::Is(request);
+            return RequestNamed::Is(request);
         }
     }
     others
 }
 
-fn page_request(name: Name, others: Named) -> Named
+fn page_request(name: Name, others: RequestNamed) -> RequestNamed
     ensures { λ r. ⌜ requestFrom r ≡ among name (take 6 requests) (requestFrom others) ⌝ }
 {
     let r = choose(name, b"ll", Request::Lays(PageSetting::Ll), others);
@@ -43,7 +43,7 @@ fn page_request(name: Name, others: Named) -> Named
     choose(name, b"br", Request::Breaks(Breaking::Br), r)
 }
 
-fn line_request(name: Name, others: Named) -> Named
+fn line_request(name: Name, others: RequestNamed) -> RequestNamed
     ensures { λ r. ⌜ requestFrom r ≡ among name (take 7 (drop 6 requests)) (requestFrom others) ⌝ }
 {
     let r = choose(
@@ -80,10 +80,10 @@ fn line_request(name: Name, others: Named) -> Named
     )
 }
 
-fn text_request(name: Name) -> Named
+fn text_request(name: Name) -> RequestNamed
     ensures { λ r. ⌜ requestFrom r ≡ among name (drop 13 requests) (requestFrom Other) ⌝ }
 {
-    let r = choose(name, b"if", Request::If, Named::Other);
+    let r = choose(name, b"if", Request::If, RequestNamed::Other);
     let r = choose(name, b"wh", Request::Changes(TableChange::Wh), r);
     let r = choose(name, b"rm", Request::Changes(TableChange::Rm), r);
     let r = choose(name, b"de", Request::Changes(TableChange::De), r);
@@ -92,7 +92,7 @@ fn text_request(name: Name) -> Named
 }
 
 // The request of a name.
-pub fn request_of(name: Name) -> Named
+pub fn request_of(name: Name) -> RequestNamed
     ensures { λ r. ⌜ requestFrom r ≡ requestOf name ⌝ }
 {
     page_request(name, line_request(name, text_request(name)))

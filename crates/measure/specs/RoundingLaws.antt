@@ -62,17 +62,17 @@ counted : (size n : ℕ) → 0 < size → Counted size n (halfUp size n)
 unfolding halfUp
 counted size n h = rw (some size h) (counted-by size n (ltb (2 * (n % size)) size) h refl)
 
-pub fewer : (size n : ℕ) → halfUp size n ≤ n
+pub half-up-fewer : (size n : ℕ) → halfUp size n ≤ n
 unfolding halfUp
-fewer zero n = zero-le
-fewer (suc s) n = counted (suc s) n (omega arith) .fewer
+half-up-fewer zero n = zero-le
+half-up-fewer (suc s) n = counted (suc s) n (omega arith) .fewer
 
 whole : (size n : ℕ) → 0 < size → halfUp size (n * size) ≡ n
 unfolding halfUp
 whole size n h = rw (some size h, mul-mod-left, lt-ltb (2 * 0) size h, mul-div-cancel n h)
 
 none : (size : ℕ) → halfUp size 0 ≡ 0
-none size = omega (arith, fewer size 0)
+none size = omega (arith, half-up-fewer size 0)
 
 pub odd : (size : ℕ) (z : ℤ) → nearestOf size (negℤ z) ≡ negℤ (nearestOf size z)
 odd size (pos zero) = rw none
@@ -81,8 +81,8 @@ odd size (negsuc n) = sym (negℤ-negℤ (pos (halfUp size (suc n))))
 
 -- a count is no larger than its units
 pub no-larger : (size : ℕ) (z : ℤ) → natAbs (nearestOf size z) ≤ natAbs z
-no-larger size (pos n) = fewer size n
-no-larger size (negsuc n) = rw abs-neg (fewer size (suc n))
+no-larger size (pos n) = half-up-fewer size n
+no-larger size (negsuc n) = rw abs-neg (half-up-fewer size (suc n))
 
 module _ (size : ℕ) (h : 0 < size) where
   -- whole sizes are counted as they are

@@ -18,8 +18,8 @@ across : ℤ → ℤ
 across z = cellsOf tenPitch z .0
 
 -- what the definitions give, and what document 01 says
-pub table : List (ℤ × ℤ)
-table =
+pub conversions : List (ℤ × ℤ)
+conversions =
     -- 1c is 94
     (literal 1 (scaleOf 99), pos 94)
     -- 3p is 10
@@ -30,6 +30,6 @@ table =
     ∷ (across (negsuc 35), negsuc 1)
     ∷ []
 
-pub worked : map (λ r. r .0) table ≡ map (λ r. r .1) table
-unfolding table literal across scaleOf halfUp
-worked = refl
+pub conversions-worked : map (λ r. r .0) conversions ≡ map (λ r. r .1) conversions
+unfolding conversions literal across scaleOf halfUp
+conversions-worked = refl

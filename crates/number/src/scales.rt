@@ -8,17 +8,17 @@ ghost use mathlib.Core.Path.{_≡_};
 ghost use Prim.Native.Nat.{_-_};
 ghost use Rattle.rules.specs.Numbers.{cells as cellsIn, rows as rowsIn, units as unitsIn, signed as signedOf};
 ghost use Rattle.number.specs.Arithmetic.Values.{judgedOf};
-ghost use Rattle.number.specs.Scales.Rounded.{acrossOf, downOf};
+ghost use Rattle.number.specs.Scales.Rounded.{judgedCells, judgedRows};
 ghost use Rattle.measure.specs.Pitches.{Sized};
 
 // A number of cells across, or its refusal.
-pub enum Across {
+pub enum MaybeCells {
     Are(Cells),
     Bad,
 }
 
 // A number of rows down, or its refusal.
-pub enum Down {
+pub enum MaybeRows {
     Are(Rows),
     Bad,
 }
@@ -32,25 +32,25 @@ pub fn units(s: &[u8], pitch: Pitch) -> Value
 }
 
 // The argument of ll, in, ti or po, rounded to cells.
-pub fn cells(s: &[u8], pitch: Pitch) -> Across
+pub fn cells(s: &[u8], pitch: Pitch) -> MaybeCells
     requires { ⌜ Sized pitch ⌝ }
-    ensures { λ r. ⌜ acrossOf r ≡ cellsIn pitch (now (s .entry)) ⌝ }
+    ensures { λ r. ⌜ judgedCells r ≡ cellsIn pitch (now (s .entry)) ⌝ }
 {
     let Value::Is(v) = super::expression::evaluate(s, Scale::Em, pitch) else {
-        return Across::Bad;
+        return MaybeCells::Bad;
     };
-    Across::Are(measure::cells_of(v, pitch))
+    MaybeCells::Are(measure::cells_of(v, pitch))
 }
 
 // The argument of sp, pl or wh, rounded to rows.
-pub fn rows(s: &[u8], pitch: Pitch) -> Down
+pub fn rows(s: &[u8], pitch: Pitch) -> MaybeRows
     requires { ⌜ Sized pitch ⌝ }
-    ensures { λ r. ⌜ downOf r ≡ rowsIn pitch (now (s .entry)) ⌝ }
+    ensures { λ r. ⌜ judgedRows r ≡ rowsIn pitch (now (s .entry)) ⌝ }
 {
     let Value::Is(v) = super::expression::evaluate(s, Scale::LineSpace, pitch) else {
-        return Down::Bad;
+        return MaybeRows::Bad;
     };
-    Down::Are(measure::rows_of(v, pitch))
+    MaybeRows::Are(measure::rows_of(v, pitch))
 }
 
 // Whether a sign leads, which marks a change to the old value.

@@ -3,8 +3,8 @@ ghost use Prim.Native.Nat.{_≤_};
 ghost use lib.ListN.{length};
 use libc::STDIN_FILENO;
 use number::arithmetic::Value;
-use number::scales::Across;
-use number::scales::Down;
+use number::scales::MaybeCells;
+use number::scales::MaybeRows;
 use report::text;
 use report::wide;
 
@@ -16,13 +16,13 @@ fn answer(argument: &[u8]) {
     }
     text(b" ");
     match number::scales::cells(argument, pitch) {
-        Across::Are(c) => report::number(wide(c.0)),
-        Across::Bad => text(b"refused"),
+        MaybeCells::Are(c) => report::number(wide(c.0)),
+        MaybeCells::Bad => text(b"refused"),
     }
     text(b" ");
     match number::scales::rows(argument, pitch) {
-        Down::Are(r) => report::number(wide(r.0)),
-        Down::Bad => text(b"refused"),
+        MaybeRows::Are(r) => report::number(wide(r.0)),
+        MaybeRows::Bad => text(b"refused"),
     }
     if number::scales::signed(argument) {
         text(b" a change");

@@ -1,12 +1,12 @@
 // The move down a page: rows, page ends, and the trap that a row reaches.
 use measure::Rows;
-use traps::table::Found;
+use traps::table::FoundTrap;
 use traps::table::Planted;
 ghost use mathlib.Core.Path.{_≡_};
 ghost use Prim.Native.Nat.{_≤_};
 ghost use Rattle.measure.specs.Counts.{downOf};
 ghost use Rattle.traps.specs.Table.Table.{plantedOf};
-ghost use Rattle.page.specs.Position.Landing.{Sound, pageOf, landingIs, landingDown, landingNext, below, blanksOf};
+ghost use Rattle.page.specs.Position.Landing.{PositionInvariant, pageOf, landingIs, landingDown, landingNext, rowsToTrap, blanksOf};
 
 // The page being written: its number, 0 before the first; the rows used on it; and whether the end has begun.
 pub struct Page {
@@ -17,14 +17,14 @@ pub struct Page {
 
 // Where a move down leads: a row of a page, and the trap that is seen there; the end is done; or a page too many.
 pub enum Moved {
-    On(Page, Found),
+    On(Page, FoundTrap),
     Done,
     TooMany,
 }
 
 // The start of the next page.
 pub fn start_page(page: Page, length: Rows, planted: Planted) -> Moved
-    requires { ⌜ Sound page length planted ⌝ }
+    requires { ⌜ PositionInvariant page length planted ⌝ }
     ensures { λ r. ⌜ landingIs r ≡ landingNext (pageOf page) (downOf length) (plantedOf planted) ⌝ }
 {
     if page.number < 1000000 {
@@ -40,7 +40,7 @@ pub fn start_page(page: Page, length: Rows, planted: Planted) -> Moved
 
 // So many rows down from where the page stands.
 pub fn move_down(page: Page, rows: Rows, length: Rows, planted: Planted) -> Moved
-    requires { ⌜ Sound page length planted ⌝ }
+    requires { ⌜ PositionInvariant page length planted ⌝ }
     ensures { λ r. ⌜ landingIs r ≡ landingDown (pageOf page) (downOf length) (downOf rows) (plantedOf planted) ⌝ }
 {
     let to = measure::down(page.used) as usize + measure::down(rows) as usize;
@@ -62,8 +62,8 @@ pub fn move_down(page: Page, rows: Rows, length: Rows, planted: Planted) -> Move
 
 // The rows from here to the nearest trap or the page end.
 pub fn rows_below(page: Page, length: Rows, planted: Planted) -> Rows
-    requires { ⌜ Sound page length planted ⌝ }
-    ensures { λ r. ⌜ downOf r ≡ below (pageOf page) (downOf length) (plantedOf planted) ⌝ }
+    requires { ⌜ PositionInvariant page length planted ⌝ }
+    ensures { λ r. ⌜ downOf r ≡ rowsToTrap (pageOf page) (downOf length) (plantedOf planted) ⌝ }
 {
     let row = traps::nearest::nearest(planted, length, page.used, length);
     measure::rows_down((measure::down(row) - measure::down(page.used)) as u16)
@@ -71,8 +71,8 @@ pub fn rows_below(page: Page, length: Rows, planted: Planted) -> Rows
 
 // The blank rows that an sp writes: "sp stops at the nearest trap or page end and drops the rest; 0 or less moves nothing."
 pub fn blanks(count: Rows, page: Page, length: Rows, planted: Planted) -> Rows
-    requires { ⌜ Sound page length planted ⌝ }
-    ensures { λ r. ⌜ downOf r ≡ blanksOf (count .0) (below (pageOf page) (downOf length) (plantedOf planted)) ⌝ }
+    requires { ⌜ PositionInvariant page length planted ⌝ }
+    ensures { λ r. ⌜ downOf r ≡ blanksOf (count .0) (rowsToTrap (pageOf page) (downOf length) (plantedOf planted)) ⌝ }
 {
     let wanted = measure::down(count);
     if wanted == 0 {

@@ -10,8 +10,8 @@ use rules::arrays::ArgumentEnds;
 use rules::arrays::ByteColumn;
 use rules::arrays::StackBytes;
 use rules::arrays::StackEnds;
-use texts::table::Place;
-use traps::table::Found;
+use texts::table::TextPlace;
+use traps::table::FoundTrap;
 use traps::table::Planted;
 ghost use mathlib.Core.Path.{_≡_};
 ghost use mathlib.Core.Bool.{false};
@@ -22,9 +22,9 @@ ghost use Rattle.rules.specs.Rows as rule;
 ghost use Rattle.scan.specs.Arguments.Around.{Arguments};
 ghost use Rattle.texts.specs.Table.Table.{Names};
 ghost use Rattle.traps.specs.Table.Table.{foundIs};
-ghost use Rattle.page.specs.Position.Landing.{Sound, landingIs};
-ghost use Rattle.page.specs.Springs.Held.{heldCount, lastCount, Plain, Ready, HeldTo};
-ghost use Rattle.page.specs.Springs.Calls.{CalledTo, SprungTo, LandedTo, landedFrom, MovedTo};
+ghost use Rattle.page.specs.Position.Landing.{PositionInvariant, landingIs};
+ghost use Rattle.page.specs.Springs.Held.{heldCount, lastCount, Plain, StackReady, HeldTo};
+ghost use Rattle.page.specs.Springs.Calls.{TextCallRefines, TrapRefines, LandingRefines, landedFrom, MoveRefines};
 
 // Whether the session goes on, or how it is closed.
 pub enum Way {
@@ -76,7 +76,7 @@ pub fn hold(
     arena: &mut StackBytes,
     ends: &mut StackEnds,
 ) -> Stack
-    requires { ⌜ Ready stack (now arena) (now ends) (now bytes) ⌝ }
+    requires { ⌜ StackReady stack (now arena) (now ends) (now bytes) ⌝ }
     ensures { λ r. ⌜ HeldTo held (now (bytes .entry)) stack (now (arena .entry)) (now (ends .entry)) r (now (arena .exit)) (now (ends .exit)) ⌝ }
 {
     let Held::Item(what) = held else {
@@ -99,8 +99,8 @@ pub fn call(
     arena: &mut StackBytes,
     ends: &mut StackEnds,
 ) -> Called
-    requires { ⌜ Ready stack (now arena) (now ends) (now bytes) × Plain held × (length (now arguments) ≤ 512) × Arguments (now arguments) (now given) count ⌝ }
-    ensures { λ r. ⌜ CalledTo name count (now (arguments .entry)) (now (given .entry)) held (now (bytes .entry)) last stack (now (arena .entry)) (now (ends .entry)) r (now (arena .exit)) (now (ends .exit)) ⌝ }
+    requires { ⌜ StackReady stack (now arena) (now ends) (now bytes) × Plain held × (length (now arguments) ≤ 512) × Arguments (now arguments) (now given) count ⌝ }
+    ensures { λ r. ⌜ TextCallRefines name count (now (arguments .entry)) (now (given .entry)) held (now (bytes .entry)) last stack (now (arena .entry)) (now (ends .entry)) r (now (arena .exit)) (now (ends .exit)) ⌝ }
 {
     if 16 < stack.depth + held_count(held) + 1 + last_count(last) {
         return Called { full: true, stack };
@@ -128,7 +128,7 @@ fn held_alone(
     arena: &mut StackBytes,
     ends: &mut StackEnds,
 ) -> Called
-    requires { ⌜ Ready stack (now arena) (now ends) (now bytes) ⌝ }
+    requires { ⌜ StackReady stack (now arena) (now ends) (now bytes) ⌝ }
     ensures { λ r. ⌜ (r .full ≡ false) × HeldTo held (now (bytes .entry)) stack (now (arena .entry)) (now (ends .entry)) (r .stack) (now (arena .exit)) (now (ends .exit)) ⌝ }
 {
     let over = hold(held, bytes, stack, arena, ends);
@@ -140,7 +140,7 @@ fn held_alone(
 
 // The trap that is seen at a row springs: "a name with no user text springs nothing".
 pub fn spring(
-    found: Found,
+    found: FoundTrap,
     last: bool,
     held: Held,
     bytes: &[u8],
@@ -151,14 +151,14 @@ pub fn spring(
     seconds: &ByteColumn,
     texts: usize,
 ) -> Called
-    requires { ⌜ Ready stack (now arena) (now ends) (now bytes) × Plain held × Names (now firsts) (now seconds) texts ⌝ }
-    ensures { λ r. ⌜ SprungTo (foundIs found) last held (now (bytes .entry)) stack (now (arena .entry)) (now (ends .entry)) (now (firsts .entry)) (now (seconds .entry)) texts r (now (arena .exit)) (now (ends .exit)) ⌝ }
+    requires { ⌜ StackReady stack (now arena) (now ends) (now bytes) × Plain held × Names (now firsts) (now seconds) texts ⌝ }
+    ensures { λ r. ⌜ TrapRefines (foundIs found) last held (now (bytes .entry)) stack (now (arena .entry)) (now (ends .entry)) (now (firsts .entry)) (now (seconds .entry)) texts r (now (arena .exit)) (now (ends .exit)) ⌝ }
 {
-    let Found::Text(name) = found else {
+    let FoundTrap::Text(name) = found else {
         return held_alone(held, bytes, stack, arena, ends);
     };
     match texts::table::find(firsts, seconds, texts, name) {
-        Place::At(_) => {
+        TextPlace::At(_) => {
             let none = [0u16; ARGUMENT_COUNT];
             call(
                 name,
@@ -173,7 +173,7 @@ pub fn spring(
                 ends,
             )
         }
-        Place::Not => held_alone(held, bytes, stack, arena, ends),
+        TextPlace::Not => held_alone(held, bytes, stack, arena, ends),
     }
 }
 
@@ -209,8 +209,8 @@ fn land(
     seconds: &ByteColumn,
     texts: usize,
 ) -> Landed
-    requires { ⌜ Ready stack (now arena) (now ends) (now bytes) × Plain held × Names (now firsts) (now seconds) texts ⌝ }
-    ensures { λ r. ⌜ LandedTo (landingIs moved) page held (now (bytes .entry)) stack (now (arena .entry)) (now (ends .entry)) (now (firsts .entry)) (now (seconds .entry)) texts r (now (arena .exit)) (now (ends .exit)) ⌝ }
+    requires { ⌜ StackReady stack (now arena) (now ends) (now bytes) × Plain held × Names (now firsts) (now seconds) texts ⌝ }
+    ensures { λ r. ⌜ LandingRefines (landingIs moved) page held (now (bytes .entry)) stack (now (arena .entry)) (now (ends .entry)) (now (firsts .entry)) (now (seconds .entry)) texts r (now (arena .exit)) (now (ends .exit)) ⌝ }
 {
     match moved {
         Moved::On(next, found) => {
@@ -256,8 +256,8 @@ pub fn down(
     seconds: &ByteColumn,
     texts: usize,
 ) -> Landed
-    requires { ⌜ Sound page length planted × Ready stack (now arena) (now ends) (now bytes) × Plain held × Names (now firsts) (now seconds) texts ⌝ }
-    ensures { λ r. ⌜ MovedTo (rule.down (downOf rows)) page length planted held (now (bytes .entry)) stack (now (arena .entry)) (now (ends .entry)) (now (firsts .entry)) (now (seconds .entry)) texts r (now (arena .exit)) (now (ends .exit)) ⌝ }
+    requires { ⌜ PositionInvariant page length planted × StackReady stack (now arena) (now ends) (now bytes) × Plain held × Names (now firsts) (now seconds) texts ⌝ }
+    ensures { λ r. ⌜ MoveRefines (rule.down (downOf rows)) page length planted held (now (bytes .entry)) stack (now (arena .entry)) (now (ends .entry)) (now (firsts .entry)) (now (seconds .entry)) texts r (now (arena .exit)) (now (ends .exit)) ⌝ }
 {
     let moved = super::position::move_down(page, rows, length, planted);
     land(
@@ -288,8 +288,8 @@ pub fn start_page(
     seconds: &ByteColumn,
     texts: usize,
 ) -> Landed
-    requires { ⌜ Sound page length planted × Ready stack (now arena) (now ends) (now bytes) × Plain held × Names (now firsts) (now seconds) texts ⌝ }
-    ensures { λ r. ⌜ MovedTo rule.startPage page length planted held (now (bytes .entry)) stack (now (arena .entry)) (now (ends .entry)) (now (firsts .entry)) (now (seconds .entry)) texts r (now (arena .exit)) (now (ends .exit)) ⌝ }
+    requires { ⌜ PositionInvariant page length planted × StackReady stack (now arena) (now ends) (now bytes) × Plain held × Names (now firsts) (now seconds) texts ⌝ }
+    ensures { λ r. ⌜ MoveRefines rule.startPage page length planted held (now (bytes .entry)) stack (now (arena .entry)) (now (ends .entry)) (now (firsts .entry)) (now (seconds .entry)) texts r (now (arena .exit)) (now (ends .exit)) ⌝ }
 {
     let moved = super::position::start_page(page, length, planted);
     land(

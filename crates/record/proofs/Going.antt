@@ -14,38 +14,38 @@ use Rattle.stream.specs.Machine.{stop, callFrom}
 use Rattle.rules.specs.Printers.{tenToTheInch}
 use Rattle.rules.specs.State.{State}
 use Rattle.rules.specs.Load.{formatter}
-use Rattle.source_line.specs.CallLaws.{after, call-writes}
+use Rattle.source_line.specs.CallLaws.{outcomeAfter, call-writes}
 use Rattle.source_line.specs.Writing.{Writes, WrittenTo}
 use Rattle.record.specs.declared.Record.{Record}
 use Rattle.record.specs.declared.Closing.{Closing}
 use Rattle.record.specs.declared.Closing.the-variants.{Open}
-use Rattle.record.specs.declared.Wrote.{Wrote}
+use Rattle.record.specs.declared.WrittenOut.{WrittenOut}
 use Rattle.record.specs.declared.Stop.{Stop}
 use Rattle.record.specs.declared.Stop.the-variants.{Goes, With}
-use Rattle.record.specs.View.{stateOf, waitingOf, Legal}
+use Rattle.record.specs.View.{stateOf, waitingOf, ValidRecord}
 use Rattle.record.specs.Contract.{callOn, Closes, EndedBy}
-use Rattle.record.specs.Turns.{placeOf, putAt, none, advanced, withWaiting, weight, WroteTo, Turns, Leads, Stops, Turned, Through, begins, stays, turns, Runs}
+use Rattle.record.specs.Turns.{coreOf, putAt, nothingWaits, advanced, withWaiting, weight, WrittenOutTo, TurnReady, TurnRefines, StopRefines, TurnContract, TurnsRefine, noTurns, stays, turns, RunContract}
 use Rattle.record.proofs.Leading.{stops-closed}
 
 -- What the loop keeps, of a call from r₀ and st₀ on: t bytes are taken, w written.
 pub record Going (r₀ : Record) (st₀ block : List ℕ) (last : Bool) (out₀ : List ℕ) (r : Record) (st : List ℕ) (t w : ℕ) (out : List ℕ) : Type 0 where
-  pub legal : Legal r st
+  pub valid : ValidRecord r st
   pub taken : t ≤ length block
   pub written : w ≤ length out₀
   pub long : length out ≡ length out₀
   pub tail : drop w out ≡ drop w out₀
-  pub same : callOn r₀ st₀ block last (length out₀) ≡ after (take t block) (take w out) (callOn r st (drop t block) last (length out₀ - w))
-  pub through : Through block last r₀ st₀ r st t
+  pub same : callOn r₀ st₀ block last (length out₀) ≡ outcomeAfter (take t block) (take w out) (callOn r st (drop t block) last (length out₀ - w))
+  pub through : TurnsRefine block last r₀ st₀ r st t
 
 -- What it has shown where it stops.
 abbrev pub Ends : (r₀ : Record) → (st₀ block : List ℕ) → (last : Bool) → (out₀ : List ℕ) → Answer → Record → (st : List ℕ) → (t w : ℕ) → (out : List ℕ) → Type 0
 Ends r₀ st₀ bl last out₀ a r st t w out =
-    Runs r₀ st₀ bl last out₀ (record { answer = a; taken = t; written = w; next = r }) st out
+    RunContract r₀ st₀ bl last out₀ (record { answer = a; taken = t; written = w; next = r }) st out
 
-pub go-start : (r : Record) (st bl : List ℕ) (last : Bool) (out : List ℕ) → Legal r st → Going r st bl last out r st 0 0 out
+pub go-start : (r : Record) (st bl : List ℕ) (last : Bool) (out : List ℕ) → ValidRecord r st → Going r st bl last out r st 0 0 out
 go-start r st bl last out l =
     let e : length out - 0 ≡ length out = omega arith in
-    record { legal = l; taken = omega arith; written = omega arith; long = refl; tail = refl; same = ap (λ n. callOn r st bl last n) (sym e); through = begins }
+    record { valid = l; taken = omega arith; written = omega arith; long = refl; tail = refl; same = ap (λ n. callOn r st bl last n) (sym e); through = noTurns }
 
 -- numbers
 lesser : (n a b : ℕ) → n ≡ min a b → (n ≤ a) × (n ≤ b)
@@ -68,21 +68,21 @@ drop-take (suc n) (suc m) (x ∷ l) = let e : suc m - suc n ≡ m - n = omega ar
 
 -- a record with another closing answer
 abbrev closedBy : Closing → Record → Record
-closedBy c r = putAt (placeOf (r .status) (r .source) (r .waiting) c) r
+closedBy c r = putAt (coreOf (r .status) (r .source) (r .waiting) c) r
 
 -- the record, open, with nothing waiting
 abbrev pub atRest : Record → Record
-atRest r = closedBy Open (withWaiting none r)
+atRest r = closedBy Open (withWaiting nothingWaits r)
 
 module _ (r₀ : Record) (st₀ block : List ℕ) (last : Bool) (out₀ : List ℕ) (r : Record) (st : List ℕ) (t w : ℕ) (out : List ℕ) (k : Going r₀ st₀ block last out₀ r st t w out) where
   pub may-write : Writes (r .row) (r .waiting .at) (r .waiting .end) out w
-  may-write = record { long = k .legal .formed .row-long; order = k .legal .formed .order; inside = k .legal .formed .inside; place = omega (arith, k .written, k .long) }
+  may-write = record { long = k .valid .formed .row-long; order = k .valid .formed .order; inside = k .valid .formed .inside; place = omega (arith, k .written, k .long) }
 
   -- waiting bytes are written
   go-write : (n : ℕ) (out' : List ℕ) → WrittenTo (r .row) (r .waiting .at) (r .waiting .end) out w n out' → (v : ℕ) → v ≡ w + n
       → Going r₀ st₀ block last out₀ (withWaiting (advanced (r .waiting) n) r) st t v out'
   go-write n out' f v ve =
-      let l = k .legal .formed in
+      let l = k .valid .formed in
       let at = r .waiting .at in
       let end = r .waiting .end in
       let row = r .row in
@@ -107,7 +107,7 @@ module _ (r₀ : Record) (st₀ block : List ℕ) (last : Bool) (out₀ : List �
       let s = stateOf r' st in
       rw ve
       (record {
-        legal = record {
+        valid = record {
           formed = record {
             sound = l .sound;
             fits = l .fits;
@@ -119,16 +119,16 @@ module _ (r₀ : Record) (st₀ block : List ℕ) (last : Bool) (out₀ : List �
             order = within end at n (l .order) n≤;
             inside = l .inside;
           };
-          within = k .legal .within;
+          within = k .valid .within;
         };
         taken = k .taken;
         written = m;
         long = ap length (f .is) ∙ length-paste out w (drop at row) n (rw (k .long) m) few ∙ k .long;
         tail = ap (drop (w + n)) (f .is) ∙ drop-paste out w (drop at row) n place few ∙ sym (drop-drop n w out) ∙ ap (drop n) (k .tail) ∙ drop-drop n w out₀;
         same = k .same
-            ∙ ap (after (take t block) (take w out))
+            ∙ ap (outcomeAfter (take t block) (take w out))
             (call-writes (formatter tenToTheInch) n ws s (drop t block) last (length out₀ - w) (rw wl n≤) n≤'
-            ∙ ap₂ (λ u y. after [] (take n ws) (callFrom (formatter tenToTheInch) u s (drop t block) last y)) re e₂)
+            ∙ ap₂ (λ u y. outcomeAfter [] (take n ws) (callFrom (formatter tenToTheInch) u s (drop t block) last y)) re e₂)
             ∙ ap (λ z. record { took = take t block ++ x .took; bytes = z; rest = x .rest; answer = x .answer; waiting = x .waiting; state = x .state })
             (sym (append-assoc (take w out) (take n ws) (x .bytes)) ∙ ap (λ z. z ++ x .bytes) (sym tk));
         through = stays (k .through) refl refl;
@@ -138,16 +138,16 @@ module _ (r₀ : Record) (st₀ block : List ℕ) (last : Bool) (out₀ : List �
   waits-none : r .waiting .at ≡ r .waiting .end → waitingOf r ≡ []
   waits-none e = let z : r .waiting .end - r .waiting .at ≡ 0 = omega arith in ap (λ n. take n (drop (r .waiting .at) (r .row))) z
 
-  may-turn : r .waiting .end ≤ r .waiting .at → Turns block r st t
-  may-turn h = record { legal = k .legal; none = omega (arith, k .legal .formed .order, h); within = k .taken }
+  may-turn : r .waiting .end ≤ r .waiting .at → TurnReady block r st t
+  may-turn h = record { valid = k .valid; none = omega (arith, k .valid .formed .order, h); within = k .taken }
 
   -- the places of waiting bytes do not matter where none wait
   go-rest : r .waiting .at ≡ r .waiting .end → r .closing ≡ Open → Going r₀ st₀ block last out₀ (atRest r) st t w out
   go-rest e o =
-      let l = k .legal .formed in
-      subst (λ v. Going r₀ st₀ block last out₀ (closedBy v (withWaiting none r)) st t w out) o
+      let l = k .valid .formed in
+      subst (λ v. Going r₀ st₀ block last out₀ (closedBy v (withWaiting nothingWaits r)) st t w out) o
       (record {
-        legal = record {
+        valid = record {
           formed = record {
             sound = l .sound;
             fits = l .fits;
@@ -159,30 +159,30 @@ module _ (r₀ : Record) (st₀ block : List ℕ) (last : Bool) (out₀ : List �
             order = omega arith;
             inside = omega arith;
           };
-          within = k .legal .within;
+          within = k .valid .within;
         };
         taken = k .taken;
         written = k .written;
         long = k .long;
         tail = k .tail;
-        same = k .same ∙ ap (λ u. after (take t block) (take w out) (callFrom (formatter tenToTheInch) u (stateOf r st) (drop t block) last (length out₀ - w))) (waits-none e);
+        same = k .same ∙ ap (λ u. outcomeAfter (take t block) (take w out) (callFrom (formatter tenToTheInch) u (stateOf r st) (drop t block) last (length out₀ - w))) (waits-none e);
         through = stays (k .through) refl refl;
       })
 
   -- a turn
-  pub go-turn : Turns block r st t → (r' : Record) (st' : List ℕ) (t' : ℕ) → Leads block last r st t r' st' t' → Going r₀ st₀ block last out₀ r' st' t' w out
+  pub go-turn : TurnReady block r st t → (r' : Record) (st' : List ℕ) (t' : ℕ) → TurnRefines block last r st t r' st' t' → Going r₀ st₀ block last out₀ r' st' t' w out
   go-turn h r' st' t' f =
       let x = callOn r' st' (drop t' block) last (length out₀ - w) in
       let e : t + (t' - t) ≡ t' = omega (arith, f .behind) in
       let tk : take t block ++ take (t' - t) (drop t block) ≡ take t' block = sym (take-add t (t' - t) block) ∙ ap (λ n. take n block) e in
       record {
-        legal = f .legal;
+        valid = f .valid;
         taken = f .within;
         written = k .written;
         long = k .long;
         tail = k .tail;
         same = k .same
-            ∙ ap (after (take t block) (take w out))
+            ∙ ap (outcomeAfter (take t block) (take w out))
             (ap (λ u. callFrom (formatter tenToTheInch) u (stateOf r st) (drop t block) last (length out₀ - w)) (waits-none (h .none)) ∙ f .same (length out₀ - w))
             ∙ ap (λ z. record { took = z; bytes = take w out ++ x .bytes; rest = x .rest; answer = x .answer; waiting = x .waiting; state = x .state })
             (sym (append-assoc (take t block) (take (t' - t) (drop t block)) (x .took)) ∙ ap (λ z. z ++ x .took) tk);
@@ -190,11 +190,11 @@ module _ (r₀ : Record) (st₀ block : List ℕ) (last : Bool) (out₀ : List �
       }
 
   -- where the call stops
-  does : (a : Answer) → callOn r st (drop t block) last (length out₀ - w) ≡ stop (stateOf r st) (drop t block) (waitingOf r) (replyOf a) → EndedBy a r
+  refines : (a : Answer) → callOn r st (drop t block) last (length out₀ - w) ≡ stop (stateOf r st) (drop t block) (waitingOf r) (replyOf a) → EndedBy a r
       → Ends r₀ st₀ block last out₀ a r st t w out
-  does a q ended =
+  refines a q ended =
       let o = callOn r₀ st₀ block last (length out₀) in
-      let e : o ≡ after (take t block) (take w out) (stop (stateOf r st) (drop t block) (waitingOf r) (replyOf a)) = k .same ∙ ap (after (take t block) (take w out)) q in
+      let e : o ≡ outcomeAfter (take t block) (take w out) (stop (stateOf r st) (drop t block) (waitingOf r) (replyOf a)) = k .same ∙ ap (outcomeAfter (take t block) (take w out)) q in
       let eb : o .bytes ≡ take w out = ap (λ v. v .bytes) e ∙ append-nil (take w out) in
       let lw : length (take w out) ≡ w = length-take-le w out (omega (arith, k .written, k .long)) in
       record {
@@ -205,7 +205,7 @@ module _ (r₀ : Record) (st₀ block : List ℕ) (last : Bool) (out₀ : List �
           room = sym (take-append-drop w out) ∙ ap (λ v. take w out ++ v) (k .tail ∙ ap (λ v. drop v out₀) (sym lw)) ∙ ap (λ v. v ++ drop (length v) out₀) (sym eb);
           waiting = sym (ap (λ v. v .waiting) e);
           state = sym (ap (λ v. v .state) e);
-          legal = k .legal;
+          valid = k .valid;
           ended = ended;
         };
         through = k .through;
@@ -215,31 +215,31 @@ module _ (r₀ : Record) (st₀ block : List ℕ) (last : Bool) (out₀ : List �
   no-room [] s bl h = absurd (omega arith)
   no-room (b ∷ ws) s bl h = refl
 
-  does-room : r .waiting .at < r .waiting .end → w ≡ length out₀ → Ends r₀ st₀ block last out₀ answer.NeedsRoom r st t w out
-  does-room h e =
-      let l = k .legal .formed in
+  refines-room : r .waiting .at < r .waiting .end → w ≡ length out₀ → Ends r₀ st₀ block last out₀ answer.NeedsRoom r st t w out
+  refines-room h e =
+      let l = k .valid .formed in
       let z : length out₀ - w ≡ 0 = omega arith in
       let d : length (drop (r .waiting .at) (r .row)) ≡ 872 - r .waiting .at = rw (length-drop (r .waiting .at) (r .row), l .row-long) refl in
       let n : length (waitingOf r) ≡ r .waiting .end - r .waiting .at =
       length-take-le (r .waiting .end - r .waiting .at) (drop (r .waiting .at) (r .row)) (omega (arith, l .inside)) in
-      does answer.NeedsRoom
+      refines answer.NeedsRoom
       (ap (λ v. callOn r st (drop t block) last v) z ∙ no-room (waitingOf r) (stateOf r st) (drop t block) (omega arith)) tt
 
-  pub does-stop : Turns block r st t → (a : Answer) (r' : Record) (st' : List ℕ) (t' : ℕ) → Stops block last r st t a r' st' t'
+  pub refines-stop : TurnReady block r st t → (a : Answer) (r' : Record) (st' : List ℕ) (t' : ℕ) → StopRefines block last r st t a r' st' t'
       → Ends r₀ st₀ block last out₀ a r' st' t' w out
-  does-stop h a r' st' t' f =
+  refines-stop h a r' st' t' f =
       let n = waits-none (h .none) in
       subst (λ v. Ends r₀ st₀ block last out₀ a v st' t' w out) (sym (f .same-record))
       (subst (λ v. Ends r₀ st₀ block last out₀ a r v t' w out) (sym (f .same-store))
       (subst (λ v. Ends r₀ st₀ block last out₀ a r st v w out) (sym (f .same-taken))
-      (does a
+      (refines a
       (ap (λ u. callFrom (formatter tenToTheInch) u (stateOf r st) (drop t block) last (length out₀ - w)) n ∙ f .same (length out₀ - w)
       ∙ ap (λ u. stop (stateOf r st) (drop t block) u (replyOf a)) (sym n))
       (f .ended))))
 
 -- one turn of the loop: the waiting bytes are written as far as they fit, and then the call goes on or stops
 module _ (r₀ : Record) (st₀ block : List ℕ) (last : Bool) (out₀ : List ℕ) (r : Record) (st : List ℕ) (t w : ℕ) (out : List ℕ)
-    (k : Going r₀ st₀ block last out₀ r st t w out) (x : Wrote) (out' : List ℕ) (f : WroteTo (r .waiting) (r .row) out w x out') where
+    (k : Going r₀ st₀ block last out₀ r st t w out) (x : WrittenOut) (out' : List ℕ) (f : WrittenOutTo (r .waiting) (r .row) out w x out') where
   -- the record after the writing
   abbrev then : Record
   then = withWaiting (x .waiting) r
@@ -254,7 +254,7 @@ module _ (r₀ : Record) (st₀ block : List ℕ) (last : Bool) (out₀ : List �
 
   -- no room is left
   pub ends-full : x .waiting .at < x .waiting .end → Ends r₀ st₀ block last out₀ answer.NeedsRoom then st t (x .written) out'
-  ends-full h = does-room r₀ st₀ block last out₀ then st t (x .written) out' written-on h full
+  ends-full h = refines-room r₀ st₀ block last out₀ then st t (x .written) out' written-on h full
     where
       lacks : (n a b m : ℕ) → n ≡ min (b - a) m → a + n < b → n ≡ m
       lacks n a b m e h = omega arith
@@ -270,29 +270,29 @@ module _ (r₀ : Record) (st₀ block : List ℕ) (last : Bool) (out₀ : List �
     pub ends-closed : (a : Answer) → Closes (r .closing) a → Ends r₀ st₀ block last out₀ a then st t (x .written) out'
     ends-closed a c =
         let m = may-turn r₀ st₀ block last out₀ then st t (x .written) out' written-on h in
-        does-stop r₀ st₀ block last out₀ then st t (x .written) out' written-on m a then st t (stops-closed block last then st t m a c)
+        refines-stop r₀ st₀ block last out₀ then st t (x .written) out' written-on m a then st t (stops-closed block last then st t m a c)
 
     -- it is open
     module _ (o : r .closing ≡ Open) where
       at-rest : Going r₀ st₀ block last out₀ (atRest r) st t (x .written) out'
-      at-rest = go-rest r₀ st₀ block last out₀ then st t (x .written) out' written-on (omega (arith, written-on .legal .formed .order, h)) o
+      at-rest = go-rest r₀ st₀ block last out₀ then st t (x .written) out' written-on (omega (arith, written-on .valid .formed .order, h)) o
 
-      pub turns-on : Turns block (atRest r) st t
-      turns-on = record { legal = at-rest .legal; none = refl; within = at-rest .taken }
+      pub turns-on : TurnReady block (atRest r) st t
+      turns-on = record { valid = at-rest .valid; none = refl; within = at-rest .taken }
 
-      module _ (s : Stop) (r' : Record) (st' : List ℕ) (t' : ℕ) (d : Turned s block last (atRest r) st t r' st' t') where
+      module _ (s : Stop) (r' : Record) (st' : List ℕ) (t' : ℕ) (d : TurnContract s block last (atRest r) st t r' st' t') where
         pub ends-with : (a : Answer) → s ≡ With a → Ends r₀ st₀ block last out₀ a r' st' t' (x .written) out'
         ends-with a e =
-            does-stop r₀ st₀ block last out₀ (atRest r) st t (x .written) out' at-rest turns-on a r' st' t'
-            (subst (λ v. Turned v block last (atRest r) st t r' st' t') e d)
+            refines-stop r₀ st₀ block last out₀ (atRest r) st t (x .written) out' at-rest turns-on a r' st' t'
+            (subst (λ v. TurnContract v block last (atRest r) st t r' st' t') e d)
 
-        leads-on : s ≡ Goes → Leads block last (atRest r) st t r' st' t'
-        leads-on e = subst (λ v. Turned v block last (atRest r) st t r' st' t') e d
+        turn-on : s ≡ Goes → TurnRefines block last (atRest r) st t r' st' t'
+        turn-on e = subst (λ v. TurnContract v block last (atRest r) st t r' st' t') e d
 
         pub goes-on : s ≡ Goes → Going r₀ st₀ block last out₀ r' st' t' (x .written) out'
-        goes-on e = go-turn r₀ st₀ block last out₀ (atRest r) st t (x .written) out' at-rest turns-on r' st' t' (leads-on e)
+        goes-on e = go-turn r₀ st₀ block last out₀ (atRest r) st t (x .written) out' at-rest turns-on r' st' t' (turn-on e)
 
         pub goes-less : s ≡ Goes → weight block r' st' t' < weight block r st t
         goes-less e =
-            let m : weight block (atRest r) st t ≡ weight block r st t = ap (λ v. weight block (closedBy v (withWaiting none r)) st t) (sym o) in
-            subst (λ v. weight block r' st' t' < v) m (leads-on e .less)
+            let m : weight block (atRest r) st t ≡ weight block r st t = ap (λ v. weight block (closedBy v (withWaiting nothingWaits r)) st t) (sym o) in
+            subst (λ v. weight block r' st' t' < v) m (turn-on e .less)

@@ -11,19 +11,19 @@ use Rattle.stream.specs.declared.Answer.the-variants as answer
 use Rattle.rules.specs.State.{State}
 use Rattle.rules.specs.StateSetters.{input, withInput}
 use Rattle.source_line.specs.declared.Source.{Source}
-use Rattle.source_line.specs.Gathering.{sourceIn, Takes}
-use Rattle.source_line.specs.GatheringLaws.{Inside, inside-is, inside-takes}
+use Rattle.source_line.specs.Gathering.{withSource, Takes}
+use Rattle.source_line.specs.GatheringLaws.{BlockInside, inside-is, inside-takes}
 use Rattle.state.specs.Whole.{stateIn}
 use Rattle.record.specs.declared.Record.{Record}
 use Rattle.record.specs.declared.Waiting.{Waiting}
 use Rattle.record.specs.declared.Closing.{Closing}
 use Rattle.record.specs.declared.Closing.the-variants.{Open, Done, Refused}
-use Rattle.record.specs.View.{sourced, closedAs, wholeIn, stateOf, waitingOf, lastLine, Formed, Legal}
-use Rattle.record.specs.Turns.{Asking, stands, Turns, Leads, HasWork, Runs}
-use Rattle.record.specs.Inside.{InsideCall, InsideJudged, longer, withBlock}
+use Rattle.record.specs.View.{sourced, closedAs, wholeIn, stateOf, waitingOf, mostLines, RecordInvariant, ValidRecord}
+use Rattle.record.specs.Turns.{InputReady, arrived, TurnReady, TurnRefines, HasWork, RunContract}
+use Rattle.record.specs.Inside.{InsideCall, InsideJudged, longerSource, withBlock}
 use Rattle.record.proofs.Taking.{cleared}
-use Rattle.record.proofs.Leading.{leads-take, stops-input}
-use Rattle.record.proofs.Going.{go-start, go-turn, does-stop}
+use Rattle.record.proofs.Leading.{turn-take, stops-input}
+use Rattle.record.proofs.Going.{go-start, go-turn, refines-stop}
 
 -- what the test says
 pub false-true : false ≡ true → ⊥
@@ -42,7 +42,7 @@ inside-done bl last d s w c e = inside-no bl last d s w c (λ i. let q : Done �
 pub inside-refused : (bl : List ℕ) (last : Bool) (d : ℕ) (s : Source) (w : Waiting) (c : Closing) (n k : ℕ) → c ≡ Refused n k → InsideJudged false bl last d s w c
 inside-refused bl last d s w c n k e = inside-no bl last d s w c (λ i. let q : Refused n k ≡ Open = sym e ∙ i .unclosed in let z : _≡_ {A = ℕ} 0 1 = cc (q) in omega arith)
 
-module _ (r : Record) (st block : List ℕ) (last : Bool) (out : List ℕ) (l : Legal r st) (h : InsideCall block last (r .status .stack .depth) (r .source) (r .waiting) (r .closing)) where
+module _ (r : Record) (st block : List ℕ) (last : Bool) (out : List ℕ) (l : ValidRecord r st) (h : InsideCall block last (r .status .stack .depth) (r .source) (r .waiting) (r .closing)) where
   abbrev s : Source
   s = r .source
 
@@ -62,7 +62,7 @@ module _ (r : Record) (st block : List ℕ) (last : Bool) (out : List ℕ) (l : 
   abbrev parts : State
   parts = stateIn (wholeIn r st) (sourced s g)
 
-  fits : Inside block (s .length)
+  fits : BlockInside block (s .length)
   fits = inside-is block (s .length) (h .inside)
 
   long : length g ≡ 512
@@ -77,31 +77,31 @@ module _ (r : Record) (st block : List ℕ) (last : Bool) (out : List ℕ) (l : 
       ∙ ap (λ v. line ++ v) (take-length block)
 
   -- the states before and after, by their sources
-  before : stateOf r st ≡ sourceIn line (s .line) (s .stored) [] parts
+  before : stateOf r st ≡ withSource line (s .line) (s .stored) [] parts
   before =
       ap (λ v. closedAs v parts) (h .unclosed) ∙ cleared (wholeIn r st) s s g g (h .empty)
       ∙ ap (λ v. withInput (input line (s .line) v (s .stored) []) parts) (h .unended)
 
-  after : stateOf then st ≡ sourceIn (line ++ block) (s .line) (s .stored) [] parts
+  after : stateOf then st ≡ withSource (line ++ block) (s .line) (s .stored) [] parts
   after =
-      ap (λ v. closedAs v (stateIn (wholeIn r st) (sourced (longer s (length block)) all))) (h .unclosed)
-      ∙ cleared (wholeIn r st) s (longer s (length block)) all g (h .empty)
+      ap (λ v. closedAs v (stateIn (wholeIn r st) (sourced (longerSource s (length block)) all))) (h .unclosed)
+      ∙ cleared (wholeIn r st) s (longerSource s (length block)) all g (h .empty)
       ∙ ap (λ v. withInput (input (take (s .length + length block) all) (s .line) v (s .stored) []) parts) (h .unended)
-      ∙ ap (λ v. sourceIn v (s .line) (s .stored) [] parts) both
+      ∙ ap (λ v. withSource v (s .line) (s .stored) [] parts) both
 
   numbered : s .line ≤ 1000000
-  numbered = subst (λ c. s .line ≤ lastLine c) (h .unclosed) (l .formed .numbered)
+  numbered = subst (λ c. s .line ≤ mostLines c) (h .unclosed) (l .formed .numbered)
 
   takes : Takes (stateOf r st) block (stateOf then st)
   takes =
       subst (λ v. Takes v block (stateOf then st)) (sym before)
-      (subst (Takes (sourceIn line (s .line) (s .stored) [] parts) block) (sym after)
-      (inside-takes parts refl block line (s .line) (s .stored) (subst (Inside block) (sym sized) fits) numbered))
+      (subst (Takes (withSource line (s .line) (s .stored) [] parts) block) (sym after)
+      (inside-takes parts refl block line (s .line) (s .stored) (subst (BlockInside block) (sym sized) fits) numbered))
 
   waits-none : waitingOf then ≡ []
   waits-none = let z : r .waiting .end - r .waiting .at ≡ 0 = omega (arith, h .none) in ap (λ n. take n (drop (r .waiting .at) (r .row))) z
 
-  formed : Formed then st
+  formed : RecordInvariant then st
   formed = record {
     sound = l .formed .sound;
     fits = l .formed .fits;
@@ -114,32 +114,32 @@ module _ (r : Record) (st block : List ℕ) (last : Bool) (out : List ℕ) (l : 
     inside = l .formed .inside;
   }
 
-  may-turn : Turns block r st 0
-  may-turn = record { legal = l; none = h .none; within = omega arith }
+  may-turn : TurnReady block r st 0
+  may-turn = record { valid = l; none = h .none; within = omega arith }
 
-  leads : Leads block last r st 0 then st (length block)
+  leads : TurnRefines block last r st 0 then st (length block)
   leads =
       let n : length block - 0 ≡ length block = omega arith in
       let e : take (length block - 0) (drop 0 block) ≡ block = ap (λ v. take v block) n ∙ take-length block in
-      leads-take block last r st 0 may-turn (h .unclosed) then st (length block)
+      turn-take block last r st 0 may-turn (h .unclosed) then st (length block)
       (record {
         between = stateOf then st;
         takes = subst (λ v. Takes (stateOf r st) v (stateOf then st)) (sym e) takes;
-        arrives = stands refl waits-none formed refl;
+        arrives = arrived refl waits-none formed refl;
         some = h .some;
         within = le-refl (length block);
       })
 
-  may-stop : Turns block then st (length block)
-  may-stop = record { legal = leads .legal; none = h .none; within = le-refl (length block) }
+  may-stop : TurnReady block then st (length block)
+  may-stop = record { valid = leads .valid; none = h .none; within = le-refl (length block) }
 
-  asking : Asking then st
+  asking : InputReady then st
   asking = record { formed = formed; unclosed = h .unclosed; empty = h .empty; unended = h .unended }
 
   -- The call takes all of the block, writes nothing and asks for more.
-  pub runs-inside : Runs r st block last out (record { answer = answer.NeedsInput; taken = length block; written = 0; next = then }) st out
+  pub runs-inside : RunContract r st block last out (record { answer = answer.NeedsInput; taken = length block; written = 0; next = then }) st out
   runs-inside =
-      does-stop r st block last out then st (length block) 0 out
+      refines-stop r st block last out then st (length block) 0 out
       (go-turn r st block last out r st 0 0 out (go-start r st block last out l) may-turn then st (length block) leads)
       may-stop answer.NeedsInput then st (length block)
       (stops-input block last then st (length block) may-stop (h .unclosed) asking (h .more) refl)

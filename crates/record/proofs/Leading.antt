@@ -23,7 +23,7 @@ use Rattle.limits.specs.Within.{Within}
 use Rattle.limits.specs.Steps.{works-within, byte-within, end-within}
 use Rattle.source_line.specs.declared.Source.{Source}
 use Rattle.source_line.specs.Gathering.{Asks, Takes}
-use Rattle.source_line.specs.CallLaws.{after, step-asks, takes-good, call-gathers}
+use Rattle.source_line.specs.CallLaws.{outcomeAfter, step-asks, takes-good, call-gathers}
 use Rattle.state.specs.declared.Status.{Status}
 use Rattle.state.specs.Whole.{stateIn}
 use Rattle.state.specs.Statuses.{wholeOf}
@@ -32,9 +32,9 @@ use Rattle.record.specs.declared.Stop.{Stop}
 use Rattle.record.specs.declared.Stop.the-variants.{Goes}
 use Rattle.record.specs.declared.Closing.{Closing as Closed}
 use Rattle.record.specs.declared.Closing.the-variants.{Open, Done, Refused}
-use Rattle.record.specs.View.{sourced, closedAs, wholeIn, stateOf, waitingOf, Formed, formed-good}
+use Rattle.record.specs.View.{sourced, closedAs, wholeIn, stateOf, waitingOf, RecordInvariant, formed-good}
 use Rattle.record.specs.Contract.{Closes, EndedBy}
-use Rattle.record.specs.Turns.{recordOf, resting, KeptBy, Works, Busy, Asking, Arrives, stands, after-work, TakenTo, Turns, Leads, Stops, Turned, HasWork}
+use Rattle.record.specs.Turns.{recordOf, resting, KeptBy, RecordRefines, WorkReady, InputReady, Arrives, arrived, after-work, InputRefines, TurnReady, TurnRefines, StopRefines, TurnContract, HasWork}
 use Rattle.record.proofs.Taking.{stack-none}
 use Rattle.record.proofs.Quiet.{quiet-in}
 
@@ -59,13 +59,13 @@ same-kept (Refused n l) st st' e = e
 -- from the state on
 record Onward (s : State) (st₀ : List ℕ) (r : Record) (st : List ℕ) : Type 0 where
   same : (bl : List ℕ) (last : Bool) (room : ℕ) → run [] s bl last room ≡ run (waitingOf r) (stateOf r st) bl last room
-  formed : Formed r st
+  formed : RecordInvariant r st
   within : Within s → Within (stateOf r st)
   most : load (stateOf r st) ≤ load s
   kept : KeptBy (r .closing) st₀ st
 
 onward : (s : State) (st₀ : List ℕ) (r : Record) (st : List ℕ) → Good s → Arrives s st₀ r st → Onward s st₀ r st
-onward s st₀ r st g (stands e w l k) = record {
+onward s st₀ r st g (arrived e w l k) = record {
   same = λ bl last room. ap₂ (λ u v. run u v bl last room) (sym w) e;
   formed = l;
   within = λ h. subst Within e h;
@@ -80,21 +80,21 @@ onward s st₀ r st g (after-work w) = record {
   kept = w .kept;
 }
 
-module _ (block : List ℕ) (last : Bool) (r : Record) (st : List ℕ) (t : ℕ) (h : Turns block r st t) (op : r .closing ≡ Open) where
+module _ (block : List ℕ) (last : Bool) (r : Record) (st : List ℕ) (t : ℕ) (h : TurnReady block r st t) (op : r .closing ≡ Open) where
   abbrev s : State
   s = stateOf r st
 
   good : Good s
-  good = formed-good r st (h .legal .formed)
+  good = formed-good r st (h .valid .formed)
 
   -- where nothing is taken
   at-once : (r' : Record) (st' : List ℕ) → ((room : ℕ) → run [] s (drop t block) last room ≡ run (waitingOf r') (stateOf r' st') (drop t block) last room)
-      → Formed r' st' → Within (stateOf r' st') → load (stateOf r' st') < load s → KeptBy (r' .closing) st st' → Leads block last r st t r' st' t
+      → RecordInvariant r' st' → Within (stateOf r' st') → load (stateOf r' st') < load s → KeptBy (r' .closing) st st' → TurnRefines block last r st t r' st' t
   at-once r' st' e l m k j =
       let n : t - t ≡ 0 = omega arith in
       record {
-        same = λ room. e room ∙ ap (λ v. after (take v (drop t block)) [] (run (waitingOf r') (stateOf r' st') (drop t block) last room)) (sym n);
-        legal = record { formed = l; within = m };
+        same = λ room. e room ∙ ap (λ v. outcomeAfter (take v (drop t block)) [] (run (waitingOf r') (stateOf r' st') (drop t block) last room)) (sym n);
+        valid = record { formed = l; within = m };
         less = omega arith;
         behind = omega arith;
         within = h .within;
@@ -102,14 +102,14 @@ module _ (block : List ℕ) (last : Bool) (r : Record) (st : List ℕ) (t : ℕ)
         kept = j;
       }
 
-  pub leads-work : (r' : Record) (st' : List ℕ) → Works (step tenToTheInch s) st r' st' → Leads block last r st t r' st' t
-  leads-work r' st' w =
+  pub turn-work : (r' : Record) (st' : List ℕ) → RecordRefines (step tenToTheInch s) st r' st' → TurnRefines block last r st t r' st' t
+  turn-work r' st' w =
       at-once r' st' (λ room. call-works (formatter tenToTheInch) Good (falls tenToTheInch) s (waitingOf r') (stateOf r' st') good (w .does) (drop t block) last room)
-      (w .formed) (works-within tenToTheInch s (h .legal .within) (waitingOf r') (stateOf r' st') (w .does)) (below s (works (waitingOf r') (stateOf r' st')) good (w .does) .1)
+      (w .formed) (works-within tenToTheInch s (h .valid .within) (waitingOf r') (stateOf r' st') (w .does)) (below s (works (waitingOf r') (stateOf r' st')) good (w .does) .1)
       (w .kept)
 
-  pub leads-take : (r' : Record) (st' : List ℕ) (t' : ℕ) → TakenTo block r st t r' st' t' → Leads block last r st t r' st' t'
-  leads-take r' st' t' k =
+  pub turn-take : (r' : Record) (st' : List ℕ) (t' : ℕ) → InputRefines block r st t r' st' t' → TurnRefines block last r st t r' st' t'
+  turn-take r' st' t' k =
       let bs = take (t' - t) (drop t block) in
       let m = takes-good tenToTheInch s bs (k .between) good (k .takes) in
       let o = onward (k .between) st r' st' (m .0) (k .arrives) in
@@ -120,8 +120,8 @@ module _ (block : List ℕ) (last : Bool) (r : Record) (st : List ℕ) (t : ℕ)
       record {
         same = λ room.
             ap (λ v. run [] s v last room) d ∙ call-gathers tenToTheInch s bs (k .between) good (k .takes) (drop t' block) last room
-            ∙ ap (after bs []) (o .same (drop t' block) last room);
-        legal = record { formed = o .formed; within = o .within (takes-within s bs (k .between) (h .legal .within) (k .takes)) };
+            ∙ ap (outcomeAfter bs []) (o .same (drop t' block) last room);
+        valid = record { formed = o .formed; within = o .within (takes-within s bs (k .between) (h .valid .within) (k .takes)) };
         less = omega (arith, m .1, o .most, k .some, k .within);
         behind = omega (arith, k .some);
         within = k .within;
@@ -129,15 +129,15 @@ module _ (block : List ℕ) (last : Bool) (r : Record) (st : List ℕ) (t : ℕ)
         kept = o .kept;
       }
 
-  module _ (q : Asking r st) where
+  module _ (q : InputReady r st) where
     -- a record that asks stands for a state that does
     asks-too : Asks s
     asks-too =
         let e : s ≡ stateIn (wholeIn r st) (sourced (r .source) (r .gathered)) = ap (λ v. closedAs v (stateIn (wholeIn r st) (sourced (r .source) (r .gathered)))) (q .unclosed) in
         subst Asks (sym e) (record { closing = refl; ended = q .unended; stack = stack-none (wholeIn r st) (q .empty) })
 
-    pub leads-end : last ≡ true → t ≡ length block → (r' : Record) (st' : List ℕ) → Arrives (readEnd s) st r' st' → Leads block last r st t r' st' t
-    leads-end f e r' st' a =
+    pub turn-end : last ≡ true → t ≡ length block → (r' : Record) (st' : List ℕ) → Arrives (readEnd s) st r' st' → TurnRefines block last r st t r' st' t
+    turn-end f e r' st' a =
         let b = below s (asks (λ v. takeByte v s) (readEnd s)) good (step-asks tenToTheInch s asks-too) .0 in
         let o = onward (readEnd s) st r' st' (b .0) a in
         let d : drop t block ≡ [] = drop-of-length-le block {i = t} (omega arith) in
@@ -145,10 +145,10 @@ module _ (block : List ℕ) (last : Bool) (r : Record) (st : List ℕ) (t : ℕ)
         (λ room. ap₂ (λ u v. run [] s u v room) d f
         ∙ call-ends (formatter tenToTheInch) Good (falls tenToTheInch) s (λ v. takeByte v s) (readEnd s) good (step-asks tenToTheInch s asks-too) room
         ∙ o .same [] true room ∙ ap₂ (λ u v. run (waitingOf r') (stateOf r' st') u v room) (sym d) (sym f))
-        (o .formed) (o .within (end-within tenToTheInch s (h .legal .within) (λ v. takeByte v s) (readEnd s) (step-asks tenToTheInch s asks-too))) (omega (arith, b .1, o .most))
+        (o .formed) (o .within (end-within tenToTheInch s (h .valid .within) (λ v. takeByte v s) (readEnd s) (step-asks tenToTheInch s asks-too))) (omega (arith, b .1, o .most))
         (o .kept)
 
-    pub stops-input : last ≡ false → t ≡ length block → Stops block last r st t answer.NeedsInput r st t
+    pub stops-input : last ≡ false → t ≡ length block → StopRefines block last r st t answer.NeedsInput r st t
     stops-input f e =
         let d : drop t block ≡ [] = drop-of-length-le block {i = t} (omega arith) in
         record {
@@ -162,7 +162,7 @@ module _ (block : List ℕ) (last : Bool) (r : Record) (st : List ℕ) (t : ℕ)
         }
 
 -- a closed session, for which nothing waits, stops with its answer
-module _ (block : List ℕ) (last : Bool) (r : Record) (st : List ℕ) (t : ℕ) (h : Turns block r st t) where
+module _ (block : List ℕ) (last : Bool) (r : Record) (st : List ℕ) (t : ℕ) (h : TurnReady block r st t) where
   closed-so : (a : Closing) → stateOf r st ≡ close a (stateIn (wholeIn r st) (sourced (r .source) (r .gathered))) → (room : ℕ)
       → run [] (stateOf r st) (drop t block) last room ≡ stop (stateOf r st) (drop t block) [] (closes a)
   closed-so a e room =
@@ -184,7 +184,7 @@ module _ (block : List ℕ) (last : Bool) (r : Record) (st : List ℕ) (t : ℕ)
   ended-by a Done e k = subst (λ v. EndedBy v r) (sym k) (record { closes = subst (λ v. Closes v answer.Done) (sym e) refl; none = h .none })
   ended-by a (Refused n l) e k = subst (λ v. EndedBy v r) (sym k) (record { closes = subst (λ v. Closes v (answer.Refused n l)) (sym e) refl; none = h .none })
 
-  pub stops-closed : (a : Answer) → Closes (r .closing) a → Stops block last r st t a r st t
+  pub stops-closed : (a : Answer) → Closes (r .closing) a → StopRefines block last r st t a r st t
   stops-closed a k = record {
     same = by-closing a (r .closing) refl k;
     ended = ended-by a (r .closing) refl k;
@@ -194,25 +194,25 @@ module _ (block : List ℕ) (last : Bool) (r : Record) (st : List ℕ) (t : ℕ)
   }
 
 -- a turn that goes on
-pub turned-on : (s : Stop) → s ≡ Goes → (block : List ℕ) (last : Bool) (r : Record) (st : List ℕ) (t : ℕ) (r' : Record) (st' : List ℕ) (t' : ℕ)
-    → Leads block last r st t r' st' t' → Turned s block last r st t r' st' t'
-turned-on s e block last r st t r' st' t' h = subst (λ v. Turned v block last r st t r' st' t') (sym e) h
+pub turn-goes : (s : Stop) → s ≡ Goes → (block : List ℕ) (last : Bool) (r : Record) (st : List ℕ) (t : ℕ) (r' : Record) (st' : List ℕ) (t' : ℕ)
+    → TurnRefines block last r st t r' st' t' → TurnContract s block last r st t r' st' t'
+turn-goes s e block last r st t r' st' t' h = subst (λ v. TurnContract v block last r st t r' st' t') (sym e) h
 
 -- and takes nothing
-pub turned-at : (s : Stop) → s ≡ Goes → (block : List ℕ) (last : Bool) (r : Record) (st : List ℕ) (t : ℕ) (r' : Record) (st' : List ℕ) (t' : ℕ) → t' ≡ t
-    → Leads block last r st t r' st' t → Turned s block last r st t r' st' t'
-turned-at s e block last r st t r' st' t' f h = turned-on s e block last r st t r' st' t' (subst (Leads block last r st t r' st') (sym f) h)
+pub turn-stops : (s : Stop) → s ≡ Goes → (block : List ℕ) (last : Bool) (r : Record) (st : List ℕ) (t : ℕ) (r' : Record) (st' : List ℕ) (t' : ℕ) → t' ≡ t
+    → TurnRefines block last r st t r' st' t → TurnContract s block last r st t r' st' t'
+turn-stops s e block last r st t r' st' t' f h = turn-goes s e block last r st t r' st' t' (subst (TurnRefines block last r st t r' st') (sym f) h)
 
 -- what an open record for which nothing waits has to show
 module _ (block : List ℕ) (t : ℕ) (y : Status) (x : Source) (g cs row bs ps tf ts ks ls fs ss : List ℕ) (vs us : List ℤ) (st : List ℕ)
-    (h : Turns block (recordOf (resting y x) g cs row bs ps tf ts ks ls fs ss vs us) st t) (b : Bool) (w : HasWork (y .stack .depth) (x .ended) b) where
-  pub is-busy : b ≡ true → Busy y x (wholeOf y cs bs ps st tf ts ks ls fs ss vs us) row
+    (h : TurnReady block (recordOf (resting y x) g cs row bs ps tf ts ks ls fs ss vs us) st t) (b : Bool) (w : HasWork (y .stack .depth) (x .ended) b) where
+  pub is-busy : b ≡ true → WorkReady y x (wholeOf y cs bs ps st tf ts ks ls fs ss vs us) row
   is-busy e =
-      let l = h .legal .formed in
+      let l = h .valid .formed in
       record {
         sound = l .sound;
         fits = l .fits;
-        quiet = quiet-in (wholeOf y cs bs ps st tf ts ks ls fs ss vs us) (sourced x g) (h .legal .within) refl;
+        quiet = quiet-in (wholeOf y cs bs ps st tf ts ks ls fs ss vs us) (sourced x g) (h .valid .within) refl;
         row-long = l .row-long;
         short = l .short;
         numbered = l .numbered;
@@ -220,5 +220,5 @@ module _ (block : List ℕ) (t : ℕ) (y : Status) (x : Source) (g cs row bs ps 
         ready = w .yes e;
       }
 
-  pub is-asking : b ≡ false → Asking (recordOf (resting y x) g cs row bs ps tf ts ks ls fs ss vs us) st
-  is-asking e = record { formed = h .legal .formed; unclosed = refl; empty = w .no e .0; unended = w .no e .1 }
+  pub is-asking : b ≡ false → InputReady (recordOf (resting y x) g cs row bs ps tf ts ks ls fs ss vs us) st
+  is-asking e = record { formed = h .valid .formed; unclosed = refl; empty = w .no e .0; unended = w .no e .1 }

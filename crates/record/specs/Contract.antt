@@ -15,7 +15,7 @@ use Rattle.record.specs.declared.Record.{Record}
 use Rattle.record.specs.declared.Reply.{Reply}
 use Rattle.record.specs.declared.Closing.{Closing}
 use Rattle.record.specs.declared.Closing.the-variants.{Open, Done, Refused}
-use Rattle.record.specs.View.{stateOf, waitingOf, Legal}
+use Rattle.record.specs.View.{stateOf, waitingOf, ValidRecord}
 
 -- what the rules do in a call on a record and a store, with a block and so much room
 abbrev pub callOn : Record → (store block : List ℕ) → (last : Bool) → (room : ℕ) → Outcome State
@@ -40,12 +40,12 @@ EndedBy answer.Done r = Ended r answer.Done
 EndedBy (answer.Refused n l) r = Ended r (answer.Refused n l)
 
 -- a call does what the rules do: o is that, from the record and the store on
-pub record Does (o : Outcome State) (out : List ℕ) (p : Reply) (st' out' : List ℕ) : Type 0 where
+pub record CallRefines (o : Outcome State) (out : List ℕ) (p : Reply) (st' out' : List ℕ) : Type 0 where
   pub says : replyOf (p .answer) ≡ o .answer
   pub taken : p .taken ≡ length (o .took)
   pub written : p .written ≡ length (o .bytes)
   pub room : out' ≡ o .bytes ++ drop (length (o .bytes)) out
   pub waiting : waitingOf (p .next) ≡ o .waiting
   pub state : stateOf (p .next) st' ≡ o .state
-  pub legal : Legal (p .next) st'
+  pub valid : ValidRecord (p .next) st'
   pub ended : EndedBy (p .answer) (p .next)

@@ -11,7 +11,7 @@ use Rattle.record.specs.declared.Record.{Record}
 use Rattle.record.specs.declared.Waiting.{Waiting}
 use Rattle.record.specs.declared.Closing.{Closing}
 use Rattle.record.specs.declared.Closing.the-variants.{Open}
-use Rattle.record.specs.Turns.{recordOf, placeOf}
+use Rattle.record.specs.Turns.{recordOf, coreOf}
 
 -- an open session for which nothing waits, without work, in the middle of a source line; and a block, not the last, that stays in that line
 pub record InsideCall (block : List ℕ) (last : Bool) (depth : ℕ) (s : Source) (w : Waiting) (c : Closing) : Type 0 where
@@ -28,10 +28,10 @@ pub record InsideJudged (b : Bool) (block : List ℕ) (last : Bool) (depth : ℕ
   pub no : b ≡ false → InsideCall block last depth s w c → ⊥
 
 -- a source with so many bytes of its line more
-abbrev pub longer : Source → ℕ → Source
-longer s n = record { line = s .line; length = s .length + n; ended = s .ended; stored = s .stored }
+abbrev pub longerSource : Source → ℕ → Source
+longerSource s n = record { line = s .line; length = s .length + n; ended = s .ended; stored = s .stored }
 
 -- the record with the bytes of a block behind those gathered
 abbrev pub withBlock : (block : List ℕ) → Record → Record
 withBlock bl r =
-    recordOf (placeOf (r .status) (longer (r .source) (length bl)) (r .waiting) (r .closing)) (paste (r .gathered) (r .source .length) bl (length bl)) (r .cells) (r .row) (r .arena) (r .ends) (r .«text_firsts») (r .«text_seconds») (r .kinds) (r .lengths) (r .firsts) (r .seconds) (r .values) (r .steps)
+    recordOf (coreOf (r .status) (longerSource (r .source) (length bl)) (r .waiting) (r .closing)) (paste (r .gathered) (r .source .length) bl (length bl)) (r .cells) (r .row) (r .arena) (r .ends) (r .«text_firsts») (r .«text_seconds») (r .kinds) (r .lengths) (r .firsts) (r .seconds) (r .values) (r .steps)

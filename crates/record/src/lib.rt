@@ -13,7 +13,7 @@ use stream::Answer;
 ghost use mathlib.Core.Path.{_≡_};
 ghost use Rattle.source_line.specs.Writing.{Writes};
 ghost use Rattle.record.specs.declared.Stop.the-variants.{Goes};
-ghost use Rattle.record.specs.Turns.{closingOf, turnAfter, emptied as emptiedOf, HasWork, ClosedIs, WroteTo};
+ghost use Rattle.record.specs.Turns.{closingOf, turnAfter, emptied as emptiedOf, HasWork, ClosedIs, WrittenOutTo};
 ghost use Rattle.record.specs.Inside.{InsideJudged};
 
 // The bytes of the row that wait to be written: those from one place up to another.
@@ -60,7 +60,7 @@ pub struct Reply {
 }
 
 // The parts of a record that are no arrays.
-pub struct Place {
+pub struct RecordCore {
     pub status: Status,
     pub source: Source,
     pub waiting: Waiting,
@@ -70,7 +70,7 @@ pub struct Place {
 // How a call ends.
 pub struct Ran {
     pub answer: Answer,
-    pub place: Place,
+    pub place: RecordCore,
     pub taken: usize,
     pub written: usize,
 }
@@ -81,8 +81,8 @@ pub enum Stop {
     With(Answer),
 }
 
-// What a turn leads to: the parts of a place stand by themselves, so that the status is copied no more than once.
-pub struct Turn {
+// What a turn leads to: the parts of a core stand by themselves, so that the status is copied no more than once.
+pub struct TurnOutcome {
     pub stop: Stop,
     pub status: Status,
     pub source: Source,
@@ -92,7 +92,7 @@ pub struct Turn {
 }
 
 // The bytes that still wait, and how many are written.
-pub struct Wrote {
+pub struct WrittenOut {
     pub waiting: Waiting,
     pub written: usize,
 }
@@ -109,10 +109,16 @@ fn closing_of(way: Way, line: u32) -> Closing
 }
 
 // A turn that goes on after a piece of work: so many bytes of the row wait.
-pub fn turn_after(status: Status, source: Source, way: Way, written: usize, taken: usize) -> Turn
+pub fn turn_after(
+    status: Status,
+    source: Source,
+    way: Way,
+    written: usize,
+    taken: usize,
+) -> TurnOutcome
     ensures { λ r. ⌜ r ≡ turnAfter status source way written taken ⌝ }
 {
-    Turn {
+    TurnOutcome {
         stop: Stop::Goes,
         status,
         source,
@@ -159,12 +165,12 @@ pub fn closed(closing: Closing) -> Stop
 }
 
 // As many of the waiting bytes as fit are written.
-pub fn write_out(waiting: Waiting, row: &RowBytes, out: &mut [u8], written: usize) -> Wrote
+pub fn write_out(waiting: Waiting, row: &RowBytes, out: &mut [u8], written: usize) -> WrittenOut
     requires { ⌜ Writes (now row) (waiting .at) (waiting .end) (now out) written ⌝ }
-    ensures { λ r. ⌜ WroteTo waiting (now (row .entry)) (now (out .entry)) written r (now (out .exit)) ⌝ }
+    ensures { λ r. ⌜ WrittenOutTo waiting (now (row .entry)) (now (out .entry)) written r (now (out .exit)) ⌝ }
 {
     let count = source_line::write(row, waiting.at, waiting.end, out, written);
-    Wrote {
+    WrittenOut {
         waiting: Waiting {
             at: waiting.at + count,
             end: waiting.end,

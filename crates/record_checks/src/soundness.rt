@@ -20,14 +20,14 @@ use settings::layout::Total;
 use settings::lengths::Setting;
 use state::Opening;
 use state::Status;
-use texts::table::Place;
+use texts::table::TextPlace;
 ghost use mathlib.Core.Path.{_≡_};
 ghost use Prim.Native.Nat.{_+_, _*_, _≤_, _<_};
 ghost use lib.ListN.{length, take, drop};
-ghost use Rattle.texts.specs.Table.Table.{Names, namesOf, sum};
-ghost use Rattle.texts.specs.Table.Places.{placeOf};
+ghost use Rattle.texts.specs.Table.Table.{Names, namesOf, totalLength};
+ghost use Rattle.texts.specs.Table.Places.{textPlace};
 ghost use Rattle.page.specs.Springs.Held.{isText};
-ghost use Rattle.record_checks.specs.Soundness.Checks.{Lent, isSetting, isLength, isTotal, isLayout, isPage, isCollected, isSheet, areArguments, isAt, isItem, isFrame, isDepth, isStack, isOpening, areTexts, isSound};
+ghost use Rattle.record_checks.specs.Soundness.Checks.{Lent, isSetting, isLength, isTotal, isLayout, isPage, isCollected, isPageState, areArguments, isAt, isItem, isFrame, isDepth, isStack, isOpening, areTexts, isSound};
 
 // The cells of a line, as a width is counted.
 const LINE_CELLS: u32 = LINE_SIZE as u32;
@@ -122,8 +122,8 @@ fn is_collected(collected: Collected) -> bool
 }
 
 // The settings, the page, the collected line and the traps.
-fn is_sheet(status: Status) -> bool
-    ensures { λ r. ⌜ r ≡ isSheet status ⌝ }
+fn is_page_state(status: Status) -> bool
+    ensures { λ r. ⌜ r ≡ isPageState status ⌝ }
 {
     let layout = status.layout;
     if !is_layout(layout) {
@@ -170,11 +170,11 @@ fn are_arguments(ends: &StackEnds, frame: usize, count: u8, size: u16) -> bool
 // Whether there is a text of a name.
 pub fn is_there(firsts: &ByteColumn, seconds: &ByteColumn, count: usize, name: Name) -> bool
     requires { ⌜ Names (now firsts) (now seconds) count ⌝ }
-    ensures { λ r. ⌜ r ≡ isAt (placeOf name (namesOf (now (firsts .entry)) (now (seconds .entry)) count)) ⌝ }
+    ensures { λ r. ⌜ r ≡ isAt (textPlace name (namesOf (now (firsts .entry)) (now (seconds .entry)) count)) ⌝ }
 {
     match texts::table::find(firsts, seconds, count, name) {
-        Place::At(_) => true,
-        Place::Not => false,
+        TextPlace::At(_) => true,
+        TextPlace::Not => false,
     }
 }
 
@@ -275,7 +275,7 @@ fn is_stack(
 
 // An open definition: its body lies behind the texts, within the store, and a row is left for it.
 fn is_opening(opening: Opening, lengths: &LengthColumn, count: usize, store: usize) -> bool
-    requires { ⌜ sum (take count (now lengths)) ≤ 8192 ⌝ }
+    requires { ⌜ totalLength (take count (now lengths)) ≤ 8192 ⌝ }
     ensures { λ r. ⌜ r ≡ isOpening opening (now (lengths .entry)) count store ⌝ }
 {
     if !opening.there {
@@ -320,7 +320,7 @@ pub fn is_sound(
     requires { ⌜ Lent (now ends) (now «text_firsts») (now «text_seconds») (now lengths) (now firsts) (now seconds) ⌝ }
     ensures { λ r. ⌜ r ≡ isSound status store (now (ends .entry)) (now («text_firsts» .entry)) (now («text_seconds» .entry)) (now (lengths .entry)) (now (firsts .entry)) (now (seconds .entry)) ⌝ }
 {
-    if !is_sheet(status) {
+    if !is_page_state(status) {
         return false;
     }
     if !are_texts(status, store, lengths) {

@@ -24,7 +24,7 @@ ghost use Rattle.record_checks.specs.StateLimits.LimitChecks.{LentTables
 
 // The row of a trap: "result outside ±1,000,000,000"
 fn is_place(place: Rows) -> bool
-    ensures { λ r. ⌜ r ≡ registers.isWithin (place .0) ⌝ }
+    ensures { λ r. ⌜ r ≡ registers.inBounds (place .0) ⌝ }
 {
     let n = place.0;
     if n < -1000000000 {

@@ -18,7 +18,7 @@ use traps::table::Planted;
 ghost use mathlib.Core.Path.{_≡_};
 ghost use Prim.Native.Nat.{_+_, _*_, _<_, min};
 ghost use lib.ListN.{length};
-ghost use Rattle.record_words.specs.Decoding.Words.{Short, wordAt, countAt, isSet, cellsAt, rowsAt, settingAt, nameOf, nameAt, totalBy, layoutIn, pageIn, collectedIn, countsIn, openingIn, sourceIn, waitingIn, closingBy, closingIn, trapAt, plantedIn};
+ghost use Rattle.record_words.specs.Decoding.Words.{Short, wordAt, countAt, isSet, cellsAt, rowsAt, settingAt, nameFrom, nameAt, totalBy, layoutIn, pageIn, collectedIn, countsIn, openingIn, sourceFromWords, waitingIn, closingBy, closingIn, trapAt, plantedIn};
 
 // The items on the input stack, the texts and the registers that there are.
 pub struct Counts {
@@ -109,7 +109,7 @@ fn setting_at(words: &RecordWords, at: usize) -> Setting
 }
 
 fn name_of(number: u16) -> Name
-    ensures { λ r. ⌜ r ≡ nameOf number ⌝ }
+    ensures { λ r. ⌜ r ≡ nameFrom number ⌝ }
 {
     Name {
         first: (number / 256) as u8,
@@ -194,7 +194,7 @@ pub fn opening(words: &RecordWords) -> Opening
 }
 
 pub fn source(words: &RecordWords) -> Source
-    ensures { λ r. ⌜ r ≡ sourceIn (now (words .entry)) ⌝ }
+    ensures { λ r. ⌜ r ≡ sourceFromWords (now (words .entry)) ⌝ }
 {
     Source {
         line: count_at(words, places::SOURCE_LINES),

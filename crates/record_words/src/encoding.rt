@@ -7,7 +7,7 @@ use measure::Cells;
 use measure::Rows;
 use page::position::Page;
 use record::Closing;
-use record::Place;
+use record::RecordCore;
 use record::Waiting;
 use rules::Name;
 use rules::Trap;
@@ -25,7 +25,7 @@ ghost use mathlib.Core.List.{[], _∷_};
 ghost use Prim.Native.Nat.{_+_, _*_, _<_, _≤_};
 ghost use lib.ListN.{length, set};
 ghost use lib.Seq.{sets};
-ghost use Rattle.record_words.specs.Decoding.Words.{Short, wordOf, flagWord, nameWord, totalTag, totalValue, layoutWords, pageWords, collectedWords, countsWords, openingWords, sourceWords, waitingWords, closingWords, plantedWords, Named, AllNamed, numberOf, Written, placeIn, PlaceWritten};
+ghost use Rattle.record_words.specs.Decoding.Words.{Short, wordOf, flagWord, nameToWord, totalTag, totalValue, layoutWords, pageWords, collectedWords, countsWords, openingWords, sourceWords, waitingWords, closingWords, plantedWords, TwoByteName, AllNamed, refusalNumber, WordsWritten, coreFromWords, PlaceWritten};
 
 // A count as a word; the largest word if it is larger than any.
 fn word_of(count: usize) -> i32
@@ -73,7 +73,7 @@ fn put_rows(words: &mut RecordWords, at: usize, rows: Rows)
 
 fn put_name(words: &mut RecordWords, at: usize, name: Name)
     requires { ⌜ at < 68 ⌝ }
-    ensures { λ _. ⌜ (now (words .exit) ≡ set (now (words .entry)) at (nameWord name)) × Named name ⌝ }
+    ensures { λ _. ⌜ (now (words .exit) ≡ set (now (words .entry)) at (nameToWord name)) × TwoByteName name ⌝ }
 {
     put_count(words, at, name.first as usize * 256 + name.second as usize);
 }
@@ -145,7 +145,7 @@ fn put_counts(words: &mut RecordWords, counts: Counts)
 }
 
 fn put_opening(words: &mut RecordWords, opening: Opening)
-    ensures { λ _. ⌜ (now (words .exit) ≡ sets (now (words .entry)) 23 (openingWords opening)) × Named (opening .name) ⌝ }
+    ensures { λ _. ⌜ (now (words .exit) ≡ sets (now (words .entry)) 23 (openingWords opening)) × TwoByteName (opening .name) ⌝ }
 {
     put_flag(words, places::HAS_OPENING, opening.there);
     put_name(words, places::OPENING_NAME, opening.name);
@@ -178,7 +178,7 @@ fn put_answer(words: &mut RecordWords, tag: usize, number: usize, line: usize)
 }
 
 fn put_closing(words: &mut RecordWords, closing: Closing)
-    ensures { λ _. ⌜ (now (words .exit) ≡ sets (now (words .entry)) 32 (closingWords closing)) × (numberOf closing ≤ 255) ⌝ }
+    ensures { λ _. ⌜ (now (words .exit) ≡ sets (now (words .entry)) 32 (closingWords closing)) × (refusalNumber closing ≤ 255) ⌝ }
 {
     match closing {
         Closing::Open => put_answer(words, 0, 0, 0),
@@ -190,7 +190,7 @@ fn put_closing(words: &mut RecordWords, closing: Closing)
 // A trap by its number, from 0.
 fn put_trap(words: &mut RecordWords, i: usize, trap: Trap)
     requires { ⌜ i < 16 ⌝ }
-    ensures { λ _. ⌜ (now (words .exit) ≡ set (set (now (words .entry)) (36 + 2 * i) (trap .place .0)) (36 + 2 * i + 1) (nameWord (trap .name))) × Named (trap .name) ⌝ }
+    ensures { λ _. ⌜ (now (words .exit) ≡ set (set (now (words .entry)) (36 + 2 * i) (trap .place .0)) (36 + 2 * i + 1) (nameToWord (trap .name))) × TwoByteName (trap .name) ⌝ }
 {
     let at = places::TRAPS + 2 * i;
     put_rows(words, at, trap.place);
@@ -222,7 +222,7 @@ pub fn write(
     closing: Closing,
     planted: Planted,
 )
-    ensures { λ _. ⌜ Written layout page collected counts opening source waiting closing planted (now (words .exit)) ⌝ }
+    ensures { λ _. ⌜ WordsWritten layout page collected counts opening source waiting closing planted (now (words .exit)) ⌝ }
 {
     *words = [0i32; RECORD_WORDS];
     put_layout(words, layout);
@@ -237,11 +237,11 @@ pub fn write(
 }
 
 // The place of words.
-pub fn place(words: &RecordWords) -> Place
-    ensures { λ r. ⌜ (r ≡ placeIn (now (words .entry))) × Short (r .status .opening .length) ⌝ }
+pub fn place(words: &RecordWords) -> RecordCore
+    ensures { λ r. ⌜ (r ≡ coreFromWords (now (words .entry))) × Short (r .status .opening .length) ⌝ }
 {
     let counts = super::decoding::counts_in(words);
-    Place {
+    RecordCore {
         status: Status {
             layout: super::decoding::layout(words),
             page: super::decoding::page(words),
@@ -261,7 +261,7 @@ pub fn place(words: &RecordWords) -> Place
 }
 
 // A place as words.
-pub fn write_place(words: &mut RecordWords, place: Place)
+pub fn write_place(words: &mut RecordWords, place: RecordCore)
     ensures { λ _. ⌜ PlaceWritten place (now (words .exit)) ⌝ }
 {
     let status = place.status;

@@ -6,12 +6,12 @@ use rules::arrays::NumberColumn;
 use rules::arrays::TABLE_SIZE;
 ghost use mathlib.Core.Path.{_≡_};
 ghost use Prim.Native.Nat.{_<_, _-_};
-ghost use Rattle.registers.specs.Checks.Checks.{NameColumns, NumberColumns, isTable, isWithin, isBounded};
+ghost use Rattle.registers.specs.Checks.Checks.{NameColumns, NumberColumns, isRegisterTable, inBounds, isBounded};
 
 // Whether the first rows of lent columns are a table: "The registers stand in name order".
 pub fn is_table(firsts: &ByteColumn, seconds: &ByteColumn, count: usize) -> bool
     requires { ⌜ NameColumns (now firsts) (now seconds) ⌝ }
-    ensures { λ r. ⌜ r ≡ isTable (now (firsts .entry)) (now (seconds .entry)) count ⌝ }
+    ensures { λ r. ⌜ r ≡ isRegisterTable (now (firsts .entry)) (now (seconds .entry)) count ⌝ }
 {
     if TABLE_SIZE < count {
         return false;
@@ -42,7 +42,7 @@ pub fn is_table(firsts: &ByteColumn, seconds: &ByteColumn, count: usize) -> bool
 }
 
 fn is_within(n: i32) -> bool
-    ensures { λ r. ⌜ r ≡ isWithin n ⌝ }
+    ensures { λ r. ⌜ r ≡ inBounds n ⌝ }
 {
     if n < -1000000000 {
         return false;

@@ -8,7 +8,7 @@ ghost use mathlib.Core.Path.{_≡_};
 ghost use Prim.Native.Nat.{_-_};
 ghost use Rattle.rules.specs.Names.{twoBytes};
 ghost use Rattle.rules.specs.Registers.{shown};
-ghost use Rattle.registers.specs.Table.Columns.{Table};
+ghost use Rattle.registers.specs.Table.Columns.{RegistersInvariant};
 ghost use Rattle.registers.specs.Interpolation.ReadOnly.{readOnlyOf, seenOf, valueShown, showsOf, ReferTo};
 
 // Which of the read-only registers a name is: of % nl .l .i .p, or another name.
@@ -105,7 +105,7 @@ pub fn refer(
     turn: Turn,
     name: Name,
 ) -> Referred
-    requires { ⌜ Table (now firsts) (now seconds) (now values) (now steps) count ⌝ }
+    requires { ⌜ RegistersInvariant (now firsts) (now seconds) (now values) (now steps) count ⌝ }
     ensures { λ r. ⌜ ReferTo (now (firsts .entry)) (now (seconds .entry)) (now (values .entry)) (now (steps .entry)) count shown turn name r (now (values .exit)) ⌝ }
 {
     match read(predefined(name), shown) {

@@ -8,11 +8,11 @@ use rules::arrays::TABLE_SIZE;
 ghost use mathlib.Core.Path.{_≡_};
 ghost use Prim.Native.Nat.{_<_, _≤_, _-_};
 ghost use Rattle.rules.specs.Numbers.{within as withinBounds};
-ghost use Rattle.rules.specs.Registers.{lookup};
-ghost use Rattle.registers.specs.Table.Columns.{Names, Table, namesOf, tableOf};
-ghost use Rattle.registers.specs.Table.Places.{orderOf, orderAt, place};
+ghost use Rattle.rules.specs.Registers.{registerOf};
+ghost use Rattle.registers.specs.Table.Columns.{Names, RegistersInvariant, namesOf, tableOf};
+ghost use Rattle.registers.specs.Table.Places.{orderOf, orderAt, registerPlace};
 ghost use Rattle.registers.specs.Table.Moves.{inserted};
-ghost use Rattle.registers.specs.Table.Answers.{foundOf, numberOf, turnedOf, SetTo, StepTo};
+ghost use Rattle.registers.specs.Table.Answers.{registerFound, steppedNumber, turnedOf, SetTo, StepTo};
 
 // How a name stands to another in the order of names.
 pub enum Order {
@@ -22,19 +22,19 @@ pub enum Order {
 }
 
 // The place of a name, or the place where it belongs.
-pub enum Place {
+pub enum RegisterPlace {
     At(usize),
     Not(usize),
 }
 
 // A register, if there is one.
-pub enum Found {
+pub enum FoundRegister {
     There(Register),
     Nothing,
 }
 
 // How many registers there are after one is set, or no place for one more.
-pub enum Stored {
+pub enum RegisterCount {
     Set(usize),
     Full,
 }
@@ -67,25 +67,25 @@ pub fn order_at(firsts: &ByteColumn, seconds: &ByteColumn, i: usize, name: Name)
     Order::Same
 }
 
-pub fn find(firsts: &ByteColumn, seconds: &ByteColumn, count: usize, name: Name) -> Place
+pub fn find(firsts: &ByteColumn, seconds: &ByteColumn, count: usize, name: Name) -> RegisterPlace
     requires { ⌜ Names (now firsts) (now seconds) count ⌝ }
-    ensures { λ r. ⌜ r ≡ place name (namesOf (now (firsts .entry)) (now (seconds .entry)) count) ⌝ }
+    ensures { λ r. ⌜ r ≡ registerPlace name (namesOf (now (firsts .entry)) (now (seconds .entry)) count) ⌝ }
 {
     let mut i = 0;
     while i < count {
         match order_at(firsts, seconds, i, name) {
             Order::Earlier => {
-                return Place::Not(i);
+                return RegisterPlace::Not(i);
             }
             Order::Same => {
-                return Place::At(i);
+                return RegisterPlace::At(i);
             }
             Order::Later => {
                 i += 1;
             }
         }
     }
-    Place::Not(i)
+    RegisterPlace::Not(i)
 }
 
 // The register of a name.
@@ -96,17 +96,17 @@ pub fn look_up(
     steps: &NumberColumn,
     count: usize,
     name: Name,
-) -> Found
-    requires { ⌜ Table (now firsts) (now seconds) (now values) (now steps) count ⌝ }
-    ensures { λ r. ⌜ foundOf r ≡ lookup name (tableOf (now (firsts .entry)) (now (seconds .entry)) (now (values .entry)) (now (steps .entry)) count) ⌝ }
+) -> FoundRegister
+    requires { ⌜ RegistersInvariant (now firsts) (now seconds) (now values) (now steps) count ⌝ }
+    ensures { λ r. ⌜ registerFound r ≡ registerOf name (tableOf (now (firsts .entry)) (now (seconds .entry)) (now (values .entry)) (now (steps .entry)) count) ⌝ }
 {
     match find(firsts, seconds, count, name) {
-        Place::At(i) => Found::There(Register {
+        RegisterPlace::At(i) => FoundRegister::There(Register {
             name,
             value: values[i],
             step: steps[i],
         }),
-        Place::Not(_) => Found::Nothing,
+        RegisterPlace::Not(_) => FoundRegister::Nothing,
     }
 }
 
@@ -152,32 +152,32 @@ pub fn set(
     name: Name,
     value: i32,
     step: i32,
-) -> Stored
-    requires { ⌜ Table (now firsts) (now seconds) (now values) (now steps) count ⌝ }
+) -> RegisterCount
+    requires { ⌜ RegistersInvariant (now firsts) (now seconds) (now values) (now steps) count ⌝ }
     ensures { λ r. ⌜ SetTo (now (firsts .entry)) (now (seconds .entry)) (now (values .entry)) (now (steps .entry)) count name value step r (now (firsts .exit)) (now (seconds .exit)) (now (values .exit)) (now (steps .exit)) ⌝ }
 {
     match find(&*firsts, &*seconds, count, name) {
-        Place::At(i) => {
+        RegisterPlace::At(i) => {
             values[i] = value;
             steps[i] = step;
-            Stored::Set(count)
+            RegisterCount::Set(count)
         }
-        Place::Not(i) => {
+        RegisterPlace::Not(i) => {
             if TABLE_SIZE <= count {
-                return Stored::Full;
+                return RegisterCount::Full;
             }
             insert_byte(&mut *firsts, i, count, name.first);
             insert_byte(&mut *seconds, i, count, name.second);
             insert_number(&mut *values, i, count, value);
             insert_number(&mut *steps, i, count, step);
-            Stored::Set(count + 1)
+            RegisterCount::Set(count + 1)
         }
     }
 }
 
 // "6: .. step .. outside ±1,000,000,000"
 fn within(number: i64) -> Stepped
-    ensures { λ r. ⌜ numberOf r ≡ withinBounds number ⌝ }
+    ensures { λ r. ⌜ steppedNumber r ≡ withinBounds number ⌝ }
 {
     if number < -1000000000 {
         return Stepped::Bad;
@@ -190,7 +190,7 @@ fn within(number: i64) -> Stepped
 
 // The value to which a register of a value and a step turns.
 fn turned(turn: Turn, value: i32, step: i32) -> Stepped
-    ensures { λ r. ⌜ numberOf r ≡ turnedOf turn value step ⌝ }
+    ensures { λ r. ⌜ steppedNumber r ≡ turnedOf turn value step ⌝ }
 {
     match turn {
         Turn::Still => Stepped::Is(value),
@@ -209,17 +209,17 @@ pub fn step(
     turn: Turn,
     name: Name,
 ) -> Stepped
-    requires { ⌜ Table (now firsts) (now seconds) (now values) (now steps) count ⌝ }
+    requires { ⌜ RegistersInvariant (now firsts) (now seconds) (now values) (now steps) count ⌝ }
     ensures { λ r. ⌜ StepTo (now (firsts .entry)) (now (seconds .entry)) (now (values .entry)) (now (steps .entry)) count turn name r (now (values .exit)) ⌝ }
 {
     match find(firsts, seconds, count, name) {
-        Place::At(i) => match turned(turn, values[i], steps[i]) {
+        RegisterPlace::At(i) => match turned(turn, values[i], steps[i]) {
             Stepped::Is(new) => {
                 values[i] = new;
                 Stepped::Is(new)
             }
             Stepped::Bad => Stepped::Bad,
         },
-        Place::Not(_) => Stepped::Is(0),
+        RegisterPlace::Not(_) => Stepped::Is(0),
     }
 }

@@ -1,8 +1,8 @@
 // ds, de and rm: texts are defined, opened and removed by requests.
 use input_stack::stack::Stack;
 use line_syntax::lines::Named;
-use registers::table::Found;
-use registers::table::Stored;
+use registers::table::FoundRegister;
+use registers::table::RegisterCount;
 use rules::Name;
 use rules::arrays::ByteColumn;
 use rules::arrays::LengthColumn;
@@ -17,8 +17,8 @@ ghost use Rattle.rules.specs.Names.{nameOf, one};
 ghost use Rattle.rules.specs.Texts.{textOf};
 ghost use Rattle.rules.specs.Escapes.{escaped};
 ghost use Rattle.rules.specs.Acts.{removeText, openText, defines};
-ghost use Rattle.texts.specs.Table.Table.{textsOf, Lies};
-ghost use Rattle.requests.specs.Definitions.Texts.{Ready as ReadyTexts, ReadyToDefine, ChangesAs, OpensAs, DefinesAs, alone, removes, opensText, definesAs, definesBy};
+ghost use Rattle.texts.specs.Table.Table.{textsOf, TextsInvariant};
+ghost use Rattle.requests.specs.Definitions.Texts.{ChangeReady as ReadyTexts, ReadyToDefine, ChangeRefines, OpensAs, DefinesAs, alone, removes, opensText, definesAs, definesBy};
 
 // How many texts there are after a change, nothing to do, or the number of its refusal.
 pub enum Changed {
@@ -37,12 +37,12 @@ fn is_text(
     count: usize,
     name: Name,
 ) -> bool
-    requires { ⌜ Lies (now store) (now firsts) (now seconds) (now kinds) (now lengths) count ⌝ }
+    requires { ⌜ TextsInvariant (now store) (now firsts) (now seconds) (now kinds) (now lengths) count ⌝ }
     ensures { λ r. ⌜ r ≡ isThere (textOf name (textsOf (now (store .entry)) (now (firsts .entry)) (now (seconds .entry)) (now (kinds .entry)) (now (lengths .entry)) count)) ⌝ }
 {
     match texts::table::look_up(store, firsts, seconds, kinds, lengths, count, name) {
-        texts::table::Found::There(_) => true,
-        texts::table::Found::Nothing => false,
+        texts::table::FoundText::There(_) => true,
+        texts::table::FoundText::Nothing => false,
     }
 }
 
@@ -59,7 +59,7 @@ fn remove_name(
     count: usize,
 ) -> Changed
     requires { ⌜ ReadyTexts (now store) (now firsts) (now seconds) (now kinds) (now lengths) count stack ⌝ }
-    ensures { λ r. ⌜ ChangesAs (now (store .entry)) (now (firsts .entry)) (now (seconds .entry)) (now (kinds .entry)) (now (lengths .entry)) count stack (now (ends .entry)) alone (λ s. removeText s name) r (now (store .exit)) (now (firsts .exit)) (now (seconds .exit)) (now (kinds .exit)) (now (lengths .exit)) ⌝ }
+    ensures { λ r. ⌜ ChangeRefines (now (store .entry)) (now (firsts .entry)) (now (seconds .entry)) (now (kinds .entry)) (now (lengths .entry)) count stack (now (ends .entry)) alone (λ s. removeText s name) r (now (store .exit)) (now (firsts .exit)) (now (seconds .exit)) (now (kinds .exit)) (now (lengths .exit)) ⌝ }
 {
     let there = is_text(
         &*store,
@@ -100,7 +100,7 @@ pub fn remove(
     count: usize,
 ) -> Changed
     requires { ⌜ ReadyTexts (now store) (now firsts) (now seconds) (now kinds) (now lengths) count stack ⌝ }
-    ensures { λ r. ⌜ ChangesAs (now (store .entry)) (now (firsts .entry)) (now (seconds .entry)) (now (kinds .entry)) (now (lengths .entry)) count stack (now (ends .entry)) alone (removes (now (name .entry))) r (now (store .exit)) (now (firsts .exit)) (now (seconds .exit)) (now (kinds .exit)) (now (lengths .exit)) ⌝ }
+    ensures { λ r. ⌜ ChangeRefines (now (store .entry)) (now (firsts .entry)) (now (seconds .entry)) (now (kinds .entry)) (now (lengths .entry)) count stack (now (ends .entry)) alone (removes (now (name .entry))) r (now (store .exit)) (now (firsts .exit)) (now (seconds .exit)) (now (kinds .exit)) (now (lengths .exit)) ⌝ }
 {
     match line_syntax::lines::name_of(name) {
         Named::One(n) => remove_name(
@@ -146,8 +146,8 @@ fn open_name(
         count,
         name,
     ) {
-        texts::table::Stored::Set(n) => Changed::Count(n),
-        texts::table::Stored::Full => Changed::Refused(11),
+        texts::table::TextCount::Set(n) => Changed::Count(n),
+        texts::table::TextCount::Full => Changed::Refused(11),
     }
 }
 
@@ -197,7 +197,7 @@ fn define_text(
     count: usize,
 ) -> Changed
     requires { ⌜ ReadyToDefine (now store) (now firsts) (now seconds) (now kinds) (now lengths) count stack ⌝ }
-    ensures { λ r. ⌜ ChangesAs (now (store .entry)) (now (firsts .entry)) (now (seconds .entry)) (now (kinds .entry)) (now (lengths .entry)) count stack (now (ends .entry)) alone (definesAs name (now (text .entry))) r (now (store .exit)) (now (firsts .exit)) (now (seconds .exit)) (now (kinds .exit)) (now (lengths .exit)) ⌝ }
+    ensures { λ r. ⌜ ChangeRefines (now (store .entry)) (now (firsts .entry)) (now (seconds .entry)) (now (kinds .entry)) (now (lengths .entry)) count stack (now (ends .entry)) alone (definesAs name (now (text .entry))) r (now (store .exit)) (now (firsts .exit)) (now (seconds .exit)) (now (kinds .exit)) (now (lengths .exit)) ⌝ }
 {
     if input_stack::stack::is_on_stack(stack, ends, name) {
         return Changed::Refused(9);
@@ -212,8 +212,8 @@ fn define_text(
         name,
         text,
     ) {
-        texts::table::Stored::Set(n) => Changed::Count(n),
-        texts::table::Stored::Full => Changed::Refused(11),
+        texts::table::TextCount::Set(n) => Changed::Count(n),
+        texts::table::TextCount::Full => Changed::Refused(11),
     }
 }
 
@@ -231,7 +231,7 @@ fn define_back(
     count: usize,
 ) -> Changed
     requires { ⌜ ReadyToDefine (now store) (now firsts) (now seconds) (now kinds) (now lengths) count stack × (length (now text) ≤ 512) ⌝ }
-    ensures { λ r. ⌜ ChangesAs (now (store .entry)) (now (firsts .entry)) (now (seconds .entry)) (now (kinds .entry)) (now (lengths .entry)) count stack (now (ends .entry)) alone (definesAs name (escaped (now (text .entry)))) r (now (store .exit)) (now (firsts .exit)) (now (seconds .exit)) (now (kinds .exit)) (now (lengths .exit)) ⌝ }
+    ensures { λ r. ⌜ ChangeRefines (now (store .entry)) (now (firsts .entry)) (now (seconds .entry)) (now (kinds .entry)) (now (lengths .entry)) count stack (now (ends .entry)) alone (definesAs name (escaped (now (text .entry)))) r (now (store .exit)) (now (firsts .exit)) (now (seconds .exit)) (now (kinds .exit)) (now (lengths .exit)) ⌝ }
 {
     let mut out = [0u8; 1024];
     let end = line_syntax::lines::write_back(text, &mut out);
@@ -265,7 +265,7 @@ fn define_by(
     count: usize,
 ) -> Changed
     requires { ⌜ ReadyToDefine (now store) (now firsts) (now seconds) (now kinds) (now lengths) count stack × (length (now text) ≤ 512) × (end ≤ length (now parts)) ⌝ }
-    ensures { λ r. ⌜ ChangesAs (now (store .entry)) (now (firsts .entry)) (now (seconds .entry)) (now (kinds .entry)) (now (lengths .entry)) count stack (now (ends .entry)) alone (definesBy «after_if» (nameOf (take end (now (parts .entry)))) (now (text .entry))) r (now (store .exit)) (now (firsts .exit)) (now (seconds .exit)) (now (kinds .exit)) (now (lengths .exit)) ⌝ }
+    ensures { λ r. ⌜ ChangeRefines (now (store .entry)) (now (firsts .entry)) (now (seconds .entry)) (now (kinds .entry)) (now (lengths .entry)) count stack (now (ends .entry)) alone (definesBy «after_if» (nameOf (take end (now (parts .entry)))) (now (text .entry))) r (now (store .exit)) (now (firsts .exit)) (now (seconds .exit)) (now (kinds .exit)) (now (lengths .exit)) ⌝ }
 {
     match line_syntax::lines::name_of(&parts[..end]) {
         Named::One(n) => {

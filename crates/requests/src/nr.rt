@@ -2,19 +2,19 @@
 use line_syntax::lines::Named;
 use number::arithmetic::Value;
 use registers::interpolation::Which;
-use registers::table::Found;
-use registers::table::Stored;
+use registers::table::FoundRegister;
+use registers::table::RegisterCount;
 use rules::Name;
 use rules::arrays::ByteColumn;
 use rules::arrays::NumberColumn;
 use settings::layout::Printer;
 ghost use mathlib.Core.Path.{_≡_};
-ghost use Rattle.rules.specs.Registers.{predefined, lookup};
+ghost use Rattle.rules.specs.Registers.{predefined, registerOf};
 ghost use Rattle.rules.specs.Acts.{newValue, newStep};
 ghost use Rattle.number.specs.Arithmetic.Values.{judgedOf};
-ghost use Rattle.registers.specs.Table.Columns.{Table, tableOf};
-ghost use Rattle.settings.specs.Layout.Layouts.{printerOf, SoundPrinter};
-ghost use Rattle.requests.specs.Nr.Registers.{Ready as ReadyRegisters, NumbersOf, newNumbersOf, valueBy, numbersBy, AssignsAs, writes, assigns};
+ghost use Rattle.registers.specs.Table.Columns.{RegistersInvariant, tableOf};
+ghost use Rattle.settings.specs.Layout.Layouts.{printerOf, PrinterInvariant};
+ghost use Rattle.requests.specs.Nr.Registers.{AssignReady as ReadyRegisters, NumbersOf, newNumbersOf, valueBy, numbersBy, AssignRefines, assignsTo, assigns};
 
 // The value and the step of a register.
 struct Numbers {
@@ -53,15 +53,15 @@ fn old_numbers(
     count: usize,
     name: Name,
 ) -> Numbers
-    requires { ⌜ Table (now firsts) (now seconds) (now values) (now steps) count ⌝ }
-    ensures { λ r. ⌜ NumbersOf (lookup name (tableOf (now (firsts .entry)) (now (seconds .entry)) (now (values .entry)) (now (steps .entry)) count)) r ⌝ }
+    requires { ⌜ RegistersInvariant (now firsts) (now seconds) (now values) (now steps) count ⌝ }
+    ensures { λ r. ⌜ NumbersOf (registerOf name (tableOf (now (firsts .entry)) (now (seconds .entry)) (now (values .entry)) (now (steps .entry)) count)) r ⌝ }
 {
     match registers::table::look_up(firsts, seconds, values, steps, count, name) {
-        Found::There(register) => Numbers {
+        FoundRegister::There(register) => Numbers {
             value: register.value,
             step: register.step,
         },
-        Found::Nothing => Numbers { value: 0, step: 0 },
+        FoundRegister::Nothing => Numbers { value: 0, step: 0 },
     }
 }
 
@@ -77,7 +77,7 @@ fn summed(signed: bool, old: i32, value: i32) -> Value
 
 // The new value of a register.
 fn new_value(value: &[u8], old: i32, printer: Printer) -> Value
-    requires { ⌜ SoundPrinter printer ⌝ }
+    requires { ⌜ PrinterInvariant printer ⌝ }
     ensures { λ r. ⌜ judgedOf r ≡ valueBy (printerOf printer) (now (value .entry)) old ⌝ }
 {
     match number::scales::units(value, printer.pitch) {
@@ -88,7 +88,7 @@ fn new_value(value: &[u8], old: i32, printer: Printer) -> Value
 
 // "nr without a step the old step (0 at first)"
 fn new_step(step: &[u8], old: i32, printer: Printer) -> Value
-    requires { ⌜ SoundPrinter printer ⌝ }
+    requires { ⌜ PrinterInvariant printer ⌝ }
     ensures { λ r. ⌜ judgedOf r ≡ newStep (printerOf printer) (now (step .entry)) old ⌝ }
 {
     if step.len() == 0 {
@@ -99,7 +99,7 @@ fn new_step(step: &[u8], old: i32, printer: Printer) -> Value
 
 // The new value, then the new step.
 fn new_numbers(value: &[u8], step: &[u8], old: Numbers, printer: Printer) -> NewNumbers
-    requires { ⌜ SoundPrinter printer ⌝ }
+    requires { ⌜ PrinterInvariant printer ⌝ }
     ensures { λ r. ⌜ newNumbersOf r ≡ numbersBy (printerOf printer) (now (value .entry)) (now (step .entry)) (old .value) (old .step) ⌝ }
 {
     match new_value(value, old.value, printer) {
@@ -124,7 +124,7 @@ fn write_register(
     count: usize,
 ) -> Assigned
     requires { ⌜ ReadyRegisters (now firsts) (now seconds) (now values) (now steps) count printer ⌝ }
-    ensures { λ r. ⌜ AssignsAs (now (firsts .entry)) (now (seconds .entry)) (now (values .entry)) (now (steps .entry)) count (writes printer (now (value .entry)) (now (step .entry)) name) r (now (firsts .exit)) (now (seconds .exit)) (now (values .exit)) (now (steps .exit)) ⌝ }
+    ensures { λ r. ⌜ AssignRefines (now (firsts .entry)) (now (seconds .entry)) (now (values .entry)) (now (steps .entry)) count (assignsTo printer (now (value .entry)) (now (step .entry)) name) r (now (firsts .exit)) (now (seconds .exit)) (now (values .exit)) (now (steps .exit)) ⌝ }
 {
     if value.len() == 0 {
         return Assigned::Count(count);
@@ -146,8 +146,8 @@ fn write_register(
         v,
         s,
     ) {
-        Stored::Set(n) => Assigned::Count(n),
-        Stored::Full => Assigned::Refused(11),
+        RegisterCount::Set(n) => Assigned::Count(n),
+        RegisterCount::Full => Assigned::Refused(11),
     }
 }
 
@@ -164,7 +164,7 @@ pub fn assign(
     count: usize,
 ) -> Assigned
     requires { ⌜ ReadyRegisters (now firsts) (now seconds) (now values) (now steps) count printer ⌝ }
-    ensures { λ r. ⌜ AssignsAs (now (firsts .entry)) (now (seconds .entry)) (now (values .entry)) (now (steps .entry)) count (assigns printer (now (name .entry)) (now (value .entry)) (now (step .entry))) r (now (firsts .exit)) (now (seconds .exit)) (now (values .exit)) (now (steps .exit)) ⌝ }
+    ensures { λ r. ⌜ AssignRefines (now (firsts .entry)) (now (seconds .entry)) (now (values .entry)) (now (steps .entry)) count (assigns printer (now (name .entry)) (now (value .entry)) (now (step .entry))) r (now (firsts .exit)) (now (seconds .exit)) (now (values .exit)) (now (steps .exit)) ⌝ }
 {
     match line_syntax::lines::name_of(name) {
         Named::One(n) => write_register(

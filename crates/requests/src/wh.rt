@@ -1,14 +1,14 @@
 // wh: a trap is planted, replaced or removed.
 use line_syntax::lines::Named;
 use measure::Rows;
-use number::scales::Down;
+use number::scales::MaybeRows;
 use rules::Name;
 use settings::layout::Printer;
 use traps::table::Planted;
 ghost use Rattle.rules.specs.Names.{nameOf, one};
 ghost use Rattle.rules.specs.Acts.{plantAt};
-ghost use Rattle.traps.specs.Table.Table.{Within};
-ghost use Rattle.requests.specs.Wh.Traps.{Ready as ReadyTraps, PlantsAs, PlantedTo};
+ghost use Rattle.traps.specs.Table.Table.{TrapsInvariant};
+ghost use Rattle.requests.specs.Wh.Traps.{PlantReady as ReadyTraps, PlantRefines, PlantedTo};
 
 // The table after wh, and the number of its refusal, 0 for none.
 pub struct Plants {
@@ -18,8 +18,8 @@ pub struct Plants {
 
 // Plants a name: "11: .. 17th trap".
 fn plant_name(place: Rows, name: Name, planted: Planted) -> Plants
-    requires { ⌜ Within planted ⌝ }
-    ensures { λ r. ⌜ PlantsAs planted (λ s. plantAt (place .0) (one name) s) r ⌝ }
+    requires { ⌜ TrapsInvariant planted ⌝ }
+    ensures { λ r. ⌜ PlantRefines planted (λ s. plantAt (place .0) (one name) s) r ⌝ }
 {
     let p = traps::table::plant(planted, place, name);
     let new = p.planted;
@@ -37,8 +37,8 @@ fn plant_name(place: Rows, name: Name, planted: Planted) -> Plants
 
 // A row with a name plants, "no name removes".
 fn plant_at(place: Rows, name: &[u8], planted: Planted) -> Plants
-    requires { ⌜ Within planted ⌝ }
-    ensures { λ r. ⌜ PlantsAs planted (λ s. plantAt (place .0) (nameOf (now (name .entry))) s) r ⌝ }
+    requires { ⌜ TrapsInvariant planted ⌝ }
+    ensures { λ r. ⌜ PlantRefines planted (λ s. plantAt (place .0) (nameOf (now (name .entry))) s) r ⌝ }
 {
     match line_syntax::lines::name_of(name) {
         Named::One(n) => plant_name(place, n, planted),
@@ -65,8 +65,8 @@ pub fn plant(row: &[u8], name: &[u8], planted: Planted, printer: Printer) -> Pla
         };
     }
     match number::scales::rows(row, printer.pitch) {
-        Down::Are(rows) => plant_at(rows, name, planted),
-        Down::Bad => Plants {
+        MaybeRows::Are(rows) => plant_at(rows, name, planted),
+        MaybeRows::Bad => Plants {
             refused: 6,
             planted,
         },

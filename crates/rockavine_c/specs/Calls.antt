@@ -10,9 +10,9 @@ use lib.IntN.{ℤ}
 use Rattle.stream.specs.declared.Answer.{Answer}
 use Rattle.stream.specs.declared.Answer.the-variants as answer
 use Rattle.record.specs.declared.Record.{Record}
-use Rattle.session.specs.Contract.{Called}
+use Rattle.session.specs.Contract.{CallContract}
 use Rattle.record_words.specs.Decoding.Words.{wordOf}
-use Rattle.rockavine_c.specs.Replies.Replies.{codeOf, numberOf, lineOf, isLast}
+use Rattle.rockavine_c.specs.Replies.Replies.{codeOf, answerNumber, answerLine, isLast}
 
 -- refusal 1
 abbrev pub isTurned : Answer → Bool
@@ -27,10 +27,10 @@ pub record BlockTaken (block : List ℕ) (start : ℕ) (ws : List ℤ) (g : List
   pub gathered : g' ≡ paste g start block (length block)
 
 -- THE PROMISE OF A CALL FROM C: it answers by a code, a number and a line, and is a call of the session from the one record to the other. At refusal 1 no word changes.
-pub record CalledFrom (r : Record) (ws : List ℤ) (st block : List ℕ) (last : ℕ) (out : List ℕ) (code taken written number line : ℕ) (r' : Record) (ws' : List ℤ) (st' out' : List ℕ) : Type 0 where
+pub record CCallContract (r : Record) (ws : List ℤ) (st block : List ℕ) (last : ℕ) (out : List ℕ) (code taken written number line : ℕ) (r' : Record) (ws' : List ℤ) (st' out' : List ℕ) : Type 0 where
   pub says : Answer
   pub code-is : code ≡ codeOf says
-  pub number-is : number ≡ numberOf says
-  pub line-is : line ≡ lineOf says
-  pub called : Called r st block (isLast last) out (record { answer = says; taken = taken; written = written; next = r' }) st' out'
+  pub number-is : number ≡ answerNumber says
+  pub line-is : line ≡ answerLine says
+  pub called : CallContract r st block (isLast last) out (record { answer = says; taken = taken; written = written; next = r' }) st' out'
   pub untouched : isTurned says ≡ true → ws' ≡ ws

@@ -15,11 +15,11 @@ use rules::arrays::StackBytes;
 use rules::arrays::StackEnds;
 use rules::arrays::TABLE_SIZE;
 ghost use mathlib.Core.Path.{_≡_};
-ghost use Rattle.session.specs.Limits.{Sized};
+ghost use Rattle.session.specs.Limits.{ArrayLengths};
 ghost use Rattle.session.specs.Start.{startRecord};
 ghost use Rattle.source_line.specs.Gathering.{Appends};
 ghost use Rattle.record_words.specs.Encoding.Kept.{recordIn};
-ghost use Rattle.rockavine_c.specs.Calls.{BlockTaken, CalledFrom};
+ghost use Rattle.rockavine_c.specs.Calls.{BlockTaken, CCallContract};
 ghost use Rattle.record.specs.declared.Record.{Record};
 
 // The version of this interface.
@@ -103,11 +103,11 @@ pub extern "C" fn rockavine_call_parts(
 ) -> u32
     ghost { Record }
     requires { λ q. ⌜ recordIn (now words) (now gathered) (now cells) (now row) (now arena) (now ends) (now «text_firsts») (now «text_seconds») (now kinds) (now lengths) (now firsts) (now seconds) (now values) (now steps) ≡ q ⌝ }
-    requires { λ q. ⌜ Sized q ⌝ }
-    ensures { λ q r. ⌜ CalledFrom q (now (words .entry)) (now (store .entry)) (now (block .entry)) last (now (out .entry)) r (now (taken .exit)) (now (written .exit)) (now (number .exit)) (now (line .exit)) (recordIn (now (words .exit)) (now (gathered .exit)) (now (cells .exit)) (now (row .exit)) (now (arena .exit)) (now (ends .exit)) (now («text_firsts» .exit)) (now («text_seconds» .exit)) (now (kinds .exit)) (now (lengths .exit)) (now (firsts .exit)) (now (seconds .exit)) (now (values .exit)) (now (steps .exit))) (now (words .exit)) (now (store .exit)) (now (out .exit)) ⌝ }
+    requires { λ q. ⌜ ArrayLengths q ⌝ }
+    ensures { λ q r. ⌜ CCallContract q (now (words .entry)) (now (store .entry)) (now (block .entry)) last (now (out .entry)) r (now (taken .exit)) (now (written .exit)) (now (number .exit)) (now (line .exit)) (recordIn (now (words .exit)) (now (gathered .exit)) (now (cells .exit)) (now (row .exit)) (now (arena .exit)) (now (ends .exit)) (now («text_firsts» .exit)) (now («text_seconds» .exit)) (now (kinds .exit)) (now (lengths .exit)) (now (firsts .exit)) (now (seconds .exit)) (now (values .exit)) (now (steps .exit))) (now (words .exit)) (now (store .exit)) (now (out .exit)) ⌝ }
 {
     let place = record_words::encoding::place(&*words);
-    if !session::is_legal(
+    if !session::is_valid(
         place,
         &*gathered,
         &*cells,

@@ -1,7 +1,7 @@
 // Answers and marks as plain numbers, for C.
 use stream::Answer;
 ghost use mathlib.Core.Path.{_≡_};
-ghost use Rattle.rockavine_c.specs.Replies.Replies.{codeOf, numberOf, lineOf, isLast};
+ghost use Rattle.rockavine_c.specs.Replies.Replies.{codeOf, answerNumber, answerLine, isLast};
 
 // The number of an answer for C.
 pub fn code_of(answer: Answer) -> u32
@@ -17,7 +17,7 @@ pub fn code_of(answer: Answer) -> u32
 
 // The number of a refusal, 0 if it is none.
 pub fn number_of(answer: Answer) -> u8
-    ensures { λ r. ⌜ r ≡ numberOf answer ⌝ }
+    ensures { λ r. ⌜ r ≡ answerNumber answer ⌝ }
 {
     match answer {
         Answer::NeedsInput => 0,
@@ -29,7 +29,7 @@ pub fn number_of(answer: Answer) -> u8
 
 // The source line of a refusal, 0 if it is none.
 pub fn line_of(answer: Answer) -> u32
-    ensures { λ r. ⌜ r ≡ lineOf answer ⌝ }
+    ensures { λ r. ⌜ r ≡ answerLine answer ⌝ }
 {
     match answer {
         Answer::NeedsInput => 0,

@@ -11,12 +11,12 @@ use Rattle.rules.specs.declared.Name.{Name}
 use Rattle.rules.specs.Bytes.{isThere}
 use Rattle.rules.specs.Refusals.{Judged, value, bad, judge, _>>=_}
 use Rattle.rules.specs.Numbers.{cells, rows, units, signed, within}
-use Rattle.rules.specs.Registers.{lookup, predefined, valueOr0, stepOr0, setValue}
+use Rattle.rules.specs.Registers.{registerOf, predefined, valueOr0, stepOr0, setValue}
 use Rattle.rules.specs.Texts.{textOf, remove, defineString, openMacro}
 use Rattle.rules.specs.Escapes.{escaped}
 use Rattle.rules.specs.Names.{Named, one, tooLong, nameOf}
 use Rattle.rules.specs.Arguments.{Part, first, arguments, stringText, condition}
-use Rattle.rules.specs.Settings.{Layout, Setting, set, goBack, changed, lineRange, indentRange, offsetRange, pageRange}
+use Rattle.rules.specs.Settings.{Layout, Setting, newSetting, goBack, changed, lineRange, indentRange, offsetRange, pageRange}
 use Rattle.rules.specs.LayoutSetters.{withLine, withIndent, withOffset, withPageLength, withTotal, withFilling, withAdjusting, withCentred}
 use Rattle.rules.specs.Traps.{plant, removeTrap}
 use Rattle.rules.specs.declared.Breaking.{Breaking}
@@ -33,25 +33,25 @@ use Rattle.rules.specs.Rows.{Next, goes, refuses, skip, eject}
 use Rattle.rules.specs.Lines.{lineOf, holds}
 
 -- on with a value; a refusal closes
-abbrev pub given : {A : Type 0} → Judged A → State → (A → Next) → Next
-given (value a) s k = k a
-given (bad n) s k = refuses n s
+abbrev pub onValue : {A : Type 0} → Judged A → State → (A → Next) → Next
+onValue (value a) s k = k a
+onValue (bad n) s k = refuses n s
 
 -- on with a new state, or a refusal
 abbrev pub settles : Judged State → State → Next
-settles j s = given j s goes
+settles j s = onValue j s goes
 
 -- on with a new layout, or a refusal
 abbrev pub laidOut : Judged Layout → State → Next
-laidOut j s = given j s (λ y. goes (withLayout y s))
+laidOut j s = onValue j s (λ y. goes (withLayout y s))
 
 -- the n-th argument, from 0: "to a request an empty one is missing"
-abbrev pub argument : ℕ → List ℕ → List ℕ
-argument n l = getD (arguments l) n []
+abbrev pub argumentAt : ℕ → List ℕ → List ℕ
+argumentAt n l = getD (arguments l) n []
 
 -- a name argument: "a missing one means no action or refusal"; "7: .. longer than two bytes"
 abbrev pub onName : Named → State → (Name → Judged State) → Judged State
-onName Named.none s k = value s
+onName Named.noName s k = value s
 onName tooLong s k = bad 7
 onName (one n) s k = k n
 
@@ -98,7 +98,7 @@ removeText s n = removeIf (isThere (textOf n (s .tables .texts))) s n
 
 -- wh: "no name removes"; "11: .. 17th trap"
 abbrev pub plantAt : ℤ → Named → State → Judged State
-plantAt r Named.none s = value (withTraps (removeTrap r (s .tables .traps)) s)
+plantAt r Named.noName s = value (withTraps (removeTrap r (s .tables .traps)) s)
 plantAt r tooLong s = bad 7
 plantAt r (one n) s = let ts = plant r n (s .tables .traps) in judge (leb (length ts) 16) 11 (withTraps ts s)
 
@@ -125,7 +125,7 @@ module _ (p : Printer) where
   setting range old (b ∷ l) = do
     v ← cells (p .pitch) (b ∷ l)
     n ← range (changed (signed (b ∷ l)) (old .now) v)
-    value (set n old)
+    value (newSetting n old)
 
   -- pl; missing, 66 rows
   abbrev pub pageLength : (used old : ℕ) → List ℕ → Judged ℕ
@@ -163,9 +163,9 @@ module _ (p : Printer) where
   -- A request that breaks, after its break.
   unfoldable pub act : Breaking → List ℕ → State → Next
   act Br l s = goes s
-  act Sp l s = given (spacing (argument 0 l)) s (λ n. skip n s)
+  act Sp l s = onValue (spacing (argumentAt 0 l)) s (λ n. skip n s)
   act Bp l s = eject (s .page .number) s
-  act (Sets r) l s = laidOut (setLine r (argument 0 l) (s .layout)) s
+  act (Sets r) l s = laidOut (setLine r (argumentAt 0 l) (s .layout)) s
 
   -- pl, po, ll, ad and na, by their argument; pl looks at the rows used on the page
   abbrev pub setPage : PageSetting → (used : ℕ) → List ℕ → Layout → Judged Layout
@@ -177,7 +177,7 @@ module _ (p : Printer) where
 
   -- A request that sets the layout and does not break.
   abbrev pub lay : PageSetting → List ℕ → State → Next
-  lay r l s = laidOut (setPage r (s .page .used) (argument 0 l) (s .layout)) s
+  lay r l s = laidOut (setPage r (s .page .used) (argumentAt 0 l) (s .layout)) s
 
   -- "nr without a step the old step (0 at first)"
   abbrev pub newStep : List ℕ → ℤ → Judged ℤ
@@ -189,8 +189,8 @@ module _ (p : Printer) where
   writeIf true v l s n = bad 7
   writeIf false v l s n = do
     x ← units (p .pitch) v
-    y ← newValue (signed v) (valueOr0 (lookup n (s .tables .registers))) x
-    z ← newStep l (stepOr0 (lookup n (s .tables .registers)))
+    y ← newValue (signed v) (valueOr0 (registerOf n (s .tables .registers))) x
+    z ← newStep l (stepOr0 (registerOf n (s .tables .registers)))
     rs ← setValue n y z (s .tables .registers)
     value (withRegisters rs s)
 
@@ -211,10 +211,10 @@ module _ (p : Printer) where
 
   -- A request that changes a table.
   unfoldable pub change : TableChange → List ℕ → State → Judged State
-  change Nr l s = onName (nameOf (argument 0 l)) s (writeRegister (argument 1 l) (argument 2 l) s)
-  change De l s = onName (nameOf (argument 0 l)) s (openText s)
-  change Rm l s = onName (nameOf (argument 0 l)) s (removeText s)
-  change Wh l s = plantTrap (argument 0 l) (argument 1 l) s
+  change Nr l s = onName (nameOf (argumentAt 0 l)) s (writeRegister (argumentAt 1 l) (argumentAt 2 l) s)
+  change De l s = onName (nameOf (argumentAt 0 l)) s (openText s)
+  change Rm l s = onName (nameOf (argumentAt 0 l)) s (removeText s)
+  change Wh l s = plantTrap (argumentAt 0 l) (argumentAt 1 l) s
 
   -- if, by what follows its name
   unfoldable pub decide : List ℕ → State → Judged State

@@ -30,12 +30,12 @@ pub data Place : Type 0 where
 
 -- the bytes that matter in arguments
 pub data Byte : Type 0 where
-  blank quote other : Byte
+  blankByte quote other : Byte
 
 -- which of them a byte is
 abbrev pub byteOf : ℕ → Byte
 unfolding firstWhere
-byteOf b = entry ((space, blank) ∷ (byte "\"", quote) ∷ []) other b
+byteOf b = entry ((space, blankByte) ∷ (byte "\"", quote) ∷ []) other b
 
 -- A byte is kept or dropped, or the argument has ended before it.
 pub data Fate : Type 0 where
@@ -44,13 +44,13 @@ pub data Fate : Type 0 where
 
 -- "Arguments part at spaces; one that starts with a double quote runs to the next lone one .., "" inside being one quote"
 abbrev pub fate : Place → Byte → Fate
-fate bare blank = ended
+fate bare blankByte = ended
 fate bare quote = keeps bare
 fate bare other = keeps bare
-fate quoted blank = keeps quoted
+fate quoted blankByte = keeps quoted
 fate quoted quote = drops behind
 fate quoted other = keeps quoted
-fate behind blank = ended
+fate behind blankByte = ended
 fate behind quote = keeps quoted
 fate behind other = ended
 
@@ -63,7 +63,7 @@ upTo p (b ∷ l) = elim (fate p (byteOf b)) [ keeps q ↦ push b (upTo q l) | dr
 -- the first argument and what follows it, if there is one
 abbrev pub firstBy : Byte → ℕ → List ℕ → Part
 firstBy quote b l = upTo quoted l
-firstBy blank b l = upTo bare (b ∷ l)
+firstBy blankByte b l = upTo bare (b ∷ l)
 firstBy other b l = upTo bare (b ∷ l)
 
 -- the argument that starts here, if one does
@@ -89,7 +89,7 @@ arguments l = argumentsUpTo 9 l
 -- ds: "In ds one leading " is dropped", after the spaces behind the name
 abbrev pub withoutQuoteBy : Byte → ℕ → List ℕ → List ℕ
 withoutQuoteBy quote b l = l
-withoutQuoteBy blank b l = b ∷ l
+withoutQuoteBy blankByte b l = b ∷ l
 withoutQuoteBy other b l = b ∷ l
 
 -- "one leading " is dropped"
@@ -103,11 +103,11 @@ unfolding afterSpaces firstWhere
 stringText l = withoutQuote (afterSpaces l)
 
 -- the bytes up to a space, and those from it on: a control line's "name is the raw bytes directly after that one up to a space"
-unfoldable pub word : List ℕ → Part
+unfoldable pub firstWord : List ℕ → Part
 unfolding upTo
-word l = upTo bare l
+firstWord l = upTo bare l
 
 -- if: "The condition of an if ends at a space"; "What follows its spaces" is the rest
 unfoldable pub condition : List ℕ → Part
-unfolding word afterSpaces
-condition l = let c = word (afterSpaces l) in part (c .part) (afterSpaces (c .rest))
+unfolding firstWord afterSpaces
+condition l = let c = firstWord (afterSpaces l) in part (c .part) (afterSpaces (c .rest))

@@ -61,11 +61,11 @@ unfolding firstWhere
 inTable t b = entryOf (firstWhere (λ e. eqb b (e .0)) t)
 
 -- the entry of a byte, or else what all other bytes have
-abbrev pub orElse : {A : Type 0} → Option A → A → A
-orElse none d = d
-orElse (some a) d = a
+abbrev pub orOther : {A : Type 0} → Option A → A → A
+orOther none d = d
+orOther (some a) d = a
 
 -- the entry of a byte in a table, or else what all other bytes have
 abbrev pub entry : {A : Type 0} → List (ℕ × A) → A → ℕ → A
 unfolding firstWhere
-entry t d b = orElse (inTable t b) d
+entry t d b = orOther (inTable t b) d

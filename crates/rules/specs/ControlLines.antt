@@ -9,30 +9,30 @@ use Rattle.rules.specs.declared.Name.{Name}
 use Rattle.rules.specs.Texts.{Text, textOf, keepLine, closeMacro}
 use Rattle.rules.specs.declared.Mode.{Mode}
 use Rattle.rules.specs.declared.Mode.the-variants.{Plain, Copy}
-use Rattle.rules.specs.Escapes.{Scanned, scanned, refused, scan}
+use Rattle.rules.specs.Escapes.{Scanned, scanned, scanRefused, scan}
 use Rattle.rules.specs.Arguments.{arguments}
 use Rattle.rules.specs.Filling.{Collected}
 use Rattle.rules.specs.declared.Breaking.{Breaking}
 use Rattle.rules.specs.declared.Request.{Request}
 use Rattle.rules.specs.Requests.{requestOf, traits, startsPage, modeOf}
 use Rattle.rules.specs.declared.Request.the-variants.{Breaks, Lays, Changes, Ds, If}
-use Rattle.rules.specs.State.{State, Line, text, control, ignored, Item, again, acts, Definition, seen}
+use Rattle.rules.specs.State.{State, Line, plainText, control, ignored, Item, again, acts, Definition, seen}
 use Rattle.rules.specs.StateSetters.{withRegisters, withTexts, withOpened}
 use Rattle.rules.specs.Rows.{Next, goes, refuses, call, break, startPage, heldIf}
 use Rattle.rules.specs.TextLines.{textLine}
 use Rattle.rules.specs.Lines.{lineOf, isClosing}
-use Rattle.rules.specs.Acts.{given, settles, act, lay, change, defines, decide}
+use Rattle.rules.specs.Acts.{onValue, settles, act, lay, change, defines, decide}
 
 -- What a control line's name stands for: "User names hide requests"
 pub data Meaning : Type 0 where
   calls : Text → Meaning
-  requests : Request → Meaning
+  meansRequest : Request → Meaning
   nothing : Meaning
 
 -- a request, or nothing
 abbrev pub requestMeaning : Option Request → Meaning
 requestMeaning none = nothing
-requestMeaning (some r) = requests r
+requestMeaning (some r) = meansRequest r
 
 -- a user text, or else what the name is among requests
 abbrev pub textMeaning : Option Text → Name → Meaning
@@ -63,7 +63,7 @@ prefixOf n = suc (nameLength (n .second))
 -- on with an expanded line, or its refusal, with the registers as the escapes before left them
 abbrev pub onScan : Scanned → State → (List ℕ → State → Next) → Next
 onScan (scanned l rs) s k = k l (withRegisters rs s)
-onScan (refused n rs) s k = refuses n (withRegisters rs s)
+onScan (scanRefused n rs) s k = refuses n (withRegisters rs s)
 
 module _ (p : Printer) where
   -- Where a period calls it and a line is collected, a breaking request breaks, and what it does after that is held; else it acts at once.
@@ -81,16 +81,16 @@ module _ (p : Printer) where
   abbrev pub obey : Meaning → (afterIf period : Bool) → Name → List ℕ → State → Next
   obey nothing i q n l s = goes s
   obey (calls t) i q n l s = goes (call t (arguments l) [] s)
-  obey (requests (Breaks r)) i q n l s = startOrBreak (eqb (s .page .number) 0 && startsPage q r) q r n l s
-  obey (requests (Lays r)) i q n l s = lay p r l s
-  obey (requests (Changes r)) i q n l s = settles (change p r l s) s
-  obey (requests Ds) i q n l s = settles (defines i l s) s
-  obey (requests If) i q n l s = settles (decide p l s) s
+  obey (meansRequest (Breaks r)) i q n l s = startOrBreak (eqb (s .page .number) 0 && startsPage q r) q r n l s
+  obey (meansRequest (Lays r)) i q n l s = lay p r l s
+  obey (meansRequest (Changes r)) i q n l s = settles (change p r l s) s
+  obey (meansRequest Ds) i q n l s = settles (defines i l s) s
+  obey (meansRequest If) i q n l s = settles (decide p l s) s
 
   -- an expanded line
   unfoldable pub dealAgain : Line → State → Next
   dealAgain ignored s = goes s
-  dealAgain (text l) s = textLine l s
+  dealAgain (plainText l) s = textLine l s
   dealAgain (control q n l) s = obey (meaningOf n s) true q n l s
 
   -- the expansion of a line in this state
@@ -101,17 +101,17 @@ module _ (p : Printer) where
   abbrev pub controlLine : Meaning → (args : List (List ℕ)) → (period : Bool) → Name → List ℕ → State → Next
   controlLine nothing args q n l s = goes s
   controlLine (calls t) args q n l s = onScan (expand args Plain (prefixOf n) l s) s (obey (calls t) false q n)
-  controlLine (requests r) args q n l s = onScan (expand args (modeOf r) (prefixOf n) l s) s (obey (requests r) false q n)
+  controlLine (meansRequest r) args q n l s = onScan (expand args (modeOf r) (prefixOf n) l s) s (obey (meansRequest r) false q n)
 
   -- a line before its expansion
   abbrev pub freshLine : Line → (args : List (List ℕ)) → State → Next
   freshLine ignored args s = goes s
-  freshLine (text l) args s = onScan (expand args Plain 0 l s) s textLine
+  freshLine (plainText l) args s = onScan (expand args Plain 0 l s) s textLine
   freshLine (control q n l) args s = controlLine (meaningOf n s) args q n l s
 
   -- a body line, as expanded, goes behind those before it, or "11: .. live text past 8,192 bytes"
   abbrev pub keepBody : Definition → List ℕ → State → Next
-  keepBody d l s = given (keepLine (s .tables .texts) (d .body) l) s (λ body. goes (withOpened (some (record { name = d .name; body = body })) s))
+  keepBody d l s = onValue (keepLine (s .tables .texts) (d .body) l) s (λ body. goes (withOpened (some (record { name = d .name; body = body })) s))
 
   -- "A definition closes at a line that is exactly two periods"; any other line is kept: "Body lines of de .. are in copy mode"
   abbrev pub bodyLine : (closing : Bool) → Definition → (args : List (List ℕ)) → List ℕ → State → Next

@@ -27,7 +27,7 @@ pub record Surroundings : Type 0 where
 -- The expanded line and the registers after its steps, or a refusal.
 pub data Scanned : Type 0 where
   scanned : List ℕ → List Register → Scanned
-  refused : ℕ → List Register → Scanned
+  scanRefused : ℕ → List Register → Scanned
 
 -- What a name stands for: a register to be shown, or a string.
 pub data Wanted : Type 0 where
@@ -57,7 +57,7 @@ pub data Action : Type 0 where
   writes : List ℕ → Action
   -- a backslash begins an escape; the escape goes on
   begins : Action
-  holds : Escape → Action
+  holdsEscape : Escape → Action
   -- a register or string is named; an argument is, counted from 0
   wants : Wanted → Name → Action
   gives : ℕ → Action
@@ -68,7 +68,7 @@ pub data Action : Type 0 where
 
 -- "\" ends the line", "\nx \n(xx .. \*x \*(xx .. \$1 to \$9": those that act in both modes
 abbrev pub acting : List (ℕ × Action)
-acting = (byte "\"", ends) ∷ (byte "n", holds numbering) ∷ (byte "*", holds (naming aString)) ∷ (byte "$", holds argument) ∷ []
+acting = (byte "\"", ends) ∷ (byte "n", holdsEscape numbering) ∷ (byte "*", holdsEscape (naming aString)) ∷ (byte "$", holdsEscape argument) ∷ []
 
 -- "\\ and \e print a backslash, \- a minus, \& a mark of no width .., backslash-space a fixed blank"
 abbrev pub listed : List (ℕ × Action)
@@ -81,9 +81,9 @@ abbrev pub listedInCopy : List (ℕ × Action)
 listedInCopy = (backslash, writes (backslash ∷ [])) ∷ (byte ".", writes (byte "." ∷ [])) ∷ acting
 
 -- a byte that is a name, or begins one of two bytes
-abbrev pub named : Wanted → ℕ → Action
+abbrev pub namedBy : Wanted → ℕ → Action
 unfolding firstWhere
-named w b = entry ((byte "(", holds (long w)) ∷ []) (wants w (oneByte b)) b
+namedBy w b = entry ((byte "(", holdsEscape (long w)) ∷ []) (wants w (oneByte b)) b
 
 -- "\$1 to \$9"
 abbrev pub numbered : (listed : Bool) → ℕ → Action
@@ -96,9 +96,9 @@ unfolding firstWhere
 actionOf m outside b = entry ((backslash, begins) ∷ []) (writes (b ∷ [])) b
 actionOf Plain slash b = entry listed unlisted b
 actionOf Copy slash b = entry listedInCopy (writes (backslash ∷ b ∷ [])) b
-actionOf m numbering b = entry ((byte "+", holds (naming (number Up))) ∷ (byte "-", holds (naming (number Down))) ∷ []) (named (number Still) b) b
-actionOf m (naming w) b = named w b
-actionOf m (long w) b = holds (longer w b)
+actionOf m numbering b = entry ((byte "+", holdsEscape (naming (number Up))) ∷ (byte "-", holdsEscape (naming (number Down))) ∷ []) (namedBy (number Still) b) b
+actionOf m (naming w) b = namedBy w b
+actionOf m (long w) b = holdsEscape (longer w b)
 actionOf m (longer w a) b = wants w (twoBytes a b)
 actionOf m argument b = numbered (leb (byte "1") b && leb b (byte "9")) b
 
@@ -120,8 +120,8 @@ abbrev pub withEscape : Escape → Scan → Scan
 withEscape e s = record { unread = s .unread; escape = e; room = s .room; registers = s .registers }
 
 -- the scan with other registers
-abbrev pub withRegisters : List Register → Scan → Scan
-withRegisters r s = record { unread = s .unread; escape = s .escape; room = s .room; registers = r }
+abbrev pub withScanRegisters : List Register → Scan → Scan
+withScanRegisters r s = record { unread = s .unread; escape = s .escape; room = s .room; registers = r }
 
 -- after bytes came into the line
 abbrev pub wrote : List ℕ → Scan → Scan
@@ -129,17 +129,17 @@ wrote l s = record { unread = s .unread; escape = outside; room = s .room - leng
 
 -- What an action leads to: bytes of the expanded line and the scan after them, or the end of the scan.
 pub data Effect : Type 0 where
-  goes : List ℕ → Scan → Effect
-  stops : Scanned → Effect
+  goesOn : List ℕ → Scan → Effect
+  stopsScan : Scanned → Effect
 
 -- the scan is refused
-abbrev pub refuse : ℕ → Scan → Effect
-refuse n s = stops (refused n (s .registers))
+abbrev pub refuseScan : ℕ → Scan → Effect
+refuseScan n s = stopsScan (scanRefused n (s .registers))
 
 -- "3: .. expanded line passes 512 bytes"
 abbrev pub writeBy : Bool → List ℕ → Scan → Effect
-writeBy true l s = goes l (wrote l s)
-writeBy false l s = refuse 3 s
+writeBy true l s = goesOn l (wrote l s)
+writeBy false l s = refuseScan 3 s
 
 -- bytes come into the expanded line, if they fit
 abbrev pub write : List ℕ → Scan → Effect
@@ -153,29 +153,29 @@ atEnd ((b ∷ l) ∷ u) = false
 
 -- "cut short in its line or string": an escape that goes on needs another byte
 abbrev pub holdBy : Bool → Escape → Scan → Effect
-holdBy true e s = refuse 5 s
-holdBy false e s = goes [] (withEscape e s)
+holdBy true e s = refuseScan 5 s
+holdBy false e s = goesOn [] (withEscape e s)
 
 -- a backslash: in copy mode "a lone backslash at the end too, stays"
 abbrev pub beginBy : Bool → Mode → Scan → Effect
-beginBy false m s = goes [] (withEscape slash s)
-beginBy true Plain s = refuse 5 s
+beginBy false m s = goesOn [] (withEscape slash s)
+beginBy true Plain s = refuseScan 5 s
 beginBy true Copy s = write (backslash ∷ []) s
 
 -- "4: strings nested past 8"; the line itself is the first of the texts
 abbrev pub enterBy : Bool → List ℕ → Scan → Effect
-enterBy true l s = goes [] (withEscape outside (withUnread (l ∷ s .unread) s))
-enterBy false l s = refuse 4 s
+enterBy true l s = goesOn [] (withEscape outside (withUnread (l ∷ s .unread) s))
+enterBy false l s = refuseScan 4 s
 
 -- "a string, scanned in place"; "9: .. a macro named as a string"; "Undefined ones give .. nothing"
 abbrev pub enter : Option Text → Scan → Effect
-enter none s = goes [] (withEscape outside s)
-enter (some t) s = elim (t .kind) [ Macro ↦ refuse 9 s | String ↦ enterBy (leb (length (s .unread)) 8) (t .bytes) s ]
+enter none s = goesOn [] (withEscape outside s)
+enter (some t) s = elim (t .kind) [ Macro ↦ refuseScan 9 s | String ↦ enterBy (leb (length (s .unread)) 8) (t .bytes) s ]
 
 -- "give a register in decimal", or the refusal of its step
 abbrev pub showIt : Reference → Scan → Effect
-showIt (value x) s = write (decimal (x .0)) (withRegisters (x .1) s)
-showIt (bad n) s = refuse n s
+showIt (value x) s = write (decimal (x .0)) (withScanRegisters (x .1) s)
+showIt (bad n) s = refuseScan n s
 
 -- a register or a string that is named
 abbrev pub want : Surroundings → Wanted → Name → Scan → Effect
@@ -189,53 +189,53 @@ escaped [] = []
 escaped (b ∷ l) = entry ((backslash, bytes "\\e") ∷ (mark, bytes "\\&") ∷ (fixedBlank, bytes "\\ ") ∷ []) (b ∷ []) b ++ escaped l
 
 -- "\$1 to \$9 an argument, not scanned again"; there are none inside a string
-abbrev pub given : Mode → List (List ℕ) → List ℕ → List ℕ
-given m (t ∷ u ∷ us) a = []
-given Plain [] a = a
-given Plain (t ∷ []) a = a
-given Copy [] a = escaped a
-given Copy (t ∷ []) a = escaped a
+abbrev pub argumentGiven : Mode → List (List ℕ) → List ℕ → List ℕ
+argumentGiven m (t ∷ u ∷ us) a = []
+argumentGiven Plain [] a = a
+argumentGiven Plain (t ∷ []) a = a
+argumentGiven Copy [] a = escaped a
+argumentGiven Copy (t ∷ []) a = escaped a
 
 -- The next byte: of the innermost text that has one.
-pub data Next : Type 0 where
-  reads : ℕ → Scan → Next
-  over : List Register → Next
+pub data NextByte : Type 0 where
+  reads : ℕ → Scan → NextByte
+  over : List Register → NextByte
 
 -- the next byte of the innermost text that has one; a finished string is left
-abbrev pub next : List (List ℕ) → Scan → Next
-next [] s = over (s .registers)
-next ([] ∷ u) s = next u s
-next ((b ∷ l) ∷ u) s = reads b (withUnread (l ∷ u) s)
+abbrev pub nextByte : List (List ℕ) → Scan → NextByte
+nextByte [] s = over (s .registers)
+nextByte ([] ∷ u) s = nextByte u s
+nextByte ((b ∷ l) ∷ u) s = reads b (withUnread (l ∷ u) s)
 
 -- bytes of the expanded line before the rest
-abbrev pub before : List ℕ → Scanned → Scanned
-before l (scanned r rs) = scanned (l ++ r) rs
-before l (refused n rs) = refused n rs
+abbrev pub writtenBefore : List ℕ → Scanned → Scanned
+writtenBefore l (scanned r rs) = scanned (l ++ r) rs
+writtenBefore l (scanRefused n rs) = scanRefused n rs
 
 -- on with the scan, or its end: "the first event that earns one decides"
 abbrev pub follow : Effect → (Scan → Scanned) → Scanned
-follow (goes l s) k = before l (k s)
-follow (stops r) k = r
+follow (goesOn l s) k = writtenBefore l (k s)
+follow (stopsScan r) k = r
 
 module _ (w : Surroundings) (m : Mode) where
   -- what an action leads to
   abbrev pub effectOf : Action → Scan → Effect
   effectOf (writes l) s = write l s
   effectOf begins s = beginBy (atEnd (s .unread)) m s
-  effectOf (holds e) s = holdBy (atEnd (s .unread)) e s
+  effectOf (holdsEscape e) s = holdBy (atEnd (s .unread)) e s
   effectOf (wants x n) s = want w x n s
-  effectOf (gives k) s = write (given m (s .unread) (getD (w .arguments) k [])) s
-  effectOf ends s = stops (scanned [] (s .registers))
-  effectOf unlisted s = refuse 5 s
+  effectOf (gives k) s = write (argumentGiven m (s .unread) (getD (w .arguments) k [])) s
+  effectOf ends s = stopsScan (scanned [] (s .registers))
+  effectOf unlisted s = refuseScan 5 s
 
   -- "4: .. or past 8,192 bytes scanned for one line": `left` is how many may still be
-  unfoldable pub run : ℕ → Next → Scanned
+  unfoldable pub run : ℕ → NextByte → Scanned
   run zero (over rs) = scanned [] rs
-  run zero (reads b s) = refused 4 (s .registers)
+  run zero (reads b s) = scanRefused 4 (s .registers)
   run (suc left) (over rs) = scanned [] rs
-  run (suc left) (reads b s) = follow (effectOf (actionOf m (s .escape) b) s) (λ s'. run left (next (s' .unread) s'))
+  run (suc left) (reads b s) = follow (effectOf (actionOf m (s .escape) b) s) (λ s'. run left (nextByte (s' .unread) s'))
 
   -- the line l, of which `prefix` bytes that stand before it are already counted
   unfoldable pub scan : List Register → (prefix : ℕ) → List ℕ → Scanned
   unfolding run actionOf stepRegister decimal textOf escaped
-  scan rs prefix l = run (8192 - prefix) (next (l ∷ []) (record { unread = l ∷ []; escape = outside; room = 512 - prefix; registers = rs }))
+  scan rs prefix l = run (8192 - prefix) (nextByte (l ∷ []) (record { unread = l ∷ []; escape = outside; room = 512 - prefix; registers = rs }))

@@ -138,7 +138,7 @@ begun y = withTotal none y
 
 -- "A word joins if width + gap + word is at most room; else the line is written and the word starts the next"
 pub data Placed : Type 0 where
-  all : Collected → Placed
+  allPlaced : Collected → Placed
   -- the line to be written, the word that did not fit, and the other words
   full : Collected → Word → List Word → Placed
 
@@ -148,7 +148,7 @@ fits c w = leb (length (c .cells) + w .gap + width (w .bytes)) (c .room)
 
 -- words join until one does not fit
 unfoldable pub place : Collected → List Word → Placed
-place c [] = all c
+place c [] = allPlaced c
 place c (w ∷ ws) = elim (fits c w) [ true ↦ place (joined w c) ws | false ↦ full c w ws ]
 
 -- "k gaps": those of a collected line

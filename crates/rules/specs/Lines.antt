@@ -8,25 +8,25 @@ use Rattle.rules.specs.Printers.{Printer}
 use Rattle.rules.specs.Bytes.{byte, entry}
 use Rattle.rules.specs.Refusals.{Judged, value, bad, _>>=_}
 use Rattle.rules.specs.Numbers.{units, isTrue}
-use Rattle.rules.specs.Names.{Named, none, one, tooLong, nameOf}
-use Rattle.rules.specs.Arguments.{word}
-use Rattle.rules.specs.State.{Line, text, control, ignored}
+use Rattle.rules.specs.Names.{Named, noName, one, tooLong, nameOf}
+use Rattle.rules.specs.Arguments.{firstWord}
+use Rattle.rules.specs.State.{Line, plainText, control, ignored}
 
 -- "lines with names of no or more than two bytes .. are ignored"
-abbrev pub named : Named → (period : Bool) → List ℕ → Line
-named none p l = ignored
-named (one n) p l = control p n l
-named tooLong p l = ignored
+abbrev pub namedLine : Named → (period : Bool) → List ℕ → Line
+namedLine noName p l = ignored
+namedLine (one n) p l = control p n l
+namedLine tooLong p l = ignored
 
 -- "A line whose first raw byte is . or ' is a control line. Its name is the raw bytes directly after that one up to a space"
 abbrev pub lineBy : (period quote : Bool) → ℕ → List ℕ → Line
-lineBy true q b l = named (nameOf (word l .part)) true (word l .rest)
-lineBy false true b l = named (nameOf (word l .part)) false (word l .rest)
-lineBy false false b l = text (b ∷ l)
+lineBy true q b l = namedLine (nameOf (firstWord l .part)) true (firstWord l .rest)
+lineBy false true b l = namedLine (nameOf (firstWord l .part)) false (firstWord l .rest)
+lineBy false false b l = plainText (b ∷ l)
 
 -- "A line whose first raw byte is . or ' is a control line"
 unfoldable pub lineOf : List ℕ → Line
-lineOf [] = text []
+lineOf [] = plainText []
 lineOf (b ∷ l) = lineBy (eqb b (byte ".")) (eqb b (byte "'")) b l
 
 -- "A definition closes at a line that is exactly two periods. It is compared raw."

@@ -7,7 +7,7 @@ use mathlib.Core.List.{List, [], _∷_}
 use Prim.Native.Nat.{ℕ, zero, suc, _+_, _-_, _*_, _<_, _≤_}
 use lib.ListN.{length}
 use Rattle.rules.specs.Filling.{Collected}
-use Rattle.rules.specs.State.{State, text, control, ignored, Item, reading, fresh, again, others, acts, ejects}
+use Rattle.rules.specs.State.{State, plainText, control, ignored, Item, reading, fresh, again, others, acts, ejects}
 use Rattle.stream.specs.Answers.{Closing}
 use Rattle.stream.specs.Machine.{Machine}
 use Rattle.rules.specs.Printers.{Printer}
@@ -31,7 +31,7 @@ freshLoad = 1025101
 abbrev pub itemLoad : Item → ℕ
 itemLoad (reading n ls args) = 1
 itemLoad (fresh l) = freshLoad
-itemLoad (again (text l)) = lineLoad (length l)
+itemLoad (again (plainText l)) = lineLoad (length l)
 itemLoad (again (control q n l)) = lineLoad (length l)
 itemLoad (again ignored) = 1
 itemLoad (others ws g) = lineLoad (length ws)

@@ -35,13 +35,13 @@ order n m = orderBy (ltb (n .first) (m .first)) (eqb (n .first) (m .first)) (ltb
 
 -- The name that some bytes are. None is a missing argument; one that is too long earns 7 as an argument, and has its control line ignored.
 pub data Named : Type 0 where
-  none : Named
+  noName : Named
   one : Name → Named
   tooLong : Named
 
 -- "a name argument longer than two bytes" and "names of no or more than two bytes" are told apart from a name
 abbrev pub nameOf : List ℕ → Named
-nameOf [] = none
+nameOf [] = noName
 nameOf (a ∷ []) = one (oneByte a)
 nameOf (a ∷ b ∷ []) = one (twoBytes a b)
 nameOf (a ∷ b ∷ c ∷ l) = tooLong

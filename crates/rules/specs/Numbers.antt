@@ -149,9 +149,9 @@ startOf [] = noTerm
 startOf (b ∷ l) = startBy (isDigit b) b l
 
 -- a closing parenthesis after a value
-abbrev pub closed : ℤ → List ℕ → Read
-closed v [] = bad 6
-closed v (b ∷ l) = judge (eqb b (byte ")")) 6 (v, l)
+abbrev pub parenthesized : ℤ → List ℕ → Read
+parenthesized v [] = bad 6
+parenthesized v (b ∷ l) = judge (eqb b (byte ")")) 6 (v, l)
 
 -- "An expression is terms joined by operators": the two readers, of a term and of what follows one
 abbrev pub expressionBy : (Start → Read) → (ℤ → Joint → Read) → List ℕ → Read
@@ -177,7 +177,7 @@ module _ (p : Pitch) (default : Scale) where
     term (suc n) left (plus l) = term n left (startOf l)
     term (suc n) left (minus l) = term n left (startOf l) >>= λ x. value (negℤ (x .0), x .1)
     term (suc n) zero (opens l) = bad 6
-    term (suc n) (suc left) (opens l) = expressionBy (λ s. term n left s) (λ v j. onward n left v j) l >>= λ x. closed (x .0) (x .1)
+    term (suc n) (suc left) (opens l) = expressionBy (λ s. term n left s) (λ v j. onward n left v j) l >>= λ x. parenthesized (x .0) (x .1)
 
     -- "Expressions run left to right with no precedence"
     pub onward : (n left : ℕ) → ℤ → Joint → Read

@@ -20,9 +20,9 @@ abbrev pub register : Name → ℤ → ℤ → Register
 register n v s = record { name = n; value = v; step = s }
 
 -- the register of a name, if it is defined
-unfoldable pub lookup : Name → List Register → Option Register
+unfoldable pub registerOf : Name → List Register → Option Register
 unfolding firstWhere
-lookup n rs = firstWhere (λ r. sameName n (r .name)) rs
+registerOf n rs = firstWhere (λ r. sameName n (r .name)) rs
 
 -- "Undefined ones give 0"; "nr without a step the old step (0 at first)"
 abbrev pub valueOr0 : Option Register → ℤ
@@ -48,14 +48,14 @@ setValue n v s rs = let new = put (register n v s) rs in judge (leb (length new)
 pub record Seen : Type 0 where
   pub page : ℤ
   pub rows : ℤ
-  pub length : ℤ
+  pub lineLength : ℤ
   pub indent : ℤ
   pub pageLength : ℤ
 
 -- "Read-only (H): % page (0 before the first), nl rows used, .l .i .p"
 abbrev pub readOnly : List (Name × (Seen → ℤ))
 readOnly =
-    (oneByte (byte "%"), λ s. s .page) ∷ (twoBytes (byte "n") (byte "l"), λ s. s .rows) ∷ (twoBytes (byte ".") (byte "l"), λ s. s .length)
+    (oneByte (byte "%"), λ s. s .page) ∷ (twoBytes (byte "n") (byte "l"), λ s. s .rows) ∷ (twoBytes (byte ".") (byte "l"), λ s. s .lineLength)
     ∷ (twoBytes (byte ".") (byte "i"), λ s. s .indent) ∷ (twoBytes (byte ".") (byte "p"), λ s. s .pageLength) ∷ []
 
 -- what a read-only register shows, if the name is one
@@ -87,8 +87,8 @@ referBy Down none (some r) s rs = stepTo r (r .value -ℤ r .step) rs
 
 -- what a reference gives: "with + or - before the name to step first"
 unfoldable pub stepRegister : Seen → Turn → Name → List Register → Reference
-unfolding lookup put shown
-stepRegister s t n rs = referBy t (shown n) (lookup n rs) s rs
+unfolding registerOf put shown
+stepRegister s t n rs = referBy t (shown n) (registerOf n rs) s rs
 
 -- "give a register in decimal": the digits of n before l
 unfoldable pub decimalBy : ℕ → ℕ → List ℕ → List ℕ

@@ -43,12 +43,12 @@ takeBy false false false true b s = gather (s .input .gathered ++ b ∷ []) [] s
 takeBy false false false false b s = refuse 2 s
 
 -- "take one byte", of a line that is begun
-abbrev pub take : ℕ → State → State
-take b s = takeBy (ltb 1000000 (s .input .line)) (eqb b newline) (leb 512 (length (s .input .gathered))) (leb 32 b && leb b 126) b s
+abbrev pub takeOne : ℕ → State → State
+takeOne b s = takeBy (ltb 1000000 (s .input .line)) (eqb b newline) (leb 512 (length (s .input .gathered))) (leb 32 b && leb b 126) b s
 
 -- "take one byte"
 unfoldable pub takeByte : ℕ → State → State
-takeByte b s = take b (withBegun s)
+takeByte b s = takeOne b (withBegun s)
 
 -- "Bytes after the last newline are a line, dealt with in full before the end is"
 abbrev pub lastLine : (gathered : List ℕ) → List Item

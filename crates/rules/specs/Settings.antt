@@ -36,12 +36,12 @@ pub record Layout : Type 0 where
   pub centred : ℕ
 
 -- a new value; and a bare ll, in or po, which is a setting too
-abbrev pub set : Across → Setting → Setting
-set n v = record { now = n; former = v .now }
+abbrev pub newSetting : Across → Setting → Setting
+newSetting n v = record { now = n; former = v .now }
 
 -- "the value before the last setting"
 abbrev pub goBack : Setting → Setting
-goBack v = set (v .former) v
+goBack v = newSetting (v .former) v
 
 -- a setting that has not been changed yet
 abbrev pub steady : Across → Setting

@@ -19,7 +19,7 @@ use Rattle.stream.specs.Answers.{Closing, refused}
 
 -- A line: text, or a control line with its name and what follows that, from the space on; lines whose name has no or more than two bytes are ignored.
 pub data Line : Type 0 where
-  text : List ℕ → Line
+  plainText : List ℕ → Line
   control : (period : Bool) → Name → List ℕ → Line
   ignored : Line
 
@@ -96,7 +96,7 @@ abbrev pub seen : Printer → State → Seen
 seen p s = record {
   page = pos (s .page .number);
   rows = pos (s .page .used * p .pitch .row);
-  length = pos (s .layout .line .now * p .pitch .cell);
+  lineLength = pos (s .layout .line .now * p .pitch .cell);
   indent = pos (s .layout .indent .now * p .pitch .cell);
   pageLength = pos (s .layout .page * p .pitch .row);
 }

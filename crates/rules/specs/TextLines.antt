@@ -8,30 +8,30 @@ use lib.IntN.{pos}
 use Rattle.stream.specs.Machine.{works}
 use Rattle.rules.specs.Settings.{Layout}
 use Rattle.rules.specs.LayoutSetters.{withCentred}
-use Rattle.rules.specs.Filling.{Word, words, leads, standing, after, gapAfter, Collected, withNext, begin, begun, Placed, all, full, place, fullRow, standingRow}
+use Rattle.rules.specs.Filling.{Word, words, leads, standing, after, gapAfter, Collected, withNext, begin, begun, Placed, allPlaced, full, place, fullRow, standingRow}
 use Rattle.rules.specs.declared.Breaking.the-variants.{Sp}
-use Rattle.rules.specs.State.{State, Item, again, others, acts, text}
+use Rattle.rules.specs.State.{State, Item, again, others, acts, plainText}
 use Rattle.rules.specs.StateSetters.{withLayout, withCollected}
 use Rattle.rules.specs.Rows.{Next, goes, break, down, skip, startPage}
 
 -- What a line of words asks for: the first page is to start; it is empty; a collected line is written first; it is written as it stands, or filled.
-pub data Way : Type 0 where
-  starts blank stands fills : Way
-  breaks : Collected → Way
+pub data TextLineCase : Type 0 where
+  starts emptyLine stands fills : TextLineCase
+  breaks : Collected → TextLineCase
 
 -- "Leading spaces break"
-abbrev pub breaksIf : (leading : Bool) → Collected → Way
+abbrev pub breaksIf : (leading : Bool) → Collected → TextLineCase
 breaksIf true c = breaks c
 breaksIf false c = fills
 
 -- what a line of words asks for, in the order in which it is tried
-abbrev pub wayOf : (page : ℕ) → List Word → Option Collected → (asItStands : Bool) → Way
-wayOf zero ws c n = starts
-wayOf (suc p) [] c n = blank
-wayOf (suc p) (w ∷ ws) none true = stands
-wayOf (suc p) (w ∷ ws) none false = fills
-wayOf (suc p) (w ∷ ws) (some c) true = breaks c
-wayOf (suc p) (w ∷ ws) (some c) false = breaksIf (leads (w ∷ ws)) c
+abbrev pub textLineCase : (page : ℕ) → List Word → Option Collected → (asItStands : Bool) → TextLineCase
+textLineCase zero ws c n = starts
+textLineCase (suc p) [] c n = emptyLine
+textLineCase (suc p) (w ∷ ws) none true = stands
+textLineCase (suc p) (w ∷ ws) none false = fills
+textLineCase (suc p) (w ∷ ws) (some c) true = breaks c
+textLineCase (suc p) (w ∷ ws) (some c) false = breaksIf (leads (w ∷ ws)) c
 
 -- a line under nf or ce is written as it stands; ce counts it when its row is written
 abbrev pub asItStands : Layout → Bool
@@ -53,7 +53,7 @@ nextGap (w ∷ ws) g = 1
 
 -- the words that fitted, or the row that is full
 abbrev pub filled : Placed → ℕ → State → Next
-filled (all c) g s = goes (withCollected (some (withNext g c)) s)
+filled (allPlaced c) g s = goes (withCollected (some (withNext g c)) s)
 filled (full c w ws) g s =
     works (fullRow (s .layout) c)
     (down 1 (othersOf ws g) (withCollected (some (withNext (nextGap ws g) (begin (s .layout) w))) (withLayout (begun (s .layout)) s)))
@@ -79,13 +79,13 @@ gapHere none = 0
 gapHere (some c) = c .next
 
 -- what a text line does in each case
-abbrev pub textWay : Way → List Word → List ℕ → State → Next
-textWay starts ws l s = goes (startPage (again (text l) ∷ []) s)
-textWay blank ws l s = blankFrom (s .collected) s
-textWay (breaks c) ws l s = break c (again (text l) ∷ []) s
+abbrev pub textWay : TextLineCase → List Word → List ℕ → State → Next
+textWay starts ws l s = goes (startPage (again (plainText l) ∷ []) s)
+textWay emptyLine ws l s = blankFrom (s .collected) s
+textWay (breaks c) ws l s = break c (again (plainText l) ∷ []) s
 textWay stands ws l s = works (standingRow (s .layout) ws) (down 1 [] (withLayout (counted (s .layout)) s))
 textWay fills ws l s = fill (after (gapHere (s .collected)) (standing ws)) (gapAfter ws) s
 
 -- a text line, as expanded
 unfoldable pub textLine : List ℕ → State → Next
-textLine l s = textWay (wayOf (s .page .number) (words l) (s .collected) (asItStands (s .layout))) (words l) l s
+textLine l s = textWay (textLineCase (s .page .number) (words l) (s .collected) (asItStands (s .layout))) (words l) l s

@@ -2,7 +2,7 @@
 use rules::arrays::ArgumentEnds;
 use rules::arrays::LineBytes;
 ghost use Rattle.rules.specs.Arguments.{bare, quoted};
-ghost use Rattle.scan.specs.Arguments.Parting.{Spaces, WordAt, quoteAt, Unread, Parted, Takes, PartedAll};
+ghost use Rattle.scan.specs.Arguments.Parting.{Spaces, WordEnds, quoteAt, UnreadRoom, Parted, ArgumentTaken, PartedAll};
 ghost use mathlib.Core.Path.{_≡_};
 ghost use Prim.Native.Nat.{_-_, _≤_};
 ghost use lib.ListN.{length};
@@ -37,7 +37,7 @@ pub fn skip_spaces(line: &[u8], at: usize) -> usize
 // The place of the first space from a place on, or the end of the line.
 pub fn word_end(line: &[u8], at: usize) -> usize
     requires { ⌜ at ≤ length (now line) ⌝ }
-    ensures { λ r. ⌜ WordAt (now (line .entry)) at r ⌝ }
+    ensures { λ r. ⌜ WordEnds (now (line .entry)) at r ⌝ }
 {
     let mut i = at;
     while i < line.len() {
@@ -62,7 +62,7 @@ fn quote_at(line: &[u8], at: usize) -> bool
 
 // The argument that begins here without a quote.
 fn bare_argument(line: &[u8], at: usize, out: &mut LineBytes, written: usize) -> Cut
-    requires { ⌜ Unread (now line) at (now out) written ⌝ }
+    requires { ⌜ UnreadRoom (now line) at (now out) written ⌝ }
     ensures { λ r. ⌜ Parted bare (now (line .entry)) at (now (out .entry)) written r (now (out .exit)) ⌝ }
 {
     let mut i = at;
@@ -81,7 +81,7 @@ fn bare_argument(line: &[u8], at: usize, out: &mut LineBytes, written: usize) ->
 
 // The argument behind a quote, up to the next lone one; two quotes inside are one.
 fn quoted_argument(line: &[u8], at: usize, out: &mut LineBytes, written: usize) -> Cut
-    requires { ⌜ Unread (now line) at (now out) written ⌝ }
+    requires { ⌜ UnreadRoom (now line) at (now out) written ⌝ }
     ensures { λ r. ⌜ Parted quoted (now (line .entry)) at (now (out .entry)) written r (now (out .exit)) ⌝ }
 {
     let mut i = at;
@@ -110,8 +110,8 @@ fn quoted_argument(line: &[u8], at: usize, out: &mut LineBytes, written: usize) 
 
 // The next argument of a line, written behind what is written.
 pub fn next_argument(line: &[u8], at: usize, out: &mut LineBytes, written: usize) -> Argument
-    requires { ⌜ Unread (now line) at (now out) written ⌝ }
-    ensures { λ r. ⌜ Takes (now (line .entry)) at (now (out .entry)) written r (now (out .exit)) ⌝ }
+    requires { ⌜ UnreadRoom (now line) at (now out) written ⌝ }
+    ensures { λ r. ⌜ ArgumentTaken (now (line .entry)) at (now (out .entry)) written r (now (out .exit)) ⌝ }
 {
     let i = skip_spaces(line, at);
     if i == line.len() {
@@ -125,7 +125,7 @@ pub fn next_argument(line: &[u8], at: usize, out: &mut LineBytes, written: usize
 
 // The arguments of a line, "past nine are dropped": their bytes one after the other, where each ends, and how many there are.
 pub fn arguments(line: &[u8], at: usize, out: &mut LineBytes, ends: &mut ArgumentEnds) -> usize
-    requires { ⌜ Unread (now line) at (now out) 0 × (length (now ends) ≡ 9) ⌝ }
+    requires { ⌜ UnreadRoom (now line) at (now out) 0 × (length (now ends) ≡ 9) ⌝ }
     ensures { λ r. ⌜ PartedAll (now (line .entry)) at r (now (out .exit)) (now (ends .exit)) ⌝ }
 {
     let mut count = 0;

@@ -12,7 +12,7 @@ ghost use Rattle.scan.specs.Escapes.Readings.{lone, ReadingIs, ReadingIn
 
 // What an escape leads to: a byte is written, or a backslash and a byte; a register is shown, a string is read, an
 // argument is given, counted from 0; the line ends; or the escape is not listed, or cut short.
-pub enum What {
+pub enum EscapeAction {
     Writes(u8),
     Keeps(u8),
     Number(Turn, Name),
@@ -25,7 +25,7 @@ pub enum What {
 // What was read, and the place after it.
 pub struct Reading {
     pub end: usize,
-    pub what: What,
+    pub what: EscapeAction,
 }
 
 // The name of a register or a string, and the place after it; or the text ends there.
@@ -67,11 +67,11 @@ fn number_at(text: &[u8], at: usize, turn: Turn) -> Reading
     match name_at(text, at) {
         Naming::Named(end, name) => Reading {
             end,
-            what: What::Number(turn, name),
+            what: EscapeAction::Number(turn, name),
         },
         Naming::Cut(end) => Reading {
             end,
-            what: What::Bad,
+            what: EscapeAction::Bad,
         },
     }
 }
@@ -84,11 +84,11 @@ fn string_at(text: &[u8], at: usize) -> Reading
     match name_at(text, at) {
         Naming::Named(end, name) => Reading {
             end,
-            what: What::Text(name),
+            what: EscapeAction::Text(name),
         },
         Naming::Cut(end) => Reading {
             end,
-            what: What::Bad,
+            what: EscapeAction::Bad,
         },
     }
 }
@@ -101,7 +101,7 @@ fn register_at(text: &[u8], at: usize) -> Reading
     if text.len() <= at {
         return Reading {
             end: at,
-            what: What::Bad,
+            what: EscapeAction::Bad,
         };
     }
     let sign = text[at];
@@ -122,26 +122,26 @@ fn argument_at(text: &[u8], at: usize) -> Reading
     if text.len() <= at {
         return Reading {
             end: at,
-            what: What::Bad,
+            what: EscapeAction::Bad,
         };
     }
     let digit = text[at];
     if digit < b'1' {
         return Reading {
             end: at + 1,
-            what: What::Bad,
+            what: EscapeAction::Bad,
         };
     }
     if b'9' < digit {
         return Reading {
             end: at + 1,
-            what: What::Bad,
+            what: EscapeAction::Bad,
         };
     }
     let k = (digit - b'1') as usize;
     Reading {
         end: at + 1,
-        what: What::Gives(k),
+        what: EscapeAction::Gives(k),
     }
 }
 
@@ -154,41 +154,41 @@ fn plain_at(text: &[u8], at: usize) -> Reading
     if text.len() <= at {
         return Reading {
             end: at,
-            what: What::Bad,
+            what: EscapeAction::Bad,
         };
     }
     let next = at + 1;
     match text[at] {
         b'\\' => Reading {
             end: next,
-            what: What::Writes(92),
+            what: EscapeAction::Writes(92),
         },
         b'e' => Reading {
             end: next,
-            what: What::Writes(92),
+            what: EscapeAction::Writes(92),
         },
         b'-' => Reading {
             end: next,
-            what: What::Writes(45),
+            what: EscapeAction::Writes(45),
         },
         b'&' => Reading {
             end: next,
-            what: What::Writes(MARK),
+            what: EscapeAction::Writes(MARK),
         },
         b' ' => Reading {
             end: next,
-            what: What::Writes(FIXED_BLANK),
+            what: EscapeAction::Writes(FIXED_BLANK),
         },
         b'"' => Reading {
             end: next,
-            what: What::Ends,
+            what: EscapeAction::Ends,
         },
         b'n' => register_at(text, next),
         b'*' => string_at(text, next),
         b'$' => argument_at(text, next),
         _ => Reading {
             end: next,
-            what: What::Bad,
+            what: EscapeAction::Bad,
         },
     }
 }
@@ -202,7 +202,7 @@ fn copy_at(text: &[u8], at: usize) -> Reading
     if text.len() <= at {
         return Reading {
             end: at,
-            what: What::Writes(92),
+            what: EscapeAction::Writes(92),
         };
     }
     let next = at + 1;
@@ -210,22 +210,22 @@ fn copy_at(text: &[u8], at: usize) -> Reading
     match other {
         b'\\' => Reading {
             end: next,
-            what: What::Writes(92),
+            what: EscapeAction::Writes(92),
         },
         b'.' => Reading {
             end: next,
-            what: What::Writes(46),
+            what: EscapeAction::Writes(46),
         },
         b'"' => Reading {
             end: next,
-            what: What::Ends,
+            what: EscapeAction::Ends,
         },
         b'n' => register_at(text, next),
         b'*' => string_at(text, next),
         b'$' => argument_at(text, next),
         _ => Reading {
             end: next,
-            what: What::Keeps(other),
+            what: EscapeAction::Keeps(other),
         },
     }
 }

@@ -1,5 +1,5 @@
 // The expansion of a line: its escapes, its strings and its registers.
-use super::escapes::What;
+use super::escapes::EscapeAction;
 use super::output::Copied;
 use super::output::Wrote;
 use registers::interpolation::Referred;
@@ -14,19 +14,19 @@ use rules::arrays::LINE_SIZE;
 use rules::arrays::LengthColumn;
 use rules::arrays::LineBytes;
 use rules::arrays::NumberColumn;
-use texts::table::Found;
+use texts::table::FoundText;
 ghost use mathlib.Core.Path.{_≡_};
 ghost use mathlib.Core.List.{[]};
 ghost use Prim.Native.Nat.{_-_, _≤_};
 ghost use lib.ListN.{length, getD};
 ghost use Rattle.rules.specs.declared.Mode.the-variants.{Plain, Copy};
 ghost use Rattle.rules.specs.Escapes.{argument};
-ghost use Rattle.registers.specs.Table.Columns.{Table};
-ghost use Rattle.texts.specs.Table.Table.{Lies};
+ghost use Rattle.registers.specs.Table.Columns.{RegistersInvariant};
+ghost use Rattle.texts.specs.Table.Table.{TextsInvariant};
 ghost use Rattle.scan.specs.Escapes.Readings.{actionIn};
 ghost use Rattle.scan.specs.Output.Writes.{Room, WroteTo, CopiedTo};
-ghost use Rattle.scan.specs.Arguments.Around.{Arguments, Begins, beginOf, argumentsOf, givenAt, around};
-ghost use Rattle.scan.specs.Expansion.Acts.{wroteAs, ShownTo, EnteredTo, Ready, ActsTo};
+ghost use Rattle.scan.specs.Arguments.Around.{Arguments, ArgumentBegins, beginOf, argumentsOf, givenAt, around};
+ghost use Rattle.scan.specs.Expansion.Acts.{wroteAs, ShownTo, EnteredTo, ExpansionReady, ActsTo};
 ghost use Rattle.scan.specs.Expansion.Expansion.{NextIs, CarriedOut, ExpandsTo, ScannedTo};
 
 // The bytes up to a backslash or the end of the text.
@@ -65,9 +65,9 @@ fn copy_plain(
 
 // The text is over, with so many bytes that may still be scanned and so many written; or an escape, with the place after
 // it and the same numbers; or a refusal.
-enum Next {
+enum NextEscape {
     Over(usize, usize),
-    Escape(usize, usize, usize, What),
+    Escape(usize, usize, usize, EscapeAction),
     Refused(u8),
 }
 
@@ -80,25 +80,25 @@ fn next_escape(
     out: &mut LineBytes,
     written: usize,
     limit: usize,
-) -> Next
+) -> NextEscape
     requires { ⌜ (at ≤ length (now text)) × Room (now out) written limit ⌝ }
     ensures { λ r. ⌜ NextIs r mode (now (text .entry)) at left written limit (now (out .entry)) (now (out .exit)) ⌝ }
 {
     match copy_plain(text, at, left, &mut *out, written, limit) {
         Copied::Upto(i, rest, n) => {
             if text.len() <= i {
-                return Next::Over(rest, n);
+                return NextEscape::Over(rest, n);
             }
             let reading = super::escapes::escape_at(text, i + 1, mode);
             let end = reading.end;
             let what = reading.what;
             let length = end - i;
             if rest < length {
-                return Next::Refused(4);
+                return NextEscape::Refused(4);
             }
-            Next::Escape(end, rest - length, n, what)
+            NextEscape::Escape(end, rest - length, n, what)
         }
-        Copied::Refused(k) => Next::Refused(k),
+        Copied::Refused(k) => NextEscape::Refused(k),
     }
 }
 
@@ -134,7 +134,7 @@ fn show_register(
     written: usize,
     limit: usize,
 ) -> Acted
-    requires { ⌜ Table (now firsts) (now seconds) (now values) (now steps) count × Room (now out) written limit ⌝ }
+    requires { ⌜ RegistersInvariant (now firsts) (now seconds) (now values) (now steps) count × Room (now out) written limit ⌝ }
     ensures { λ r. ⌜ ShownTo r shown (now (firsts .entry)) (now (seconds .entry)) (now (values .entry)) (now (steps .entry)) count turn name (now (out .entry)) written limit (now (out .exit)) (now (values .exit)) ⌝ }
 {
     match registers::interpolation::refer(
@@ -170,11 +170,11 @@ fn enter_string(
     depth: usize,
     written: usize,
 ) -> Acted
-    requires { ⌜ Lies (now store) (now firsts) (now seconds) (now kinds) (now lengths) count ⌝ }
+    requires { ⌜ TextsInvariant (now store) (now firsts) (now seconds) (now kinds) (now lengths) count ⌝ }
     ensures { λ r. ⌜ EnteredTo r (now (store .entry)) (now (firsts .entry)) (now (seconds .entry)) (now (kinds .entry)) (now (lengths .entry)) count name depth written ⌝ }
 {
     match texts::table::look_up(store, firsts, seconds, kinds, lengths, count, name) {
-        Found::There(spot) => {
+        FoundText::There(spot) => {
             let kind = spot.kind;
             match kind {
                 Kind::Macro => Acted::Refused(9),
@@ -186,13 +186,13 @@ fn enter_string(
                 }
             }
         }
-        Found::Nothing => Acted::Wrote(written),
+        FoundText::Nothing => Acted::Wrote(written),
     }
 }
 
 // Where an argument begins.
 fn begin_of(ends: &ArgumentEnds, k: usize) -> usize
-    requires { ⌜ Begins (now ends) k ⌝ }
+    requires { ⌜ ArgumentBegins (now ends) k ⌝ }
     ensures { λ r. ⌜ r ≡ beginOf (now (ends .entry)) k ⌝ }
 {
     if k == 0 {
@@ -251,18 +251,28 @@ fn act(
     given: usize,
     mode: Mode,
     depth: usize,
-    what: What,
+    what: EscapeAction,
     out: &mut LineBytes,
     written: usize,
     limit: usize,
 ) -> Acted
-    requires { ⌜ Ready (now store) (now «text_firsts») (now «text_seconds») (now kinds) (now lengths) texts (now firsts) (now seconds) (now values) (now steps) count (now arguments) (now ends) given × Room (now out) written limit ⌝ }
+    requires { ⌜ ExpansionReady (now store) (now «text_firsts») (now «text_seconds») (now kinds) (now lengths) texts (now firsts) (now seconds) (now values) (now steps) count (now arguments) (now ends) given × Room (now out) written limit ⌝ }
     ensures { λ r. ⌜ ActsTo r (around shown (now (store .entry)) (now («text_firsts» .entry)) (now («text_seconds» .entry)) (now (kinds .entry)) (now (lengths .entry)) texts (now (arguments .entry)) (now (ends .entry)) given) mode (now (out .entry)) written limit depth (actionIn what) (now (firsts .entry)) (now (seconds .entry)) (now (values .entry)) (now (steps .entry)) count (now (out .exit)) (now (values .exit)) ⌝ }
 {
     match what {
-        What::Writes(byte) => wrote_as(super::output::put_byte(byte, &mut *out, written, limit)),
-        What::Keeps(byte) => wrote_as(super::output::put_kept(byte, &mut *out, written, limit)),
-        What::Number(turn, name) => show_register(
+        EscapeAction::Writes(byte) => wrote_as(super::output::put_byte(
+            byte,
+            &mut *out,
+            written,
+            limit,
+        )),
+        EscapeAction::Keeps(byte) => wrote_as(super::output::put_kept(
+            byte,
+            &mut *out,
+            written,
+            limit,
+        )),
+        EscapeAction::Number(turn, name) => show_register(
             firsts,
             seconds,
             &mut *values,
@@ -275,7 +285,7 @@ fn act(
             written,
             limit,
         ),
-        What::Text(name) => enter_string(
+        EscapeAction::Text(name) => enter_string(
             store,
             text_firsts,
             text_seconds,
@@ -286,7 +296,7 @@ fn act(
             depth,
             written,
         ),
-        What::Gives(k) => wrote_as(give_argument(
+        EscapeAction::Gives(k) => wrote_as(give_argument(
             arguments,
             ends,
             given,
@@ -297,8 +307,8 @@ fn act(
             written,
             limit,
         )),
-        What::Ends => Acted::Ends,
-        What::Bad => Acted::Refused(5),
+        EscapeAction::Ends => Acted::Ends,
+        EscapeAction::Bad => Acted::Refused(5),
     }
 }
 
@@ -313,7 +323,7 @@ enum Progress {
 // An escape, in a text within so many others, is carried out: its action is done, and the bytes of the string that it
 // enters are read where they lie in the store.
 fn carry_out(
-    what: What,
+    what: EscapeAction,
     depth: usize,
     left: usize,
     store: &[u8],
@@ -336,7 +346,7 @@ fn carry_out(
     written: usize,
     limit: usize,
 ) -> Progress
-    requires { ⌜ Ready (now store) (now «text_firsts») (now «text_seconds») (now kinds) (now lengths) texts (now firsts) (now seconds) (now values) (now steps) count (now arguments) (now ends) given × Room (now out) written limit × (depth ≤ 8) ⌝ }
+    requires { ⌜ ExpansionReady (now store) (now «text_firsts») (now «text_seconds») (now kinds) (now lengths) texts (now firsts) (now seconds) (now values) (now steps) count (now arguments) (now ends) given × Room (now out) written limit × (depth ≤ 8) ⌝ }
     ensures { λ r. ⌜ CarriedOut r (around shown (now (store .entry)) (now («text_firsts» .entry)) (now («text_seconds» .entry)) (now (kinds .entry)) (now (lengths .entry)) texts (now (arguments .entry)) (now (ends .entry)) given) mode (actionIn what) depth left (now (out .entry)) written limit (now (firsts .entry)) (now (seconds .entry)) (now (values .entry)) (now (steps .entry)) count (now (out .exit)) (now (values .exit)) ⌝ }
 {
     match act(
@@ -428,7 +438,7 @@ fn expand_text(
     written: usize,
     limit: usize,
 ) -> Progress
-    requires { ⌜ Ready (now store) (now «text_firsts») (now «text_seconds») (now kinds) (now lengths) texts (now firsts) (now seconds) (now values) (now steps) count (now arguments) (now ends) given × Room (now out) written limit × (depth ≤ 8) ⌝ }
+    requires { ⌜ ExpansionReady (now store) (now «text_firsts») (now «text_seconds») (now kinds) (now lengths) texts (now firsts) (now seconds) (now values) (now steps) count (now arguments) (now ends) given × Room (now out) written limit × (depth ≤ 8) ⌝ }
     ensures { λ r. ⌜ ExpandsTo r (around shown (now (store .entry)) (now («text_firsts» .entry)) (now («text_seconds» .entry)) (now (kinds .entry)) (now (lengths .entry)) texts (now (arguments .entry)) (now (ends .entry)) given) mode (now (text .entry)) depth left (now (out .entry)) written limit (now (firsts .entry)) (now (seconds .entry)) (now (values .entry)) (now (steps .entry)) count (now (out .exit)) (now (values .exit)) ⌝ }
 {
     let mut i: usize = 0;
@@ -436,10 +446,10 @@ fn expand_text(
     let mut n = written;
     loop {
         match next_escape(text, i, rest, mode, &mut *out, n, limit) {
-            Next::Over(over, filled) => {
+            NextEscape::Over(over, filled) => {
                 return Progress::Over(over, filled);
             }
-            Next::Escape(end, after, filled, what) => {
+            NextEscape::Escape(end, after, filled, what) => {
                 match carry_out(
                     what,
                     depth,
@@ -477,7 +487,7 @@ fn expand_text(
                     }
                 }
             }
-            Next::Refused(k) => {
+            NextEscape::Refused(k) => {
                 return Progress::Refused(k);
             }
         }
@@ -525,7 +535,7 @@ pub fn expand(
     given: usize,
     out: &mut LineBytes,
 ) -> Scanned
-    requires { ⌜ Ready (now store) (now «text_firsts») (now «text_seconds») (now kinds) (now lengths) texts (now firsts) (now seconds) (now values) (now steps) count (now arguments) (now ends) given × Room (now out) 0 512 ⌝ }
+    requires { ⌜ ExpansionReady (now store) (now «text_firsts») (now «text_seconds») (now kinds) (now lengths) texts (now firsts) (now seconds) (now values) (now steps) count (now arguments) (now ends) given × Room (now out) 0 512 ⌝ }
     ensures { λ r. ⌜ ScannedTo r (around shown (now (store .entry)) (now («text_firsts» .entry)) (now («text_seconds» .entry)) (now (kinds .entry)) (now (lengths .entry)) texts (now (arguments .entry)) (now (ends .entry)) given) mode prefix (now (line .entry)) (now (firsts .entry)) (now (seconds .entry)) (now (values .entry)) (now (steps .entry)) count (now (out .entry)) (now (out .exit)) (now (values .exit)) ⌝ }
 {
     let limit = less(LINE_SIZE, prefix);

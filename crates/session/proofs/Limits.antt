@@ -10,10 +10,10 @@ use Rattle.stream.specs.declared.Answer.the-variants as answer
 use Rattle.stream.specs.Answers.{done, refused}
 use Rattle.rules.specs.State.{State}
 use Rattle.limits.specs.Within.{Within}
-use Rattle.page.specs.Springs.Held.{Fits}
-use Rattle.state.specs.Whole.{stateIn, SoundWhole}
-use Rattle.record_checks.specs.Soundness.SoundLaws.{sound-whole, whole-passes}
-use Rattle.record_checks.specs.StateLimits.LimitLaws.{Kept, within-kept, kept-within, open-within, open-kept, closed-within, closed-kept}
+use Rattle.page.specs.Springs.Held.{StackFits}
+use Rattle.state.specs.Whole.{stateIn, StateInvariant}
+use Rattle.record_checks.specs.Soundness.SoundLaws.{state-sound, state-complete}
+use Rattle.record_checks.specs.StateLimits.LimitLaws.{LimitsKept, within-kept, kept-within, open-within, open-limits-kept, closed-within, closed-kept}
 use Rattle.source_line.specs.declared.Source.{Source}
 use Rattle.record.specs.declared.Record.{Record}
 use Rattle.record.specs.declared.Reply.{Reply}
@@ -22,15 +22,15 @@ use Rattle.record.specs.declared.Closing.{Closing}
 use Rattle.record.specs.declared.Closing.the-variants.{Open, Done, Refused}
 use Rattle.record.specs.declared.Stop.{Stop}
 use Rattle.record.specs.declared.Stop.the-variants.{Goes}
-use Rattle.record.specs.View.{sourced, closedAs, wholeIn, Legal}
+use Rattle.record.specs.View.{sourced, closedAs, wholeIn, ValidRecord}
 use Rattle.record.specs.Contract.{Closes}
-use Rattle.record.specs.Turns.{Turns, Runs}
+use Rattle.record.specs.Turns.{TurnReady, RunContract}
 use Rattle.record.proofs.Leading.{stops-closed}
 use Rattle.record.specs.Inside.{InsideCall, withBlock}
-use Rattle.record.proofs.Going.{go-start, does-stop}
+use Rattle.record.proofs.Going.{go-start, refines-stop}
 use Rattle.record.proofs.Inside.{runs-inside}
-use Rattle.session.specs.Contract.{Called, served, turned}
-use Rattle.session.specs.Limits.{Sized, EndsWith, isOpen, AnsweredAt, AnsweredJudged, Placed, PlacedJudged, soundIn, withinIn, Judged}
+use Rattle.session.specs.Contract.{CallContract, served, turned}
+use Rattle.session.specs.Limits.{ArrayLengths, EndsWith, isOpen, AnsweredAt, AnsweredJudged, CoreInvariant, CoreJudged, soundIn, withinIn, ValidJudged}
 
 -- a false is not a true
 false-true : false ≡ true → ⊥
@@ -47,7 +47,7 @@ pub answered-yes : (c : Closing) (l : ℕ) → AnsweredAt c l → AnsweredJudged
 answered-yes c l h = record { yes = λ e. h; no = λ e k. true-false e }
 
 -- the source and the waiting bytes
-pub placed-no : (s : Source) (w : Waiting) (c : Closing) → (Placed s w c → ⊥) → PlacedJudged false s w c
+pub placed-no : (s : Source) (w : Waiting) (c : Closing) → (CoreInvariant s w c → ⊥) → CoreJudged false s w c
 placed-no s w c f = record { yes = λ e. absurd (false-true e); no = λ e. f }
 
 module _ (r : Record) (st : List ℕ) where
@@ -60,49 +60,49 @@ module _ (r : Record) (st : List ℕ) where
   answered-of Done w = tt
   answered-of (Refused n l) w = w .closing
 
-  placed-of : Legal r st → Placed (r .source) (r .waiting) (r .closing)
+  placed-of : ValidRecord r st → CoreInvariant (r .source) (r .waiting) (r .closing)
   placed-of l =
       let f = l .formed in
       record { short = f .short; numbered = f .numbered; counted = f .counted; order = f .order; inside = f .inside; answered = answered-of (r .closing) (l .within) }
 
-  within-by : (c : Closing) → AnsweredAt c (r .source .line) → Kept (isOpen c) parts → Within (closedAs c parts)
+  within-by : (c : Closing) → AnsweredAt c (r .source .line) → LimitsKept (isOpen c) parts → Within (closedAs c parts)
   within-by Open a k = open-within parts refl k
   within-by Done a k = closed-within done parts k tt
   within-by (Refused n l) a k = closed-within (refused n l) parts k a
 
-  kept-by : (c : Closing) → Within (closedAs c parts) → Kept (isOpen c) parts
-  kept-by Open w = open-kept parts refl w
+  kept-by : (c : Closing) → Within (closedAs c parts) → LimitsKept (isOpen c) parts
+  kept-by Open w = open-limits-kept parts refl w
   kept-by Done w = closed-kept done parts w .0
   kept-by (Refused n l) w = closed-kept (refused n l) parts w .0
 
   -- a record whose source, waiting bytes or closing answer pass a limit
-  pub legal-no : (b : Bool) → PlacedJudged b (r .source) (r .waiting) (r .closing) → b ≡ false → Judged false r st
-  legal-no b p e = record { yes = λ z. absurd (false-true z); no = λ z l. p .no e (placed-of l) }
+  pub valid-no : (b : Bool) → CoreJudged b (r .source) (r .waiting) (r .closing) → b ≡ false → ValidJudged false r st
+  valid-no b p e = record { yes = λ z. absurd (false-true z); no = λ z l. p .no e (placed-of l) }
 
-  sound-by : Legal r st → soundIn r (length st) ≡ true
+  sound-by : ValidRecord r st → soundIn r (length st) ≡ true
   sound-by l =
-      whole-passes (r .status) (r .cells) (r .arena) (r .ends) st (r .«text_firsts») (r .«text_seconds») (r .kinds) (r .lengths) (r .firsts) (r .seconds) (r .values) (r .steps)
+      state-complete (r .status) (r .cells) (r .arena) (r .ends) st (r .«text_firsts») (r .«text_seconds») (r .kinds) (r .lengths) (r .firsts) (r .seconds) (r .values) (r .steps)
       (l .formed .sound) (l .formed .fits)
 
   -- one whose parts pass a limit
-  pub legal-unsound : (v : Bool) → v ≡ soundIn r (length st) → v ≡ false → Judged false r st
-  legal-unsound v e f = record { yes = λ z. absurd (false-true z); no = λ z l. true-false (sym (sound-by l) ∙ sym e ∙ f) }
+  pub valid-unsound : (v : Bool) → v ≡ soundIn r (length st) → v ≡ false → ValidJudged false r st
+  valid-unsound v e f = record { yes = λ z. absurd (false-true z); no = λ z l. true-false (sym (sound-by l) ∙ sym e ∙ f) }
 
   -- one whose parts pass none, by the test of its state
-  pub legal-by : Sized r → (b : Bool) → PlacedJudged b (r .source) (r .waiting) (r .closing) → b ≡ true → (v : Bool) → v ≡ soundIn r (length st) → v ≡ true
-      → (w : Bool) → w ≡ withinIn r → Judged w r st
-  legal-by h b p e v f g w i = record { yes = λ z. good z; no = λ z l. bad z l }
+  pub valid-by : ArrayLengths r → (b : Bool) → CoreJudged b (r .source) (r .waiting) (r .closing) → b ≡ true → (v : Bool) → v ≡ soundIn r (length st) → v ≡ true
+      → (w : Bool) → w ≡ withinIn r → ValidJudged w r st
+  valid-by h b p e v f g w i = record { yes = λ z. good z; no = λ z l. bad z l }
     where
-      k : Placed (r .source) (r .waiting) (r .closing)
+      k : CoreInvariant (r .source) (r .waiting) (r .closing)
       k = p .yes e
 
-      whole : SoundWhole (wholeIn r st) × Fits (r .status .stack) (r .ends)
+      whole : StateInvariant (wholeIn r st) × StackFits (r .status .stack) (r .ends)
       whole =
-          sound-whole (r .status) (r .cells) (r .arena) (r .ends) st (r .«text_firsts») (r .«text_seconds») (r .kinds) (r .lengths) (r .firsts) (r .seconds) (r .values) (r .steps)
+          state-sound (r .status) (r .cells) (r .arena) (r .ends) st (r .«text_firsts») (r .«text_seconds») (r .kinds) (r .lengths) (r .firsts) (r .seconds) (r .values) (r .steps)
           (length st) (h .lent)
           (record { cells-long = h .cells; arena-long = h .arena; store-long = refl; kinds-long = h .kinds; numbers-long = h .numbers }) (sym f ∙ g)
 
-      good : w ≡ true → Legal r st
+      good : w ≡ true → ValidRecord r st
       good z = record {
         formed = record { sound = whole .0; fits = whole .1; gathered-long = h .gathered; row-long = h .row; short = k .short; numbered = k .numbered; counted = k .counted; order = k .order; inside = k .inside };
         within = within-by (r .closing) (k .answered)
@@ -110,7 +110,7 @@ module _ (r : Record) (st : List ℕ) where
             (isOpen (r .closing)) (r .gathered) (r .source .length) (sourced (r .source) (r .gathered)) refl (whole .0) (sym i ∙ z));
       }
 
-      bad : w ≡ false → Legal r st → ⊥
+      bad : w ≡ false → ValidRecord r st → ⊥
       bad z l =
           true-false
           (sym (kept-within (r .status) (r .cells) (r .arena) (r .ends) st (r .«text_firsts») (r .«text_seconds») (r .kinds) (r .lengths) (r .firsts) (r .seconds) (r .values) (r .steps)
@@ -123,12 +123,12 @@ closes-one Open a a' h k = absurd h
 closes-one Done a a' h k = h ∙ sym k
 closes-one (Refused n l) a a' h k = h ∙ sym k
 
-module _ (r : Record) (st bl : List ℕ) (last : Bool) (out : List ℕ) (l : Legal r st) where
+module _ (r : Record) (st bl : List ℕ) (last : Bool) (out : List ℕ) (l : ValidRecord r st) where
   -- a call on a closed record for which nothing waits
-  pub call-ended : (a : Answer) → Closes (r .closing) a → r .waiting .at ≡ r .waiting .end → Called r st bl last out (record { answer = a; taken = 0; written = 0; next = r }) st out
+  pub call-ended : (a : Answer) → Closes (r .closing) a → r .waiting .at ≡ r .waiting .end → CallContract r st bl last out (record { answer = a; taken = 0; written = 0; next = r }) st out
   call-ended a h none =
-      let t : Turns bl r st 0 = record { legal = l; none = none; within = omega arith } in
-      let e = does-stop r st bl last out r st 0 0 out (go-start r st bl last out l) t a r st 0 (stops-closed bl last r st 0 t a h) in
+      let t : TurnReady bl r st 0 = record { valid = l; none = none; within = omega arith } in
+      let e = refines-stop r st bl last out r st 0 0 out (go-start r st bl last out l) t a r st 0 (stops-closed bl last r st 0 t a h) in
       served l (e .does) (e .through)
       (λ a' k. record {
         reply = ap (λ v. record { answer = v; taken = 0; written = 0; next = r }) (closes-one (r .closing) a a' h (k .closes));
@@ -138,18 +138,18 @@ module _ (r : Record) (st bl : List ℕ) (last : Bool) (out : List ℕ) (l : Leg
 
   -- a call on any other record within its limits
   pub call-served : (s : Stop) → EndsWith s (r .closing) (r .waiting) → s ≡ Goes → (p : Reply) (st' out' : List ℕ)
-      → Runs r st bl last out p st' out' → Called r st bl last out p st' out'
+      → RunContract r st bl last out p st' out' → CallContract r st bl last out p st' out'
   call-served s h e p st' out' d =
       served l (d .does) (d .through) (λ a k. absurd (subst (λ v. EndsWith v (r .closing) (r .waiting)) e h a (k .closes) (k .none)))
 
 -- a call that takes its block into the source line being taken
-pub call-inside : (r : Record) (st bl : List ℕ) (last : Bool) (out : List ℕ) → Legal r st → InsideCall bl last (r .status .stack .depth) (r .source) (r .waiting) (r .closing)
-    → Called r st bl last out (record { answer = answer.NeedsInput; taken = length bl; written = 0; next = withBlock bl r }) st out
+pub call-inside : (r : Record) (st bl : List ℕ) (last : Bool) (out : List ℕ) → ValidRecord r st → InsideCall bl last (r .status .stack .depth) (r .source) (r .waiting) (r .closing)
+    → CallContract r st bl last out (record { answer = answer.NeedsInput; taken = length bl; written = 0; next = withBlock bl r }) st out
 call-inside r st bl last out l h =
     let e = runs-inside r st bl last out l h in
     served l (e .does) (e .through) (λ a k. absurd (subst (λ c. Closes c a) (h .unclosed) (k .closes)))
 
 -- a call on a record that passes a limit
-pub call-turned : (r : Record) (st bl : List ℕ) (last : Bool) (out : List ℕ) → (Legal r st → ⊥)
-    → Called r st bl last out (record { answer = answer.Refused 1 0; taken = 0; written = 0; next = r }) st out
+pub call-turned : (r : Record) (st bl : List ℕ) (last : Bool) (out : List ℕ) → (ValidRecord r st → ⊥)
+    → CallContract r st bl last out (record { answer = answer.Refused 1 0; taken = 0; written = 0; next = r }) st out
 call-turned r st bl last out f = turned f (record { reply = refl; same-store = refl; same-out = refl })

@@ -16,11 +16,11 @@ use Rattle.record.specs.declared.Closing.{Closing}
 use Rattle.record.specs.declared.Closing.the-variants.{Open, Done, Refused}
 use Rattle.record.specs.declared.Stop.{Stop}
 use Rattle.record.specs.declared.Stop.the-variants.{Goes, With}
-use Rattle.record.specs.View.{lastLine, Legal}
+use Rattle.record.specs.View.{mostLines, ValidRecord}
 use Rattle.record.specs.Contract.{Closes}
 
 -- the arrays of a record have their lengths, which their types say
-pub record Sized (r : Record) : Type 0 where
+pub record ArrayLengths (r : Record) : Type 0 where
   pub gathered : length (r .gathered) ≡ 512
   pub row : length (r .row) ≡ 872
   pub lent : Lent (r .ends) (r .«text_firsts») (r .«text_seconds») (r .lengths) (r .firsts) (r .seconds)
@@ -51,17 +51,17 @@ pub record AnsweredJudged (b : Bool) (c : Closing) (line : ℕ) : Type 0 where
   pub no : b ≡ false → AnsweredAt c line → ⊥
 
 -- the limits of the source, of the waiting bytes and of the closing answer
-pub record Placed (s : Source) (w : Waiting) (c : Closing) : Type 0 where
+pub record CoreInvariant (s : Source) (w : Waiting) (c : Closing) : Type 0 where
   pub short : s .length ≤ 512
-  pub numbered : s .line ≤ lastLine c
+  pub numbered : s .line ≤ mostLines c
   pub counted : s .stored ≤ 10000
   pub order : w .at ≤ w .end
   pub inside : w .end ≤ 872
   pub answered : AnsweredAt c (s .line)
 
-pub record PlacedJudged (b : Bool) (s : Source) (w : Waiting) (c : Closing) : Type 0 where
-  pub yes : b ≡ true → Placed s w c
-  pub no : b ≡ false → Placed s w c → ⊥
+pub record CoreJudged (b : Bool) (s : Source) (w : Waiting) (c : Closing) : Type 0 where
+  pub yes : b ≡ true → CoreInvariant s w c
+  pub no : b ≡ false → CoreInvariant s w c → ⊥
 
 -- the tests of its parts, with a store of so many bytes, and of its state
 abbrev pub soundIn : Record → (store : ℕ) → Bool
@@ -70,6 +70,6 @@ soundIn r n = isSound (r .status) n (r .ends) (r .«text_firsts») (r .«text_se
 abbrev pub withinIn : Record → Bool
 withinIn r = isWithin (r .status) (isOpen (r .closing)) (r .ends) (r .gathered) (r .source .length) (r .«text_firsts») (r .«text_seconds») (r .values) (r .steps)
 
-pub record Judged (b : Bool) (r : Record) (st : List ℕ) : Type 0 where
-  pub yes : b ≡ true → Legal r st
-  pub no : b ≡ false → Legal r st → ⊥
+pub record ValidJudged (b : Bool) (r : Record) (st : List ℕ) : Type 0 where
+  pub yes : b ≡ true → ValidRecord r st
+  pub no : b ≡ false → ValidRecord r st → ⊥

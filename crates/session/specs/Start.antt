@@ -15,27 +15,27 @@ use Rattle.limits.specs.Within.{Within, ten-within}
 use Rattle.settings.specs.declared.lengths.Setting.{Setting}
 use Rattle.settings.specs.declared.layout.Layout.{Layout}
 use Rattle.settings.specs.declared.layout.Total.the-variants as total
-use Rattle.settings.specs.Layout.Layouts.{layoutOf, Limits}
+use Rattle.settings.specs.Layout.Layouts.{layoutOf, LayoutInvariant}
 use Rattle.traps.specs.Table.Table.{emptyTable}
 use Rattle.input_stack.specs.Stack.Frames.{noFrames, framesTo}
 use Rattle.input_stack.specs.Stack.Items.{itemsOf}
 use Rattle.texts.specs.Table.Table.{cut, lies-none}
-use Rattle.composition.specs.PageRows.Desk.{noLine}
+use Rattle.composition.specs.PageRows.PageState.{noLine}
 use Rattle.state.specs.declared.Status.{Status}
 use Rattle.source_line.specs.declared.Source.{Source}
 use Rattle.record.specs.declared.Record.{Record}
-use Rattle.record.specs.declared.Place.{Place}
-use Rattle.record.specs.View.{stateOf, Legal, Formed}
+use Rattle.record.specs.declared.RecordCore.{RecordCore}
+use Rattle.record.specs.View.{stateOf, ValidRecord, RecordInvariant}
 use Rattle.record.specs.Turns.{recordOf, resting}
-use Rattle.session.specs.Calls.{Calls, condition-3-from}
+use Rattle.session.specs.Calls.{SessionCalls, condition-3-from}
 
 -- a setting of so many cells
-abbrev pub steady : ℕ → Setting
-steady n = record { now = cellsAcross n; former = cellsAcross n }
+abbrev pub steadySetting : ℕ → Setting
+steadySetting n = record { now = cellsAcross n; former = cellsAcross n }
 
 -- "Start: ll 65, in 0, po 0, pl 66, filling and adjusting on"
 abbrev pub firstLayout : Layout
-firstLayout = record { line = steady 65; indent = steady 0; offset = steady 0; page = rowsDown 66; total = total.Nothing; filling = true; adjusting = true; centred = 0 }
+firstLayout = record { line = steadySetting 65; indent = steadySetting 0; offset = steadySetting 0; page = rowsDown 66; total = total.Nothing; filling = true; adjusting = true; centred = 0 }
 
 -- no page, no collected line, no trap, nothing on the stack, no text and no register
 abbrev pub firstStatus : Status
@@ -54,7 +54,7 @@ abbrev pub firstSource : Source
 firstSource = record { line = 0; length = 0; ended = false; stored = 0 }
 
 -- what is no array of the starting record
-abbrev pub startPlace : Place
+abbrev pub startPlace : RecordCore
 startPlace = resting firstStatus firstSource
 
 -- the record of a session that begins, with these arrays
@@ -81,7 +81,7 @@ pub record Long (g cs row bs ps tf ts ks ls fs ss : List ℕ) (vs us : List ℤ)
   pub values-long : length vs ≡ 64
   pub steps-long : length us ≡ 64
 
-limits : Limits (layoutOf firstLayout)
+limits : LayoutInvariant (layoutOf firstLayout)
 limits = record {
   line = omega arith;
   line-former = omega arith;
@@ -96,11 +96,11 @@ limits = record {
 
 -- it is within its limits, and stands for the rules' start
 pub formed-with : (g cs row bs ps tf ts ks ls fs ss : List ℕ) (vs us : List ℤ) → Long g cs row bs ps tf ts ks ls fs ss vs us → (st : List ℕ) → length st ≡ 8192
-    → Formed (startWith g cs row bs ps tf ts ks ls fs ss vs us) st
+    → RecordInvariant (startWith g cs row bs ps tf ts ks ls fs ss vs us) st
 unfolding framesTo itemsOf cut
 formed-with g cs row bs ps tf ts ks ls fs ss vs us h st e = record {
   sound = record {
-    sheet = record {
+    pageState = record {
       limits = limits;
       above = omega arith;
       numbered = omega arith;
@@ -138,9 +138,9 @@ pub start-state : (st : List ℕ) → stateOf startRecord st ≡ start tenToTheI
 start-state st = state-with (replicate 512 0) (replicate 512 0) (replicate 872 0) (replicate 8704 0) (replicate 221 0) (replicate 64 0) (replicate 64 0) (replicate 64 0) (replicate 64 0) (replicate 64 0) (replicate 64 0) (replicate 64 (pos 0)) (replicate 64 (pos 0)) st
 
 -- The starting record is within its limits, over any store of 8,192 bytes.
-pub start-legal : (st : List ℕ) → length st ≡ 8192 → Legal startRecord st
-start-legal st e = record { formed = formed-with (replicate 512 0) (replicate 512 0) (replicate 872 0) (replicate 8704 0) (replicate 221 0) (replicate 64 0) (replicate 64 0) (replicate 64 0) (replicate 64 0) (replicate 64 0) (replicate 64 0) (replicate 64 (pos 0)) (replicate 64 (pos 0)) long st e; within = subst Within (sym (start-state st)) ten-within }
+pub start-valid : (st : List ℕ) → length st ≡ 8192 → ValidRecord startRecord st
+start-valid st e = record { formed = formed-with (replicate 512 0) (replicate 512 0) (replicate 872 0) (replicate 8704 0) (replicate 221 0) (replicate 64 0) (replicate 64 0) (replicate 64 0) (replicate 64 0) (replicate 64 0) (replicate 64 0) (replicate 64 (pos 0)) (replicate 64 (pos 0)) long st e; within = subst Within (sym (start-state st)) ten-within }
 
 -- CONDITION 3: for every document, every store of 8,192 bytes and every list of calls from the starting record on.
-pub condition-3 : (doc store : List ℕ) (calls : List Call) → length store ≡ 8192 → Calls startRecord store doc calls → Condition3 (pages tenToTheInch doc) calls
-condition-3 doc store calls e cs = condition-3-from startRecord store (start-legal store e) refl (start-state store) doc calls cs
+pub session-condition-3 : (doc store : List ℕ) (calls : List Call) → length store ≡ 8192 → SessionCalls startRecord store doc calls → Condition3 (pages tenToTheInch doc) calls
+session-condition-3 doc store calls e cs = condition-3-from startRecord store (start-valid store e) refl (start-state store) doc calls cs

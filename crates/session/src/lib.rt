@@ -4,9 +4,9 @@ use measure::Cells;
 use measure::Rows;
 use page::position::Page;
 use record::Closing;
-use record::Place;
 use record::Ran;
 use record::Record;
+use record::RecordCore;
 use record::Reply;
 use record::Stop;
 use record::Waiting;
@@ -31,11 +31,11 @@ use state::Opening;
 use state::Status;
 use stream::Answer;
 ghost use mathlib.Core.Path.{_≡_};
-ghost use Rattle.record.specs.View.{lastLine, Legal};
+ghost use Rattle.record.specs.View.{mostLines, ValidRecord};
 ghost use Rattle.record.specs.Turns.{recordOf, replyFrom};
 ghost use Rattle.session.specs.Start.{firstLayout, firstStatus, startPlace, startRecord};
-ghost use Rattle.session.specs.Contract.{Called};
-ghost use Rattle.session.specs.Limits.{Sized, EndsWith, isOpen, AnsweredJudged, PlacedJudged, Judged};
+ghost use Rattle.session.specs.Contract.{CallContract};
+ghost use Rattle.session.specs.Limits.{ArrayLengths, EndsWith, isOpen, AnsweredJudged, CoreJudged, ValidJudged};
 ghost use Rattle.record.specs.declared.Record.{Record};
 
 // The settings at the start.
@@ -90,10 +90,10 @@ fn first_status() -> Status
 }
 
 // What is no array of the record that the first call gets.
-pub fn start_place() -> Place
+pub fn start_place() -> RecordCore
     ensures { λ r. ⌜ r ≡ startPlace ⌝ }
 {
-    Place {
+    RecordCore {
         status: first_status(),
         source: Source {
             line: 0,
@@ -108,7 +108,7 @@ pub fn start_place() -> Place
 
 // The record of a place and the arrays.
 fn recorded(
-    place: Place,
+    place: RecordCore,
     gathered: LineBytes,
     cells: LineBytes,
     row: RowBytes,
@@ -188,7 +188,7 @@ fn ended(closing: Closing, waiting: Waiting) -> Stop
 
 // "12: past 1,000,000 source lines"
 fn last_line(closing: Closing) -> u32
-    ensures { λ r. ⌜ r ≡ lastLine closing ⌝ }
+    ensures { λ r. ⌜ r ≡ mostLines closing ⌝ }
 {
     match closing {
         Closing::Open => 1000000,
@@ -229,7 +229,7 @@ fn is_answered(closing: Closing, line: u32) -> bool
 
 // Whether the source and the waiting bytes keep their limits.
 fn is_placed(source: Source, waiting: Waiting, closing: Closing) -> bool
-    ensures { λ r. ⌜ PlacedJudged r source waiting closing ⌝ }
+    ensures { λ r. ⌜ CoreJudged r source waiting closing ⌝ }
 {
     if source.length > LINE_SIZE {
         return false;
@@ -250,8 +250,8 @@ fn is_placed(source: Source, waiting: Waiting, closing: Closing) -> bool
 }
 
 // Whether the parts of a record and a store keep their limits.
-pub fn is_legal(
-    place: Place,
+pub fn is_valid(
+    place: RecordCore,
     gathered: &LineBytes,
     cells: &LineBytes,
     row: &RowBytes,
@@ -269,8 +269,8 @@ pub fn is_legal(
 ) -> bool
     ghost { Record }
     requires { λ q. ⌜ recordOf place (now gathered) (now cells) (now row) (now arena) (now ends) (now «text_firsts») (now «text_seconds») (now kinds) (now lengths) (now firsts) (now seconds) (now values) (now steps) ≡ q ⌝ }
-    requires { λ q. ⌜ Sized q ⌝ }
-    ensures { λ q r. ⌜ Judged r q (now (store .entry)) ⌝ }
+    requires { λ q. ⌜ ArrayLengths q ⌝ }
+    ensures { λ q r. ⌜ ValidJudged r q (now (store .entry)) ⌝ }
 {
     let status = place.status;
     let source = place.source;
@@ -308,7 +308,7 @@ pub fn is_legal(
 pub fn serve(
     block: &[u8],
     last: bool,
-    place: Place,
+    place: RecordCore,
     out: &mut [u8],
     gathered: &mut LineBytes,
     cells: &mut LineBytes,
@@ -327,8 +327,8 @@ pub fn serve(
 ) -> Ran
     ghost { Record }
     requires { λ q. ⌜ recordOf place (now gathered) (now cells) (now row) (now arena) (now ends) (now «text_firsts») (now «text_seconds») (now kinds) (now lengths) (now firsts) (now seconds) (now values) (now steps) ≡ q ⌝ }
-    requires { λ q. ⌜ Legal q (now store) ⌝ }
-    ensures { λ q r. ⌜ Called q (now (store .entry)) (now (block .entry)) last (now (out .entry)) (replyFrom r (recordOf (r .place) (now (gathered .exit)) (now (cells .exit)) (now (row .exit)) (now (arena .exit)) (now (ends .exit)) (now («text_firsts» .exit)) (now («text_seconds» .exit)) (now (kinds .exit)) (now (lengths .exit)) (now (firsts .exit)) (now (seconds .exit)) (now (values .exit)) (now (steps .exit)))) (now (store .exit)) (now (out .exit)) ⌝ }
+    requires { λ q. ⌜ ValidRecord q (now store) ⌝ }
+    ensures { λ q r. ⌜ CallContract q (now (store .entry)) (now (block .entry)) last (now (out .entry)) (replyFrom r (recordOf (r .place) (now (gathered .exit)) (now (cells .exit)) (now (row .exit)) (now (arena .exit)) (now (ends .exit)) (now («text_firsts» .exit)) (now («text_seconds» .exit)) (now (kinds .exit)) (now (lengths .exit)) (now (firsts .exit)) (now (seconds .exit)) (now (values .exit)) (now (steps .exit)))) (now (store .exit)) (now (out .exit)) ⌝ }
 {
     let closing = place.closing;
     let waiting = place.waiting;
@@ -367,7 +367,7 @@ pub fn serve(
 pub fn call_parts(
     block: &[u8],
     last: bool,
-    place: Place,
+    place: RecordCore,
     out: &mut [u8],
     gathered: &mut LineBytes,
     cells: &mut LineBytes,
@@ -386,10 +386,10 @@ pub fn call_parts(
 ) -> Ran
     ghost { Record }
     requires { λ q. ⌜ recordOf place (now gathered) (now cells) (now row) (now arena) (now ends) (now «text_firsts») (now «text_seconds») (now kinds) (now lengths) (now firsts) (now seconds) (now values) (now steps) ≡ q ⌝ }
-    requires { λ q. ⌜ Sized q ⌝ }
-    ensures { λ q r. ⌜ Called q (now (store .entry)) (now (block .entry)) last (now (out .entry)) (replyFrom r (recordOf (r .place) (now (gathered .exit)) (now (cells .exit)) (now (row .exit)) (now (arena .exit)) (now (ends .exit)) (now («text_firsts» .exit)) (now («text_seconds» .exit)) (now (kinds .exit)) (now (lengths .exit)) (now (firsts .exit)) (now (seconds .exit)) (now (values .exit)) (now (steps .exit)))) (now (store .exit)) (now (out .exit)) ⌝ }
+    requires { λ q. ⌜ ArrayLengths q ⌝ }
+    ensures { λ q r. ⌜ CallContract q (now (store .entry)) (now (block .entry)) last (now (out .entry)) (replyFrom r (recordOf (r .place) (now (gathered .exit)) (now (cells .exit)) (now (row .exit)) (now (arena .exit)) (now (ends .exit)) (now («text_firsts» .exit)) (now («text_seconds» .exit)) (now (kinds .exit)) (now (lengths .exit)) (now (firsts .exit)) (now (seconds .exit)) (now (values .exit)) (now (steps .exit)))) (now (store .exit)) (now (out .exit)) ⌝ }
 {
-    if !is_legal(
+    if !is_valid(
         place,
         &*gathered,
         &*cells,
@@ -437,7 +437,7 @@ pub fn call_parts(
 
 // One session call: the record and the store as the call before handed them out, a block of the source, whether the source ends with it, and room for output.
 pub fn call(session: Record, store: &mut [u8], block: &[u8], last: bool, out: &mut [u8]) -> Reply
-    ensures { λ r. ⌜ Called session (now (store .entry)) (now (block .entry)) last (now (out .entry)) r (now (store .exit)) (now (out .exit)) ⌝ }
+    ensures { λ r. ⌜ CallContract session (now (store .entry)) (now (block .entry)) last (now (out .entry)) r (now (store .exit)) (now (out .exit)) ⌝ }
 {
     let status = session.status;
     let source = session.source;
@@ -456,7 +456,7 @@ pub fn call(session: Record, store: &mut [u8], block: &[u8], last: bool, out: &m
     let mut seconds = session.seconds;
     let mut values = session.values;
     let mut steps = session.steps;
-    let start = Place {
+    let start = RecordCore {
         status,
         source,
         waiting,

@@ -5,16 +5,16 @@ use super::lengths::Setting;
 use measure::Cells;
 use measure::Pitch;
 use measure::Rows;
-use number::scales::Down;
+use number::scales::MaybeRows;
 ghost use mathlib.Core.Path.{_≡_};
 ghost use Rattle.measure.specs.Counts.{acrossOf};
 ghost use Rattle.rules.specs.LayoutSetters.{withTotal, withFilling, withAdjusting, withCentred};
 ghost use Rattle.rules.specs.Acts.{spacing as spacingOf};
 ghost use Rattle.rules.specs.Filling.{indentNow, begun as begunOf};
 ghost use Rattle.rules.specs.TextLines.{asItStands, counted as countedOf};
-ghost use Rattle.number.specs.Scales.Rounded.{downOf as roundedOf};
+ghost use Rattle.number.specs.Scales.Rounded.{judgedRows as roundedOf};
 ghost use Rattle.settings.specs.Lengths.Views.{settingOf};
-ghost use Rattle.settings.specs.Layout.Layouts.{printerOf, TenToTheInch, SoundPrinter, totalOf, layoutOf, lengthOf, withLength, setLength, newLayoutIs, Limits, Laid, Room};
+ghost use Rattle.settings.specs.Layout.Layouts.{printerOf, TenToTheInch, PrinterInvariant, totalOf, layoutOf, lengthOf, withLength, setLength, newLayoutIs, LayoutInvariant, Laid, RoomIs};
 
 // What a session is told of its printer: the pitch, the cells of the starting line and the rows of the starting page.
 pub struct Printer {
@@ -135,7 +135,7 @@ fn with_length(layout: Layout, which: Length, setting: Setting) -> Layout
 
 // ll, in and po.
 pub fn set_length(which: Length, layout: Layout, argument: &[u8], printer: Printer) -> NewLayout
-    requires { ⌜ SoundPrinter printer ⌝ }
+    requires { ⌜ PrinterInvariant printer ⌝ }
     ensures { λ r. ⌜ newLayoutIs r ≡ setLength (printerOf printer) which (now (argument .entry)) (layoutOf layout) ⌝ }
 {
     let old = length_of(layout, which);
@@ -147,12 +147,12 @@ pub fn set_length(which: Length, layout: Layout, argument: &[u8], printer: Print
 }
 
 // The rows that an sp asks for, 1 where its argument is missing.
-pub fn spacing(argument: &[u8], printer: Printer) -> Down
-    requires { ⌜ SoundPrinter printer ⌝ }
+pub fn spacing(argument: &[u8], printer: Printer) -> MaybeRows
+    requires { ⌜ PrinterInvariant printer ⌝ }
     ensures { λ r. ⌜ roundedOf r ≡ spacingOf (printerOf printer) (now (argument .entry)) ⌝ }
 {
     if argument.len() == 0 {
-        return Down::Are(Rows(1));
+        return MaybeRows::Are(Rows(1));
     }
     number::scales::rows(argument, printer.pitch)
 }
@@ -171,8 +171,8 @@ pub fn indent_now(layout: Layout) -> Cells
 
 // "Room is ll minus indent, 0 if that is negative"
 pub fn room_now(layout: Layout) -> Cells
-    requires { ⌜ Limits (layoutOf layout) ⌝ }
-    ensures { λ r. ⌜ Room (layoutOf layout) r ⌝ }
+    requires { ⌜ LayoutInvariant (layoutOf layout) ⌝ }
+    ensures { λ r. ⌜ RoomIs (layoutOf layout) r ⌝ }
 {
     let line = measure::across(layout.line.now);
     let indent = measure::across(indent_now(layout));
@@ -184,7 +184,7 @@ pub fn room_now(layout: Layout) -> Cells
 
 // A line has begun: the ti total is used up.
 pub fn begun(layout: Layout) -> Layout
-    requires { ⌜ Limits (layoutOf layout) ⌝ }
+    requires { ⌜ LayoutInvariant (layoutOf layout) ⌝ }
     ensures { λ r. ⌜ Laid r (begunOf (layoutOf layout)) ⌝ }
 {
     with_total(layout, Total::Nothing)
@@ -192,7 +192,7 @@ pub fn begun(layout: Layout) -> Layout
 
 // A line is written as it stands: ce counts it.
 pub fn counted(layout: Layout) -> Layout
-    requires { ⌜ Limits (layoutOf layout) ⌝ }
+    requires { ⌜ LayoutInvariant (layoutOf layout) ⌝ }
     ensures { λ r. ⌜ Laid r (countedOf (layoutOf layout)) ⌝ }
 {
     let new = begun(layout);

@@ -2,8 +2,8 @@
 use measure::Cells;
 use measure::Pitch;
 use measure::Rows;
-use number::scales::Across;
-use number::scales::Down;
+use number::scales::MaybeCells;
+use number::scales::MaybeRows;
 ghost use mathlib.Core.Path.{_≡_};
 ghost use Rattle.measure.specs.Pitches.{Sized};
 ghost use Rattle.measure.specs.Counts.{acrossOf, downOf};
@@ -105,14 +105,14 @@ fn set(old: Setting, argument: &[u8], pitch: Pitch, low: u16, high: u16) -> NewS
     }
     let before = measure::across(now);
     match number::scales::cells(argument, pitch) {
-        Across::Are(cells) => match count_from(argument, cells.0, before, low, high) {
+        MaybeCells::Are(cells) => match count_from(argument, cells.0, before, low, high) {
             Count::Is(n) => NewSetting::Is(Setting {
                 now: measure::cells_across(n),
                 former: now,
             }),
             Count::Out => NewSetting::OutOfRange,
         },
-        Across::Bad => NewSetting::Malformed,
+        MaybeCells::Bad => NewSetting::Malformed,
     }
 }
 
@@ -158,7 +158,7 @@ pub fn page_length(used: Rows, old: Rows, argument: &[u8], pitch: Pitch) -> NewR
     ensures { λ r. ⌜ newRowsIs r ≡ pageLengthIn pitch (downOf used) (downOf old) (now (argument .entry)) ⌝ }
 {
     match number::scales::rows(argument, pitch) {
-        Down::Are(rows) => match page_within(
+        MaybeRows::Are(rows) => match page_within(
             argument,
             rows.0,
             measure::down(used),
@@ -167,7 +167,7 @@ pub fn page_length(used: Rows, old: Rows, argument: &[u8], pitch: Pitch) -> NewR
             Count::Is(n) => NewRows::Is(measure::rows_down(n)),
             Count::Out => NewRows::OutOfRange,
         },
-        Down::Bad => NewRows::Malformed,
+        MaybeRows::Bad => NewRows::Malformed,
     }
 }
 
@@ -177,10 +177,16 @@ pub fn indent_total(argument: &[u8], indent: Cells, pitch: Pitch) -> NewTotal
     ensures { λ r. ⌜ newTotalIs r ≡ totalIn pitch (acrossOf indent) (now (argument .entry)) ⌝ }
 {
     match number::scales::cells(argument, pitch) {
-        Across::Are(cells) => match count_from(argument, cells.0, measure::across(indent), 0, 239) {
+        MaybeCells::Are(cells) => match count_from(
+            argument,
+            cells.0,
+            measure::across(indent),
+            0,
+            239,
+        ) {
             Count::Is(n) => NewTotal::Is(measure::cells_across(n)),
             Count::Out => NewTotal::OutOfRange,
         },
-        Across::Bad => NewTotal::Malformed,
+        MaybeCells::Bad => NewTotal::Malformed,
     }
 }

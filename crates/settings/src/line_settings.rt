@@ -10,7 +10,7 @@ use rules::LineSetting;
 ghost use mathlib.Core.Path.{_≡_};
 ghost use Rattle.settings.specs.Lengths.Views.{printer};
 ghost use Rattle.rules.specs.Acts.{countOf, setLine};
-ghost use Rattle.settings.specs.Layout.Layouts.{printerOf, SoundPrinter, layoutOf, newLayoutIs, Ready, LineSet};
+ghost use Rattle.settings.specs.Layout.Layouts.{printerOf, PrinterInvariant, layoutOf, newLayoutIs, LayoutReady, LineSettingRefines};
 
 // ce: "n of 0 or less ends centring"
 fn count_of(n: i32) -> u32
@@ -24,7 +24,7 @@ fn count_of(n: i32) -> u32
 
 // ce, 1 where its argument is missing.
 fn centre(layout: Layout, argument: &[u8], printer: Printer) -> NewLayout
-    requires { ⌜ SoundPrinter printer ⌝ }
+    requires { ⌜ PrinterInvariant printer ⌝ }
     ensures { λ r. ⌜ newLayoutIs r ≡ setLine (printerOf printer) LineSetting.Ce (now (argument .entry)) (layoutOf layout) ⌝ }
 {
     if argument.len() == 0 {
@@ -38,7 +38,7 @@ fn centre(layout: Layout, argument: &[u8], printer: Printer) -> NewLayout
 
 // ti: without an argument it does nothing.
 fn set_total(layout: Layout, argument: &[u8], printer: Printer) -> NewLayout
-    requires { ⌜ SoundPrinter printer ⌝ }
+    requires { ⌜ PrinterInvariant printer ⌝ }
     ensures { λ r. ⌜ newLayoutIs r ≡ setLine (printerOf printer) LineSetting.Ti (now (argument .entry)) (layoutOf layout) ⌝ }
 {
     if argument.len() == 0 {
@@ -58,8 +58,8 @@ pub fn set_line(
     argument: &[u8],
     printer: Printer,
 ) -> NewLayout
-    requires { ⌜ Ready printer layout ⌝ }
-    ensures { λ r. ⌜ LineSet printer request layout (now (argument .entry)) r ⌝ }
+    requires { ⌜ LayoutReady printer layout ⌝ }
+    ensures { λ r. ⌜ LineSettingRefines printer request layout (now (argument .entry)) r ⌝ }
 {
     match request {
         LineSetting::Fi => NewLayout::Is(super::layout::with_filling(layout, true)),

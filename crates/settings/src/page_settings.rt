@@ -11,7 +11,7 @@ ghost use mathlib.Core.Path.{_≡_};
 ghost use Rattle.measure.specs.Counts.{downOf};
 ghost use Rattle.settings.specs.Lengths.Views.{countIs, newRowsIs, printer};
 ghost use Rattle.rules.specs.Acts.{pageLength, setPage};
-ghost use Rattle.settings.specs.Layout.Layouts.{printerOf, SoundPrinter, layoutOf, newLayoutIs, Ready, PageSet};
+ghost use Rattle.settings.specs.Layout.Layouts.{printerOf, PrinterInvariant, layoutOf, newLayoutIs, LayoutReady, PageSettingRefines};
 
 // A count as a page length.
 fn rows_from(count: Count) -> NewRows
@@ -25,7 +25,7 @@ fn rows_from(count: Count) -> NewRows
 
 // pl, with an argument, or without: "pl 66 rows".
 fn new_page(used: Rows, old: Rows, argument: &[u8], printer: Printer) -> NewRows
-    requires { ⌜ SoundPrinter printer ⌝ }
+    requires { ⌜ PrinterInvariant printer ⌝ }
     ensures { λ r. ⌜ newRowsIs r ≡ pageLength (printerOf printer) (downOf used) (downOf old) (now (argument .entry)) ⌝ }
 {
     if argument.len() == 0 {
@@ -37,7 +37,7 @@ fn new_page(used: Rows, old: Rows, argument: &[u8], printer: Printer) -> NewRows
 
 // pl.
 fn set_page_length(layout: Layout, used: Rows, argument: &[u8], printer: Printer) -> NewLayout
-    requires { ⌜ SoundPrinter printer ⌝ }
+    requires { ⌜ PrinterInvariant printer ⌝ }
     ensures { λ r. ⌜ newLayoutIs r ≡ setPage (printerOf printer) PageSetting.Pl (downOf used) (now (argument .entry)) (layoutOf layout) ⌝ }
 {
     match new_page(used, layout.page, argument, printer) {
@@ -59,8 +59,8 @@ pub fn set_page(
     argument: &[u8],
     printer: Printer,
 ) -> NewLayout
-    requires { ⌜ Ready printer layout ⌝ }
-    ensures { λ r. ⌜ PageSet printer request layout (downOf used) (now (argument .entry)) r ⌝ }
+    requires { ⌜ LayoutReady printer layout ⌝ }
+    ensures { λ r. ⌜ PageSettingRefines printer request layout (downOf used) (now (argument .entry)) r ⌝ }
 {
     match request {
         PageSetting::Pl => set_page_length(layout, used, argument, printer),

@@ -13,7 +13,7 @@ use Rattle.source_line.specs.declared.Source.{Source}
 use Rattle.source_line.specs.declared.Reach.{Reach}
 use Rattle.source_line.specs.declared.Why.{Why}
 use Rattle.source_line.specs.declared.Why.the-variants.{More, Ended, Refused}
-use Rattle.source_line.specs.Gathering.{sourceIn, Takes, reached, lineBy, lineFrom, reachedBy, ReachedTo, begunLine, begunStored, begunSource, gatheredTo, lastLine, Gathers, GatheredTo, arePlain, isInside}
+use Rattle.source_line.specs.Gathering.{withSource, Takes, reached, lineStep, lineFrom, reachedBy, ReachedTo, begunLine, begunStored, begunSource, gatheredTo, mostLinesBy, Gathers, GatheredTo, arePlain, isInside}
 use Rattle.source_line.specs.GatheringLaws.{line-far, line-some, line-takes, past-takes}
 
 -- the block is used up
@@ -26,7 +26,7 @@ module _ (block : List ℕ) (i : ℕ) (g : List ℕ) (here : i < length block) w
   b = getD block i 0
 
   line-next : lineFrom i (drop i block) g
-      ≡ lineBy (eqb b 10) (leb 512 (length g)) (leb 32 b && leb b 126) (i + 1) g (lineFrom (i + 1) (drop (i + 1) block) (g ++ b ∷ []))
+      ≡ lineStep (eqb b 10) (leb 512 (length g)) (leb 32 b && leb b 126) (i + 1) g (lineFrom (i + 1) (drop (i + 1) block) (g ++ b ∷ []))
   unfolding lineFrom
   line-next = rw (drop-cons block i 0 here, add-one i)
 
@@ -100,7 +100,7 @@ reach-behind block from line start r line' f =
     let e : r .to ≡ lineFrom from (drop from block) (take start line) .to = ap (λ v. v .to) (f .is) in
     omega (arith, line-far from (drop from block) (take start line) .behind)
 
-low-last : (w : Why) (l : ℕ) → l ≤ 1000000 → l ≤ lastLine w
+low-last : (w : Why) (l : ℕ) → l ≤ 1000000 → l ≤ mostLinesBy w
 low-last More l h = h
 low-last Ended l h = h
 low-last (Refused n) l h = omega arith
@@ -162,7 +162,7 @@ module _ (block : List ℕ) (from : ℕ) (line : List ℕ) (s : Source) (fits : 
       let some = line-some from (drop from block) g z in
       record {
         is = λ x u.
-            subst (λ v. Takes (sourceIn g (s .line) (s .stored) [] x) (take (v .to - from) (drop from block)) (gatheredTo (v .why) (v .gathered) (b .line) (b .stored) x)) (sym q)
+            subst (λ v. Takes (withSource g (s .line) (s .stored) [] x) (take (v .to - from) (drop from block)) (gatheredTo (v .why) (v .gathered) (b .line) (b .stored) x)) (sym q)
             (rw (n, k) (line-takes x u from (drop from block) g (s .line) (s .stored) z (omega arith)));
         some = omega arith;
         within = omega (arith, far .within, fits .some);

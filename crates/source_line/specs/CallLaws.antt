@@ -16,8 +16,8 @@ use Rattle.rules.specs.Laws.Falls.{falls}
 use Rattle.source_line.specs.Gathering.{Asks, Takes}
 
 -- these bytes taken and those written, and then the outcome
-abbrev pub after : {S : Type 0} → (took bytes : List ℕ) → Outcome S → Outcome S
-after t w o = record { took = t ++ o .took; bytes = w ++ o .bytes; rest = o .rest; answer = o .answer; waiting = o .waiting; state = o .state }
+abbrev pub outcomeAfter : {S : Type 0} → (took bytes : List ℕ) → Outcome S → Outcome S
+outcomeAfter t w o = record { took = t ++ o .took; bytes = w ++ o .bytes; rest = o .rest; answer = o .answer; waiting = o .waiting; state = o .state }
 
 module _ (p : Printer) where
   -- a state that asks
@@ -39,7 +39,7 @@ module _ (p : Printer) where
 
   -- A call takes bytes that lead from a state to another.
   pub call-gathers : (s : State) (bs : List ℕ) (s' : State) → Good s → Takes s bs s' → (bl : List ℕ) (last : Bool) (room : ℕ)
-      → callFrom (formatter p) [] s (bs ++ bl) last room ≡ after bs [] (callFrom (formatter p) [] s' bl last room)
+      → callFrom (formatter p) [] s (bs ++ bl) last room ≡ outcomeAfter bs [] (callFrom (formatter p) [] s' bl last room)
   call-gathers s [] s' g t bl last room = ap (λ v. callFrom (formatter p) [] v bl last room) (sym t)
   call-gathers s (b ∷ bs) s' g t bl last room =
       call-takes (formatter p) Good (falls p) s (λ v. takeByte v s) (readEnd s) g (step-asks s (t .0)) b (bs ++ bl) last room
@@ -47,7 +47,7 @@ module _ (p : Printer) where
 
 -- A call writes n of the bytes that wait, where there are so many and room for them.
 pub call-writes : {S : Type 0} (m : Machine S) (n : ℕ) (ws : List ℕ) (s : S) (bl : List ℕ) (last : Bool) (room : ℕ) → n ≤ length ws → n ≤ room
-    → callFrom m ws s bl last room ≡ after [] (take n ws) (callFrom m (drop n ws) s bl last (room - n))
+    → callFrom m ws s bl last room ≡ outcomeAfter [] (take n ws) (callFrom m (drop n ws) s bl last (room - n))
 call-writes m zero ws s bl last room h k = let e : room - 0 ≡ room = omega arith in rw e
 call-writes m (suc n) [] s bl last room h k = absurd (omega arith)
 call-writes m (suc n) (w ∷ ws) s bl last zero h k = absurd (omega arith)

@@ -16,8 +16,8 @@ use Rattle.source_line.specs.declared.Why.{Why}
 use Rattle.source_line.specs.declared.Why.the-variants.{More, Ended, Refused}
 
 -- a state whose source has these gathered bytes, this line number and so many stored lines read, and whose end was not read; the other parts are x's
-abbrev pub sourceIn : (gathered : List ℕ) → (line stored : ℕ) → List Item → State → State
-sourceIn g l r k x = withInput (input g l false r k) x
+abbrev pub withSource : (gathered : List ℕ) → (line stored : ℕ) → List Item → State → State
+withSource g l r k x = withInput (input g l false r k) x
 
 -- the state asks for a byte
 pub record Asks (s : State) : Type 0 where
@@ -52,16 +52,16 @@ abbrev pub reached : ℕ → List ℕ → Why → Reached
 reached i g w = record { to = i; gathered = g; why = w }
 
 -- what one byte of a line, up to the place i, leads to
-abbrev pub lineBy : (newline long good : Bool) → ℕ → List ℕ → Reached → Reached
-lineBy true l a i g on = reached i g Ended
-lineBy false true a i g on = reached i g (Refused 3)
-lineBy false false false i g on = reached i g (Refused 2)
-lineBy false false true i g on = on
+abbrev pub lineStep : (newline long good : Bool) → ℕ → List ℕ → Reached → Reached
+lineStep true l a i g on = reached i g Ended
+lineStep false true a i g on = reached i g (Refused 3)
+lineStep false false false i g on = reached i g (Refused 2)
+lineStep false false true i g on = on
 
 -- the bytes from the place i on are taken for a line that has the bytes g, whose number is allowed
 unfoldable pub lineFrom : ℕ → (bytes : List ℕ) → (g : List ℕ) → Reached
 lineFrom i [] g = reached i g More
-lineFrom i (b ∷ bs) g = lineBy (eqb b 10) (leb 512 (length g)) (leb 32 b && leb b 126) (i + 1) g (lineFrom (i + 1) bs (g ++ b ∷ []))
+lineFrom i (b ∷ bs) g = lineStep (eqb b 10) (leb 512 (length g)) (leb 32 b && leb b 126) (i + 1) g (lineFrom (i + 1) bs (g ++ b ∷ []))
 
 -- the code's answer, with the array of the line
 abbrev pub reachedBy : Reach → List ℕ → Reached
@@ -81,15 +81,15 @@ pub record ReachedTo (block : List ℕ) (from : ℕ) (line : List ℕ) (start : 
 
 -- the state that the bytes lead to: a line that ended is to be dealt with
 abbrev pub gatheredTo : Why → (gathered : List ℕ) → (line stored : ℕ) → State → State
-gatheredTo More g l r x = sourceIn g l r [] x
-gatheredTo Ended g l r x = sourceIn [] l r (fresh g ∷ []) x
-gatheredTo (Refused n) g l r x = refuse n (sourceIn g l r [] x)
+gatheredTo More g l r x = withSource g l r [] x
+gatheredTo Ended g l r x = withSource [] l r (fresh g ∷ []) x
+gatheredTo (Refused n) g l r x = refuse n (withSource g l r [] x)
 
 -- "12: past 1,000,000 source lines"
-abbrev pub lastLine : Why → ℕ
-lastLine More = 1000000
-lastLine Ended = 1000000
-lastLine (Refused n) = 1000001
+abbrev pub mostLinesBy : Why → ℕ
+mostLinesBy More = 1000000
+mostLinesBy Ended = 1000000
+mostLinesBy (Refused n) = 1000001
 
 -- a block with a byte at this place, and the source of a session that asks for it
 pub record Gathers (block : List ℕ) (from : ℕ) (line : List ℕ) (s : Source) : Type 0 where
@@ -102,14 +102,14 @@ pub record Gathers (block : List ℕ) (from : ℕ) (line : List ℕ) (s : Source
 -- The bytes of the block from a place on are taken as the rules say, until a line ends, a byte is refused or none is left.
 pub record GatheredTo (block : List ℕ) (from : ℕ) (line : List ℕ) (s : Source) (r : Gathered) (line' : List ℕ) : Type 0 where
   pub is : (x : State) → x .closing ≡ none
-      → Takes (sourceIn (take (s .length) line) (s .line) (s .stored) [] x) (take (r .taken) (drop from block))
+      → Takes (withSource (take (s .length) line) (s .line) (s .stored) [] x) (take (r .taken) (drop from block))
       (gatheredTo (r .why) (take (r .source .length) line') (r .source .line) (r .source .stored) x)
   pub some : 0 < r .taken
   pub within : from + r .taken ≤ length block
   pub all : r .why ≡ More → from + r .taken ≡ length block
   pub long : length line' ≡ 512
   pub short : r .source .length ≤ 512
-  pub numbered : r .source .line ≤ lastLine (r .why)
+  pub numbered : r .source .line ≤ mostLinesBy (r .why)
   pub counted : r .source .stored ≤ 10000
   pub ended : r .source .ended ≡ s .ended
 

@@ -13,11 +13,11 @@ use Rattle.rules.specs.State.{State, fresh, refuse}
 use Rattle.rules.specs.Session.{takeByte, withBegun, gather}
 use Rattle.rules.specs.Laws.Session.{begun-later, take-past, take-newline, take-long, take-bad, take-keeps}
 use Rattle.source_line.specs.declared.Why.the-variants.{More, Ended, Refused}
-use Rattle.source_line.specs.Gathering.{sourceIn, Asks, Takes, begunLine, begunStored, Reached, reached, lineBy, lineFrom, gatheredTo, arePlain, isInside}
+use Rattle.source_line.specs.Gathering.{withSource, Asks, Takes, begunLine, begunStored, Reached, reached, lineStep, lineFrom, gatheredTo, arePlain, isInside}
 
 -- a line begins with its first byte
 pub begun-source : (g : List ℕ) (l r : ℕ) (x : State)
-    → withBegun (sourceIn g l r [] x) ≡ sourceIn g (begunLine (length g) l) (begunStored (length g) r) [] x
+    → withBegun (withSource g l r [] x) ≡ withSource g (begunLine (length g) l) (begunStored (length g) r) [] x
 begun-source [] l r x = refl
 begun-source (b ∷ g) l r x = refl
 
@@ -33,7 +33,7 @@ ended-more e = let z : _≡_ {A = ℕ} 0 1 = cc (e) in omega arith
 refused-more : (k : ℕ) → Refused k ≡ More → ⊥
 refused-more k e = let z : _≡_ {A = ℕ} 0 1 = cc (e) in omega arith
 
-far-by : (a l o : Bool) (i n : ℕ) (g : List ℕ) (on : Reached) → Far (i + 1) n on → Far i (suc n) (lineBy a l o (i + 1) g on)
+far-by : (a l o : Bool) (i n : ℕ) (g : List ℕ) (on : Reached) → Far (i + 1) n on → Far i (suc n) (lineStep a l o (i + 1) g on)
 far-by true l o i n g on f = record { behind = omega arith; within = omega arith; all = λ e. absurd (ended-more e) }
 far-by false true o i n g on f = record { behind = omega arith; within = omega arith; all = λ e. absurd (refused-more 3 e) }
 far-by false false false i n g on f = record { behind = omega arith; within = omega arith; all = λ e. absurd (refused-more 2 e) }
@@ -46,7 +46,7 @@ line-far i [] g = record { behind = omega arith; within = omega arith; all = λ 
 line-far i (b ∷ bs) g =
     far-by (eqb b 10) (leb 512 (length g)) (leb 32 b && leb b 126) i (length bs) g (lineFrom (i + 1) bs (g ++ b ∷ [])) (line-far (i + 1) bs (g ++ b ∷ []))
 
-some-by : (a l o : Bool) (i : ℕ) (g : List ℕ) (on : Reached) → i < on .to → i < lineBy a l o (i + 1) g on .to
+some-by : (a l o : Bool) (i : ℕ) (g : List ℕ) (on : Reached) → i < on .to → i < lineStep a l o (i + 1) g on .to
 some-by true l o i g on h = omega arith
 some-by false true o i g on h = omega arith
 some-by false false false i g on h = omega arith
@@ -73,12 +73,12 @@ plain-first b bs e =
     (leb-true 32 b (w .0), leb-true b 126 (v .0), v .1)
 
 -- what the test of a block says
-pub record Inside (bs : List ℕ) (n : ℕ) : Type 0 where
+pub record BlockInside (bs : List ℕ) (n : ℕ) : Type 0 where
   pub some : 0 < n
   pub fits : n + length bs ≤ 512
   pub plain : arePlain bs ≡ true
 
-pub inside-is : (bs : List ℕ) (n : ℕ) → isInside bs n ≡ true → Inside bs n
+pub inside-is : (bs : List ℕ) (n : ℕ) → isInside bs n ≡ true → BlockInside bs n
 inside-is bs n e =
     let w = both-true (leb 1 n) (leb (n + length bs) 512 && arePlain bs) e in
     let v = both-true (leb (n + length bs) 512) (arePlain bs) (w .1) in
@@ -93,12 +93,12 @@ module _ (x : State) (unclosed : x .closing ≡ none) where
   towards o l r = gatheredTo (o .why) (o .gathered) l r x
 
   -- every source asks for bytes
-  pub source-asks : (g : List ℕ) (l r : ℕ) → Asks (sourceIn g l r [] x)
+  pub source-asks : (g : List ℕ) (l r : ℕ) → Asks (withSource g l r [] x)
   source-asks g l r = record { closing = unclosed; ended = refl; stack = refl }
 
-  module _ (b : ℕ) (bs g : List ℕ) (i l₀ r₀ l r : ℕ) (begun : withBegun (sourceIn g l₀ r₀ [] x) ≡ sourceIn g l r [] x) (numbered : l ≤ 1000000) where
+  module _ (b : ℕ) (bs g : List ℕ) (i l₀ r₀ l r : ℕ) (begun : withBegun (withSource g l₀ r₀ [] x) ≡ withSource g l r [] x) (numbered : l ≤ 1000000) where
     abbrev s : State
-    s = sourceIn g l₀ r₀ [] x
+    s = withSource g l₀ r₀ [] x
 
     one : (t : State) → t ≡ takeByte b s → Takes s (take (i + 1 - i) (b ∷ bs)) t
     one t e = let n : i + 1 - i ≡ 1 = omega arith in rw n (source-asks g l₀ r₀, e)
@@ -108,8 +108,8 @@ module _ (x : State) (unclosed : x .closing ≡ none) where
 
     -- one byte, and then the others
     byte-takes : (a z o : Bool) → eqb b 10 ≡ a → leb 512 (length g) ≡ z → (leb 32 b && leb b 126) ≡ o → (on : Reached) → i + 1 ≤ on .to
-        → Takes (sourceIn (g ++ b ∷ []) l r [] x) (take (on .to - (i + 1)) bs) (towards on l r)
-        → Takes s (take (lineBy a z o (i + 1) g on .to - i) (b ∷ bs)) (towards (lineBy a z o (i + 1) g on) l r)
+        → Takes (withSource (g ++ b ∷ []) l r [] x) (take (on .to - (i + 1)) bs) (towards on l r)
+        → Takes s (take (lineStep a z o (i + 1) g on .to - i) (b ∷ bs)) (towards (lineStep a z o (i + 1) g on) l r)
     byte-takes true z o p q t on h k =
         one (towards (reached (i + 1) g Ended) l r)
         (ap (gather [] (fresh g ∷ [])) (sym begun) ∙ sym (take-newline s allowed) ∙ ap (λ v. takeByte v s) (sym (eqb-true b 10 p)))
@@ -122,13 +122,13 @@ module _ (x : State) (unclosed : x .closing ≡ none) where
     byte-takes false false true p q t on h k =
         let n : on .to - i ≡ suc (on .to - (i + 1)) = omega arith in
         let w = good-byte b t in
-        let e : takeByte b s ≡ sourceIn (g ++ b ∷ []) l r [] x =
+        let e : takeByte b s ≡ withSource (g ++ b ∷ []) l r [] x =
         take-keeps b s allowed (leb-false 512 (length g) q) (w .0) (w .1) ∙ ap (gather (g ++ b ∷ []) []) begun in
         rw n (source-asks g l₀ r₀, subst (λ v. Takes v (take (on .to - (i + 1)) bs) (towards on l r)) (sym e) k)
 
   -- a line that has bytes goes on
   later-takes : (i : ℕ) (bs g : List ℕ) (l r : ℕ) → 0 < length g → l ≤ 1000000
-      → Takes (sourceIn g l r [] x) (take (lineFrom i bs g .to - i) bs) (towards (lineFrom i bs g) l r)
+      → Takes (withSource g l r [] x) (take (lineFrom i bs g .to - i) bs) (towards (lineFrom i bs g) l r)
   unfolding lineFrom
   later-takes i [] g l r h n = rw (take-nil {A = ℕ} (i - i)) refl
   later-takes i (b ∷ bs) g l r h n =
@@ -136,13 +136,13 @@ module _ (x : State) (unclosed : x .closing ≡ none) where
       byte-takes b bs g i l r l r (begun-source g l r x ∙ later-numbers g l r h) n (eqb b 10) (leb 512 (length g)) (leb 32 b && leb b 126) refl refl refl on
       (line-far (i + 1) bs (g ++ b ∷ []) .behind) (later-takes (i + 1) bs (g ++ b ∷ []) l r (omega (arith, length-append g (b ∷ []))) n)
     where
-      later-numbers : (g : List ℕ) (l r : ℕ) → 0 < length g → sourceIn g (begunLine (length g) l) (begunStored (length g) r) [] x ≡ sourceIn g l r [] x
+      later-numbers : (g : List ℕ) (l r : ℕ) → 0 < length g → withSource g (begunLine (length g) l) (begunStored (length g) r) [] x ≡ withSource g l r [] x
       later-numbers [] l r h = absurd (omega arith)
       later-numbers (b ∷ g) l r h = refl
 
   -- A line is gathered, from its first byte or a later one on.
   pub line-takes : (i : ℕ) (bs g : List ℕ) (l r : ℕ) → 0 < length bs → begunLine (length g) l ≤ 1000000
-      → Takes (sourceIn g l r [] x) (take (lineFrom i bs g .to - i) bs) (towards (lineFrom i bs g) (begunLine (length g) l) (begunStored (length g) r))
+      → Takes (withSource g l r [] x) (take (lineFrom i bs g .to - i) bs) (towards (lineFrom i bs g) (begunLine (length g) l) (begunStored (length g) r))
   unfolding lineFrom
   line-takes i [] g l r h n = absurd (omega arith)
   line-takes i (b ∷ bs) g l r h n =
@@ -153,25 +153,25 @@ module _ (x : State) (unclosed : x .closing ≡ none) where
       (line-far (i + 1) bs (g ++ b ∷ []) .behind) (later-takes (i + 1) bs (g ++ b ∷ []) l' r' (omega (arith, length-append g (b ∷ []))) n)
 
   -- Bytes that may stand in a line go behind those that it has.
-  pub inside-takes : (bs g : List ℕ) (l r : ℕ) → Inside bs (length g) → l ≤ 1000000 → Takes (sourceIn g l r [] x) bs (sourceIn (g ++ bs) l r [] x)
-  inside-takes [] g l r i n = ap (λ v. sourceIn v l r [] x) (append-nil g)
+  pub inside-takes : (bs g : List ℕ) (l r : ℕ) → BlockInside bs (length g) → l ≤ 1000000 → Takes (withSource g l r [] x) bs (withSource (g ++ bs) l r [] x)
+  inside-takes [] g l r i n = ap (λ v. withSource v l r [] x) (append-nil g)
   inside-takes (b ∷ bs) g l r i n =
       let w = plain-first b bs (i .plain) in
-      let s = sourceIn g l r [] x in
+      let s = withSource g l r [] x in
       let k = length-append g (b ∷ []) in
       let begun : withBegun s ≡ s = begun-later s (i .some) in
       let low : withBegun s .input .line ≤ 1000000 = subst (λ v. v .input .line ≤ 1000000) (sym begun) n in
-      let e : takeByte b s ≡ sourceIn (g ++ b ∷ []) l r [] x = take-keeps b s low (omega (arith, i .fits)) (w .0) (w .1) ∙ ap (gather (g ++ b ∷ []) []) begun in (
+      let e : takeByte b s ≡ withSource (g ++ b ∷ []) l r [] x = take-keeps b s low (omega (arith, i .fits)) (w .0) (w .1) ∙ ap (gather (g ++ b ∷ []) []) begun in (
         source-asks g l r,
-        subst (λ v. Takes v bs (sourceIn (g ++ b ∷ bs) l r [] x)) (sym e)
-            (subst (λ v. Takes (sourceIn (g ++ b ∷ []) l r [] x) bs (sourceIn v l r [] x)) (append-assoc g (b ∷ []) bs)
+        subst (λ v. Takes v bs (withSource (g ++ b ∷ bs) l r [] x)) (sym e)
+            (subst (λ v. Takes (withSource (g ++ b ∷ []) l r [] x) bs (withSource v l r [] x)) (append-assoc g (b ∷ []) bs)
             (inside-takes bs (g ++ b ∷ []) l r (record { some = omega (arith, k); fits = omega (arith, k, i .fits); plain = w .2 }) n)),
       )
 
   -- "12: past 1,000,000 source lines"
   pub past-takes : (b : ℕ) (g : List ℕ) (l r : ℕ) → 1000000 < begunLine (length g) l
-      → Takes (sourceIn g l r [] x) (b ∷ []) (gatheredTo (Refused 12) g (begunLine (length g) l) (begunStored (length g) r) x)
+      → Takes (withSource g l r [] x) (b ∷ []) (gatheredTo (Refused 12) g (begunLine (length g) l) (begunStored (length g) r) x)
   past-takes b g l r h =
       let e = begun-source g l r x in
-      let k : withBegun (sourceIn g l r [] x) .input .line ≡ begunLine (length g) l = ap (λ v. v .input .line) e in
-      (source-asks g l r, ap (refuse 12) (sym e) ∙ sym (take-past b (sourceIn g l r [] x) (omega arith)))
+      let k : withBegun (withSource g l r [] x) .input .line ≡ begunLine (length g) l = ap (λ v. v .input .line) e in
+      (source-asks g l r, ap (refuse 12) (sym e) ∙ sym (take-past b (withSource g l r [] x) (omega arith)))

@@ -5,29 +5,29 @@ use Prim.Native.Nat.{ℕ, _≤_}
 use lib.ListN.{length}
 use lib.IntN.{ℤ}
 use Rattle.settings.specs.declared.layout.Printer.{Printer}
-use Rattle.settings.specs.Layout.Layouts.{SoundPrinter}
-use Rattle.composition.specs.PageRows.Desk as sheet
-use Rattle.composition.specs.PageRows.Desk.{desk}
+use Rattle.settings.specs.Layout.Layouts.{PrinterInvariant}
+use Rattle.composition.specs.PageRows.PageState as page-state
+use Rattle.composition.specs.PageRows.PageState.{pageState}
 use Rattle.state.specs.declared.Status.{Status}
-use Rattle.state.specs.Whole.{Whole, textColumns, registerColumns, whole, SoundWhole}
+use Rattle.state.specs.Whole.{WholeState, textColumns, registerColumns, wholeState, StateInvariant}
 
 -- the whole of a status and the arrays
-abbrev pub wholeOf : Status → (cells arena ends : List ℕ) → (store textFirsts textSeconds kinds lengths : List ℕ) → (firsts seconds : List ℕ) → (values steps : List ℤ) → Whole
+abbrev pub wholeOf : Status → (cells arena ends : List ℕ) → (store textFirsts textSeconds kinds lengths : List ℕ) → (firsts seconds : List ℕ) → (values steps : List ℤ) → WholeState
 wholeOf s cs bs ps st tf ts ks ls fs ss vs us =
-    whole (desk (s .layout) (s .page) (s .collected) cs (s .stack) bs ps) (s .planted) (textColumns st tf ts ks ls (s .texts)) (s .opening) (registerColumns fs ss vs us (s .registers))
+    wholeState (pageState (s .layout) (s .page) (s .collected) cs (s .stack) bs ps) (s .planted) (textColumns st tf ts ks ls (s .texts)) (s .opening) (registerColumns fs ss vs us (s .registers))
 
 -- Work may begin: the whole is sound, at most 16 items lie on the stack, and the bytes are a line.
-pub record Begins (q : Whole) (bytes row : List ℕ) (p : Printer) : Type 0 where
-  pub sound : SoundWhole q
-  pub items : q .desk .stack .depth ≤ 16
+pub record StateReady (q : WholeState) (bytes row : List ℕ) (p : Printer) : Type 0 where
+  pub sound : StateInvariant q
+  pub items : q .pageState .stack .depth ≤ 16
   pub short : length bytes ≤ 512
   pub long : length row ≡ 872
-  pub printer : SoundPrinter p
+  pub printer : PrinterInvariant p
 
--- Work on the desk may begin then, too.
+-- Work on the page state may begin then, too.
 module _ (s : Status) (cs bs ps st tf ts ks ls fs ss : List ℕ) (vs us : List ℤ) (bytes row : List ℕ) (p : Printer) where
-  abbrev q : Whole
+  abbrev q : WholeState
   q = wholeOf s cs bs ps st tf ts ks ls fs ss vs us
 
-  pub begins-desk : Begins q bytes row p → sheet.Begins (s .planted) (q .desk) bytes row tf ts (s .texts)
-  begins-desk b = record { sound = b .sound .sheet; items = b .items; short = b .short; long = b .long; names = b .sound .lies .names }
+  pub page-ready : StateReady q bytes row p → page-state.PageReady (s .planted) (q .pageState) bytes row tf ts (s .texts)
+  page-ready b = record { sound = b .sound .pageState; items = b .items; short = b .short; long = b .long; names = b .sound .lies .names }

@@ -1,6 +1,6 @@
 // The whole state that a line is dealt with in, but for its lent arrays.
 use composition::page_rows::Collected;
-use composition::page_rows::Outcome;
+use composition::page_rows::PageOutcome;
 use input_stack::stack::Stack;
 use page::position::Page;
 use page::springs::Way;
@@ -9,7 +9,7 @@ use rules::Name;
 use settings::layout::Layout;
 use traps::table::Planted;
 ghost use mathlib.Core.Path.{_≡_};
-ghost use Rattle.state.specs.Steps.{stayed, movedTo, withRegisters, withPlanted, withTexts, withStack};
+ghost use Rattle.state.specs.Steps.{stayed, movedTo, withRegisterCount, withPlanted, withTextCount, withStatusStack};
 
 // An open definition: its name, and how many bytes of its body lie behind the texts.
 pub struct Opening {
@@ -31,7 +31,7 @@ pub struct Status {
 }
 
 // How a piece of work leads on, how many bytes of the row it wrote, and the state after it.
-pub struct Step {
+pub struct WorkOutcome {
     pub way: Way,
     pub written: usize,
     pub status: Status,
@@ -44,18 +44,18 @@ pub struct Opened {
 }
 
 // Nothing is written, and all is as it is.
-pub fn stay(way: Way, status: Status) -> Step
+pub fn stay(way: Way, status: Status) -> WorkOutcome
     ensures { λ r. ⌜ r ≡ stayed way status ⌝ }
 {
-    Step {
+    WorkOutcome {
         way,
         written: 0,
         status,
     }
 }
 
-// The desk after a piece of work on it.
-pub fn moved(outcome: Outcome, status: Status) -> Step
+// The page state after a piece of work on it.
+pub fn moved(outcome: PageOutcome, status: Status) -> WorkOutcome
     ensures { λ r. ⌜ r ≡ movedTo outcome status ⌝ }
 {
     let layout = outcome.layout;
@@ -75,7 +75,7 @@ pub fn moved(outcome: Outcome, status: Status) -> Step
         registers: status.registers,
     };
     let way = outcome.way;
-    Step {
+    WorkOutcome {
         way,
         written: outcome.written,
         status: after,
@@ -84,7 +84,7 @@ pub fn moved(outcome: Outcome, status: Status) -> Step
 
 // So many registers.
 pub fn with_registers(status: Status, registers: usize) -> Status
-    ensures { λ r. ⌜ r ≡ withRegisters registers status ⌝ }
+    ensures { λ r. ⌜ r ≡ withRegisterCount registers status ⌝ }
 {
     let layout = status.layout;
     let page = status.page;
@@ -127,7 +127,7 @@ pub fn with_planted(status: Status, planted: Planted) -> Status
 
 // So many texts, and this open definition.
 pub fn with_texts(status: Status, texts: usize, opening: Opening) -> Status
-    ensures { λ r. ⌜ r ≡ withTexts texts opening status ⌝ }
+    ensures { λ r. ⌜ r ≡ withTextCount texts opening status ⌝ }
 {
     let layout = status.layout;
     let page = status.page;
@@ -148,7 +148,7 @@ pub fn with_texts(status: Status, texts: usize, opening: Opening) -> Status
 
 // Another input stack.
 pub fn with_stack(status: Status, stack: Stack) -> Status
-    ensures { λ r. ⌜ r ≡ withStack stack status ⌝ }
+    ensures { λ r. ⌜ r ≡ withStatusStack stack status ⌝ }
 {
     let layout = status.layout;
     let page = status.page;

@@ -9,13 +9,13 @@ pub data Closing : Type 0 where
   refused : (number line : ℕ) → Closing
 
 -- "It answers .. needs input, needs room, done, or refused"
-pub data Reply : Type 0 where
-  needs-input : Reply
-  needs-room : Reply
-  closes : Closing → Reply
+pub data ReplyKind : Type 0 where
+  needs-input : ReplyKind
+  needs-room : ReplyKind
+  closes : Closing → ReplyKind
 
 -- what each case of the code's answer says
-abbrev pub replyOf : Answer → Reply
+abbrev pub replyOf : Answer → ReplyKind
 replyOf NeedsInput = needs-input
 replyOf NeedsRoom = needs-room
 replyOf Done = closes done

@@ -6,9 +6,9 @@ use mathlib.Core.Logic.{_⊎_, inl, inr}
 use Prim.Native.Nat.{ℕ, zero, suc, _+_, _*_, _<_, _≤_}
 use native.Mathlib.Omega.{arith}
 use lib.ListN.{length, length-append}
-use Rattle.stream.specs.Answers.{Closing, Reply, needs-input, needs-room, closes}
-use Rattle.stream.specs.Machine.{Step, works, asks, closed, Machine, Pages, before, Outcome, stop, writing, taking, flush, pagesBy, callBy, fuel, pagesFrom, callFrom, Below, Falls}
-use Rattle.stream.specs.Condition3.{Call, joined, Split, here, there, Condition3, Calls, more}
+use Rattle.stream.specs.Answers.{Closing, ReplyKind, needs-input, needs-room, closes}
+use Rattle.stream.specs.Machine.{Step, works, asks, closed, Machine, Pages, pagesAfter, Outcome, stop, writing, taking, flush, pagesBy, callBy, fuel, pagesFrom, callFrom, Below, Falls}
+use Rattle.stream.specs.Condition3.{Call, joinedBytes, Split, here, there, Condition3, Calls, moreCalls}
 
 module _ {S : Type 0} (m : Machine S) (Good : S → Type 0) (falls : Falls m Good) where
   -- the pages and the call do not depend on the fuel, if that is enough
@@ -16,7 +16,7 @@ module _ {S : Type 0} (m : Machine S) (Good : S → Type 0) (falls : Falls m Goo
       → pagesBy m n x d ≡ pagesBy m n' x d
   same-pages zero n' x d k b g h = absurd (omega arith)
   same-pages (suc n) zero x d k b g h = absurd (omega arith)
-  same-pages (suc n) (suc n') (works w s) d k b g h = ap (before w) (same-pages n n' (m .step s) d (m .load s) (falls s (b .0)) (omega arith) (omega arith))
+  same-pages (suc n) (suc n') (works w s) d k b g h = ap (pagesAfter w) (same-pages n n' (m .step s) d (m .load s) (falls s (b .0)) (omega arith) (omega arith))
   same-pages (suc n) (suc n') (asks t e) [] k b g h = same-pages n n' (m .step e) [] (m .load e) (falls e (b .0 .0)) (omega arith) (omega arith)
   same-pages (suc n) (suc n') (asks t e) (c ∷ d) k b g h =
       same-pages n n' (m .step (t c)) d (m .load (t c)) (falls (t c) (b .1 c .0)) (omega (arith, b .1 c .1)) (omega (arith, b .1 c .1))
@@ -76,33 +76,33 @@ module _ {S : Type 0} (m : Machine S) (Good : S → Type 0) (falls : Falls m Goo
   ends-by (suc n) (asks t e) (c ∷ d) k b h = ends-by n (m .step (t c)) d (m .load (t c)) (falls (t c) (b .1 c .0)) (omega (arith, b .1 c .1))
   ends-by (suc n) (closed a) d k b h = (a, refl)
 
-  pub always-ends : (s : S) → Good s → (d : List ℕ) → (a : Closing) × (pagesFrom m s d .answer ≡ closes a)
-  always-ends s k d = ends-by (fuel m s d) (m .step s) d (m .load s) (falls s k) (omega arith)
+  pub machine-ends : (s : S) → Good s → (d : List ℕ) → (a : Closing) × (pagesFrom m s d .answer ≡ closes a)
+  machine-ends s k d = ends-by (fuel m s d) (m .step s) d (m .load s) (falls s k) (omega arith)
 
   -- Why a call stopped.
-  abbrev Stops : (last : Bool) (room : ℕ) (bytes rest waiting : List ℕ) → S → Reply → Type 0
+  abbrev Stops : (last : Bool) (room : ℕ) (bytes rest waiting : List ℕ) → S → ReplyKind → Type 0
   Stops last r w rest ws s needs-room = r ≤ length w
   Stops last r w rest ws s needs-input = (rest ≡ []) × (last ≡ false)
   Stops last r w rest ws s (closes a) = (ws ≡ []) × (m .step s ≡ closed a)
 
   -- What a call did, where p is what was still to be written and d' what follows its block in the document.
   record Facts (p : Pages) (bl d' : List ℕ) (last : Bool) (r : ℕ) (o : Outcome S) : Type 0 where
-    pages : p ≡ before (o .bytes ++ o .waiting) (pagesFrom m (o .state) (o .rest ++ d'))
+    pages : p ≡ pagesAfter (o .bytes ++ o .waiting) (pagesFrom m (o .state) (o .rest ++ d'))
     parts : bl ≡ o .took ++ o .rest
     fits : length (o .bytes) ≤ r
     good : Good (o .state)
     stops : Stops last r (o .bytes) (o .rest) (o .waiting) (o .state) (o .answer)
 
-  stops-writing : (last : Bool) (r : ℕ) (w rest ws : List ℕ) (s : S) (b : ℕ) (a : Reply)
+  stops-writing : (last : Bool) (r : ℕ) (w rest ws : List ℕ) (s : S) (b : ℕ) (a : ReplyKind)
       → Stops last r w rest ws s a → Stops last (suc r) (b ∷ w) rest ws s a
   stops-writing last r w rest ws s b needs-room h = omega arith
   stops-writing last r w rest ws s b needs-input h = h
   stops-writing last r w rest ws s b (closes a) h = h
 
   facts-writing : {p : Pages} {bl d' : List ℕ} {last : Bool} {r : ℕ} {o : Outcome S} (b : ℕ)
-      → Facts p bl d' last r o → Facts (before (b ∷ []) p) bl d' last (suc r) (writing b o)
+      → Facts p bl d' last r o → Facts (pagesAfter (b ∷ []) p) bl d' last (suc r) (writing b o)
   facts-writing {last = last} {r = r} {o = o} b f = record {
-    pages = ap (before (b ∷ [])) (f .pages);
+    pages = ap (pagesAfter (b ∷ [])) (f .pages);
     parts = f .parts;
     fits = let h = f .fits in omega arith;
     good = f .good;
@@ -110,8 +110,8 @@ module _ {S : Type 0} (m : Machine S) (Good : S → Type 0) (falls : Falls m Goo
   }
 
   facts-flush : (p : Pages) (bl d' : List ℕ) (last : Bool) (full : List ℕ → Outcome S) (go : ℕ → Outcome S)
-      → ((ws : List ℕ) → Facts (before ws p) bl d' last 0 (full ws)) → ((r : ℕ) → Facts p bl d' last r (go r))
-      → (ws : List ℕ) (r : ℕ) → Facts (before ws p) bl d' last r (flush full go ws r)
+      → ((ws : List ℕ) → Facts (pagesAfter ws p) bl d' last 0 (full ws)) → ((r : ℕ) → Facts p bl d' last r (go r))
+      → (ws : List ℕ) (r : ℕ) → Facts (pagesAfter ws p) bl d' last r (flush full go ws r)
   facts-flush p bl d' last full go hf hg [] r = hg r
   facts-flush p bl d' last full go hf hg (b ∷ ws) zero = hf (b ∷ ws)
   facts-flush p bl d' last full go hf hg (b ∷ ws) (suc r) = facts-writing b (facts-flush p bl d' last full go hf hg ws r)
@@ -129,7 +129,7 @@ module _ {S : Type 0} (m : Machine S) (Good : S → Type 0) (falls : Falls m Goo
       let f = below s (works w s') k q in
       facts-flush (pagesBy m n' (m .step s') (bl ++ d')) bl d' last (λ ws. stop s' bl ws needs-room) (λ r'. callBy m n s' (m .step s') bl last r')
       (λ ws. record {
-        pages = ap (before ws) (enough s' (m .step s') (f .0) refl (bl ++ d') n' (omega (arith, f .1)));
+        pages = ap (pagesAfter ws) (enough s' (m .step s') (f .0) refl (bl ++ d') n' (omega (arith, f .1)));
         parts = refl;
         fits = omega arith;
         good = f .0;
@@ -153,7 +153,7 @@ module _ {S : Type 0} (m : Machine S) (Good : S → Type 0) (falls : Falls m Goo
       record { pages = enough s (closed a) k q (bl ++ d') (suc n') h; parts = refl; fits = omega arith; good = k; stops = (refl, q) }
 
   facts-call : (ws : List ℕ) (s : S) → Good s → (bl d' : List ℕ) (last : Bool) (r : ℕ) → (last ≡ true → d' ≡ [])
-      → Facts (before ws (pagesFrom m s (bl ++ d'))) bl d' last r (callFrom m ws s bl last r)
+      → Facts (pagesAfter ws (pagesFrom m s (bl ++ d'))) bl d' last r (callFrom m ws s bl last r)
   facts-call ws s k bl d' last r z =
       facts-flush (pagesFrom m s (bl ++ d')) bl d' last (λ ws'. stop s bl ws' needs-room) (λ r'. callBy m (fuel m s bl) s (m .step s) bl last r')
       (λ ws'. record { pages = refl; parts = refl; fits = omega arith; good = k; stops = omega arith })
@@ -166,71 +166,71 @@ module _ {S : Type 0} (m : Machine S) (Good : S → Type 0) (falls : Falls m Goo
   call-parts ws s k bl last r = facts-call ws s k bl [] last r (λ e. refl) .parts
 
   known : (ws : List ℕ) (s : S) → Good s → (d bl d' : List ℕ) (last : Bool) (r : ℕ) → d ≡ bl ++ d' → (last ≡ true → d' ≡ [])
-      → (o : Outcome S) → o ≡ callFrom m ws s bl last r → Facts (before ws (pagesFrom m s d)) bl d' last r o
+      → (o : Outcome S) → o ≡ callFrom m ws s bl last r → Facts (pagesAfter ws (pagesFrom m s d)) bl d' last r o
   known ws s k d bl d' last r p z o q =
-      subst (λ v. Facts (before ws (pagesFrom m s d)) bl d' last r v) (sym q)
-      (subst (λ l. Facts (before ws (pagesFrom m s l)) bl d' last r (callFrom m ws s bl last r)) (sym p) (facts-call ws s k bl d' last r z))
+      subst (λ v. Facts (pagesAfter ws (pagesFrom m s d)) bl d' last r v) (sym q)
+      (subst (λ l. Facts (pagesAfter ws (pagesFrom m s l)) bl d' last r (callFrom m ws s bl last r)) (sym p) (facts-call ws s k bl d' last r z))
 
   -- what is written before and by a call of a list that began with the text w
   regroup : (w a b l : List ℕ) → ((w ++ a) ++ b) ++ l ≡ w ++ ((a ++ b) ++ l)
   regroup w a b l = simp append-assoc
 
   begins : {ws : List ℕ} {s : S} {d : List ℕ} {calls earlier later : List Call} {c : Call} → Good s → Calls m ws s d calls → Split calls earlier c later
-      → (more : List ℕ) × ((joined earlier ++ c .bytes) ++ more ≡ before ws (pagesFrom m s d) .bytes)
-  begins k (more {ws = ws} {s = s} {d = d} bl d' last r p z o q cs) here =
+      → (more : List ℕ) × ((joinedBytes earlier ++ c .bytes) ++ more ≡ pagesAfter ws (pagesFrom m s d) .bytes)
+  begins k (moreCalls {ws = ws} {s = s} {d = d} bl d' last r p z o q cs) here =
       let f = known ws s k d bl d' last r p z o q in
       (o .waiting ++ pagesFrom m (o .state) (o .rest ++ d') .bytes, sym (append-assoc (o .bytes) (o .waiting) _) ∙ sym (ap (λ g. g .bytes) (f .pages)))
-  begins k (more {ws = ws} {s = s} {d = d} bl d' last r p z o q cs) (there {c = c} {earlier = earlier} sp) =
+  begins k (moreCalls {ws = ws} {s = s} {d = d} bl d' last r p z o q cs) (there {c = c} {earlier = earlier} sp) =
       let f = known ws s k d bl d' last r p z o q in
       let i = begins (f .good) cs sp in (
         i .0,
-        regroup (o .bytes) (joined earlier) (c .bytes) (i .0) ∙ ap (λ l. o .bytes ++ l) (i .1)
+        regroup (o .bytes) (joinedBytes earlier) (c .bytes) (i .0) ∙ ap (λ l. o .bytes ++ l) (i .1)
             ∙ sym (append-assoc (o .bytes) (o .waiting) _) ∙ sym (ap (λ g. g .bytes) (f .pages)),
       )
 
   -- once closed, with nothing waiting, every call only repeats the answer
   repeats-closed : {ws : List ℕ} {s : S} {d : List ℕ} {calls earlier later : List Call} {c : Call} → Calls m ws s d calls → Split calls earlier c later
       → (a : Closing) → ws ≡ [] → m .step s ≡ closed a → (c .answer ≡ closes a) × (c .taken ≡ 0) × (c .bytes ≡ [])
-  repeats-closed (more {s = s} bl d' last r p z o q cs) here a e g =
+  repeats-closed (moreCalls {s = s} bl d' last r p z o q cs) here a e g =
       let h : o ≡ stop s bl [] (closes a) = q ∙ rw (e, call-closed s a g bl last r) in
       (ap (λ v. v .answer) h, ap (λ v. length (v .took)) h, ap (λ v. v .bytes) h)
-  repeats-closed (more {s = s} bl d' last r p z o q cs) (there sp) a e g =
+  repeats-closed (moreCalls {s = s} bl d' last r p z o q cs) (there sp) a e g =
       let h : o ≡ stop s bl [] (closes a) = q ∙ rw (e, call-closed s a g bl last r) in
       repeats-closed cs sp a (ap (λ v. v .waiting) h) (ap (λ v. m .step (v .state)) h ∙ g)
 
   -- why a call stopped, at the answer that it gave
-  stopped : {p : Pages} {bl d' : List ℕ} {last : Bool} {r : ℕ} {o : Outcome S} → Facts p bl d' last r o → (a : Reply) → o .answer ≡ a
+  stopped : {p : Pages} {bl d' : List ℕ} {last : Bool} {r : ℕ} {o : Outcome S} → Facts p bl d' last r o → (a : ReplyKind) → o .answer ≡ a
       → Stops last r (o .bytes) (o .rest) (o .waiting) (o .state) a
   stopped {last = last} {r = r} {o = o} f a e = subst (λ v. Stops last r (o .bytes) (o .rest) (o .waiting) (o .state) v) e (f .stops)
 
   repeats : {ws : List ℕ} {s : S} {d : List ℕ} {calls earlier later between after : List Call} {c l : Call} → Good s → Calls m ws s d calls
       → Split calls earlier c later → (a : Closing) → c .answer ≡ closes a → Split later between l after → (l .answer ≡ closes a) × (l .taken ≡ 0) × (l .bytes ≡ [])
-  repeats k (more {ws = ws} {s = s} {d = d} bl d' last r p z o q cs) here a e late =
+  repeats k (moreCalls {ws = ws} {s = s} {d = d} bl d' last r p z o q cs) here a e late =
       let t = stopped (known ws s k d bl d' last r p z o q) (closes a) e in
       repeats-closed cs late a (t .0) (t .1)
-  repeats k (more {ws = ws} {s = s} {d = d} bl d' last r p z o q cs) (there sp) a e late = repeats (known ws s k d bl d' last r p z o q .good) cs sp a e late
+  repeats k (moreCalls {ws = ws} {s = s} {d = d} bl d' last r p z o q cs) (there sp) a e late = repeats (known ws s k d bl d' last r p z o q .good) cs sp a e late
 
   pages-closed : (s : S) (a : Closing) (d : List ℕ) → m .step s ≡ closed a → pagesFrom m s d ≡ record { bytes = []; answer = closes a }
   pages-closed s a d e = ap (λ y. pagesBy m (fuel m s d) y d) e
 
   completes : {ws : List ℕ} {s : S} {d : List ℕ} {calls earlier later : List Call} {c : Call} → Good s → Calls m ws s d calls → Split calls earlier c later
-      → (a : Closing) → c .answer ≡ closes a → (pagesFrom m s d .answer ≡ closes a) × (joined earlier ++ c .bytes ≡ before ws (pagesFrom m s d) .bytes)
-  completes k (more {ws = ws} {s = s} {d = d} bl d' last r p z o q cs) here a e =
+      → (a : Closing) → c .answer ≡ closes a → (pagesFrom m s d .answer ≡ closes a) × (joinedBytes earlier ++ c .bytes ≡ pagesAfter ws (pagesFrom m s d) .bytes)
+  completes k (moreCalls {ws = ws} {s = s} {d = d} bl d' last r p z o q cs) here a e =
       let f = known ws s k d bl d' last r p z o q in
       let t = stopped f (closes a) e in
-      let g : before ws (pagesFrom m s d) ≡ before (o .bytes ++ []) (record { bytes = []; answer = closes a }) =
+      let g : pagesAfter ws (pagesFrom m s d) ≡ pagesAfter (o .bytes ++ []) (record { bytes = []; answer = closes a }) =
       f .pages ∙ rw (t .0, pages-closed (o .state) a (o .rest ++ d') (t .1)) in
       (ap (λ v. v .answer) g, sym (append-nil (o .bytes)) ∙ sym (append-nil (o .bytes ++ [])) ∙ sym (ap (λ v. v .bytes) g))
-  completes k (more {ws = ws} {s = s} {d = d} bl d' last r p z o q cs) (there {c = c} {earlier = earlier} sp) a e =
+  completes k (moreCalls {ws = ws} {s = s} {d = d} bl d' last r p z o q cs) (there {c = c} {earlier = earlier} sp) a e =
       let f = known ws s k d bl d' last r p z o q in
       let i = completes (f .good) cs sp a e in (
         ap (λ v. v .answer) (f .pages) ∙ i .0,
-        append-assoc (o .bytes) (joined earlier) (c .bytes) ∙ ap (λ l. o .bytes ++ l) (i .1)
+        append-assoc (o .bytes) (joinedBytes earlier) (c .bytes) ∙ ap (λ l. o .bytes ++ l) (i .1)
             ∙ sym (append-assoc (o .bytes) (o .waiting) _) ∙ sym (ap (λ g. g .bytes) (f .pages)),
       )
 
   -- a call that stopped, had room and was offered something moved
-  moved : {p : Pages} {bl d' : List ℕ} {last : Bool} {r : ℕ} {o : Outcome S} → Facts p bl d' last r o → (a : Reply) → o .answer ≡ a
+  moved : {p : Pages} {bl d' : List ℕ} {last : Bool} {r : ℕ} {o : Outcome S} → Facts p bl d' last r o → (a : ReplyKind) → o .answer ≡ a
       → 0 < r → (0 < length bl) ⊎ (last ≡ true) → (0 < length (o .took)) ⊎ ((0 < length (o .bytes)) ⊎ ((v : Closing) × (a ≡ closes v)))
   moved f needs-room e h g = let t = stopped f needs-room e in inr (inl (omega arith))
   moved f (closes v) e h g = inr (inr (v, refl))
@@ -243,19 +243,19 @@ module _ {S : Type 0} (m : Machine S) (Good : S → Type 0) (falls : Falls m Goo
 
   moves : {ws : List ℕ} {s : S} {d : List ℕ} {calls earlier later : List Call} {c : Call} → Good s → Calls m ws s d calls → Split calls earlier c later
       → 0 < c .room → (0 < length (c .block)) ⊎ (c .last ≡ true) → (0 < c .taken) ⊎ ((0 < length (c .bytes)) ⊎ ((a : Closing) × (c .answer ≡ closes a)))
-  moves k (more {ws = ws} {s = s} {d = d} bl d' last r p z o q cs) here h g = moved (known ws s k d bl d' last r p z o q) (o .answer) refl h g
-  moves k (more {ws = ws} {s = s} {d = d} bl d' last r p z o q cs) (there sp) h g = moves (known ws s k d bl d' last r p z o q .good) cs sp h g
+  moves k (moreCalls {ws = ws} {s = s} {d = d} bl d' last r p z o q cs) here h g = moved (known ws s k d bl d' last r p z o q) (o .answer) refl h g
+  moves k (moreCalls {ws = ws} {s = s} {d = d} bl d' last r p z o q cs) (there sp) h g = moves (known ws s k d bl d' last r p z o q .good) cs sp h g
 
   within : {ws : List ℕ} {s : S} {d : List ℕ} {calls earlier later : List Call} {c : Call} → Good s → Calls m ws s d calls → Split calls earlier c later
       → (c .taken ≤ length (c .block)) × (length (c .bytes) ≤ c .room)
-  within k (more {ws = ws} {s = s} {d = d} bl d' last r p z o q cs) here =
+  within k (moreCalls {ws = ws} {s = s} {d = d} bl d' last r p z o q cs) here =
       let f = known ws s k d bl d' last r p z o q in
       (omega (arith, ap length (f .parts), length-append (o .took) (o .rest)), f .fits)
-  within k (more {ws = ws} {s = s} {d = d} bl d' last r p z o q cs) (there sp) = within (known ws s k d bl d' last r p z o q .good) cs sp
+  within k (moreCalls {ws = ws} {s = s} {d = d} bl d' last r p z o q cs) (there sp) = within (known ws s k d bl d' last r p z o q .good) cs sp
 
   -- Condition 3 of every list of calls.
-  pub condition-3 : {ws : List ℕ} {s : S} {d : List ℕ} {calls : List Call} → Good s → Calls m ws s d calls → Condition3 (before ws (pagesFrom m s d)) calls
-  condition-3 k cs = record {
+  pub machine-condition-3 : {ws : List ℕ} {s : S} {d : List ℕ} {calls : List Call} → Good s → Calls m ws s d calls → Condition3 (pagesAfter ws (pagesFrom m s d)) calls
+  machine-condition-3 k cs = record {
     begins = λ sp. begins k cs sp;
     completes = λ sp. completes k cs sp;
     repeats = λ sp. repeats k cs sp;

@@ -3,7 +3,7 @@ use mathlib.Core.Bool.{Bool, true, false}
 use mathlib.Core.List.{List, [], _∷_, _++_}
 use Prim.Native.Nat.{ℕ, zero, suc, _+_, _*_, _<_}
 use lib.ListN.{length}
-use Rattle.stream.specs.Answers.{Closing, Reply, needs-input, needs-room, closes}
+use Rattle.stream.specs.Answers.{Closing, ReplyKind, needs-input, needs-room, closes}
 
 -- What a state does next: it works, and leaves a text to be written first; it asks for a byte, or for the end; or it is closed.
 pub data Step (S : Type 0) : Type 0 where
@@ -20,23 +20,23 @@ pub record Machine (S : Type 0) : Type 0 where
 -- The pages of a document and its closing answer.
 pub record Pages : Type 0 where
   pub bytes : List ℕ
-  pub answer : Reply
+  pub answer : ReplyKind
 
 -- the text w, then these pages
-abbrev pub before : List ℕ → Pages → Pages
-before w p = record { bytes = w ++ p .bytes; answer = p .answer }
+abbrev pub pagesAfter : List ℕ → Pages → Pages
+pagesAfter w p = record { bytes = w ++ p .bytes; answer = p .answer }
 
 -- What one call does: the bytes it takes and writes, what it leaves of its block, its answer, and the waiting text and the state after it.
 pub record Outcome (S : Type 0) : Type 0 where
   pub took : List ℕ
   pub bytes : List ℕ
   pub rest : List ℕ
-  pub answer : Reply
+  pub answer : ReplyKind
   pub waiting : List ℕ
   pub state : S
 
 module _ {S : Type 0} where
-  abbrev pub stop : S → (block waiting : List ℕ) → Reply → Outcome S
+  abbrev pub stop : S → (block waiting : List ℕ) → ReplyKind → Outcome S
   stop s bl ws a = record { took = []; bytes = []; rest = bl; answer = a; waiting = ws; state = s }
 
   abbrev pub writing : ℕ → Outcome S → Outcome S
@@ -52,10 +52,10 @@ module _ {S : Type 0} where
   flush full go (b ∷ ws) (suc r) = writing b (flush full go ws r)
 
   module _ (m : Machine S) where
-    -- the pages of the document d from a step on; n is the fuel, which is never used up (Laws, `always-ends`)
+    -- the pages of the document d from a step on; n is the fuel, which is never used up (Laws, `machine-ends`)
     abbrev pub pagesBy : (n : ℕ) → Step S → (d : List ℕ) → Pages
     pagesBy zero x d = record { bytes = []; answer = needs-input }
-    pagesBy (suc n) (works w s) d = before w (pagesBy n (m .step s) d)
+    pagesBy (suc n) (works w s) d = pagesAfter w (pagesBy n (m .step s) d)
     pagesBy (suc n) (asks t e) [] = pagesBy n (m .step e) []
     pagesBy (suc n) (asks t e) (b ∷ d) = pagesBy n (m .step (t b)) d
     pagesBy (suc n) (closed a) d = record { bytes = []; answer = closes a }

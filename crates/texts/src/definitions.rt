@@ -1,7 +1,7 @@
 // Strings and macros are defined, in the place of what had their name.
-use super::table::Kept;
-use super::table::Place;
-use super::table::Stored;
+use super::table::KeptLine;
+use super::table::TextCount;
+use super::table::TextPlace;
 use rules::Name;
 use rules::arrays::ByteColumn;
 use rules::arrays::LengthColumn;
@@ -11,7 +11,7 @@ ghost use Prim.Native.Nat.{_+_, _<_, _≤_, _-_};
 ghost use lib.Dec.{ltb};
 ghost use lib.Seq.{paste};
 ghost use lib.ListN.{length, take};
-ghost use Rattle.texts.specs.Table.Table.{sum, Lies};
+ghost use Rattle.texts.specs.Table.Table.{totalLength, TextsInvariant};
 ghost use Rattle.texts.specs.Table.Changes.{Entered, Appended, DefinedTo, Opens, OpenedTo, KeptTo, ClosedTo};
 
 // `text` is written at a place.
@@ -69,7 +69,7 @@ fn append(
     code: u8,
     text: &[u8],
 ) -> usize
-    requires { ⌜ (Lies (now store) (now firsts) (now seconds) (now kinds) (now lengths) count) × (count < 64) × (sum (take count (now lengths)) + length (now text) ≤ length (now store)) × (length (now text) ≤ 8192) ⌝ }
+    requires { ⌜ (TextsInvariant (now store) (now firsts) (now seconds) (now kinds) (now lengths) count) × (count < 64) × (totalLength (take count (now lengths)) + length (now text) ≤ length (now store)) × (length (now text) ≤ 8192) ⌝ }
     ensures { λ r. ⌜ Appended (now (store .entry)) (now (firsts .entry)) (now (seconds .entry)) (now (kinds .entry)) (now (lengths .entry)) count name code (now (text .entry)) r (now (store .exit)) (now (firsts .exit)) (now (seconds .exit)) (now (kinds .exit)) (now (lengths .exit)) ⌝ }
 {
     let at = super::table::start_of(&*lengths, count);
@@ -98,17 +98,17 @@ pub fn define_string(
     count: usize,
     name: Name,
     text: &[u8],
-) -> Stored
-    requires { ⌜ Lies (now store) (now firsts) (now seconds) (now kinds) (now lengths) count ⌝ }
+) -> TextCount
+    requires { ⌜ TextsInvariant (now store) (now firsts) (now seconds) (now kinds) (now lengths) count ⌝ }
     ensures { λ r. ⌜ DefinedTo (now (store .entry)) (now (firsts .entry)) (now (seconds .entry)) (now (kinds .entry)) (now (lengths .entry)) count name (now (text .entry)) r (now (store .exit)) (now (firsts .exit)) (now (seconds .exit)) (now (kinds .exit)) (now (lengths .exit)) ⌝ }
 {
     let live = super::table::start_of(&*lengths, count);
     let room = super::table::room_of(store.len());
     match super::table::find(&*firsts, &*seconds, count, name) {
-        Place::At(i) => {
+        TextPlace::At(i) => {
             let old = lengths[i] as usize;
             if too_long(room, live - old, text.len()) {
-                return Stored::Full;
+                return TextCount::Full;
             }
             super::removal::take_out(
                 store,
@@ -119,7 +119,7 @@ pub fn define_string(
                 count,
                 i,
             );
-            Stored::Set(append(
+            TextCount::Set(append(
                 store,
                 &mut *firsts,
                 &mut *seconds,
@@ -131,14 +131,14 @@ pub fn define_string(
                 text,
             ))
         }
-        Place::Not => {
+        TextPlace::Not => {
             if TABLE_SIZE <= count {
-                return Stored::Full;
+                return TextCount::Full;
             }
             if too_long(room, live, text.len()) {
-                return Stored::Full;
+                return TextCount::Full;
             }
-            Stored::Set(append(
+            TextCount::Set(append(
                 store,
                 &mut *firsts,
                 &mut *seconds,
@@ -162,12 +162,12 @@ pub fn open_macro(
     lengths: &mut LengthColumn,
     count: usize,
     name: Name,
-) -> Stored
-    requires { ⌜ Lies (now store) (now firsts) (now seconds) (now kinds) (now lengths) count ⌝ }
+) -> TextCount
+    requires { ⌜ TextsInvariant (now store) (now firsts) (now seconds) (now kinds) (now lengths) count ⌝ }
     ensures { λ r. ⌜ OpenedTo (now (store .entry)) (now (firsts .entry)) (now (seconds .entry)) (now (kinds .entry)) (now (lengths .entry)) count name r (now (store .exit)) (now (firsts .exit)) (now (seconds .exit)) (now (kinds .exit)) (now (lengths .exit)) ⌝ }
 {
     match super::table::find(&*firsts, &*seconds, count, name) {
-        Place::At(i) => {
+        TextPlace::At(i) => {
             super::removal::take_out(
                 store,
                 &mut *firsts,
@@ -177,13 +177,13 @@ pub fn open_macro(
                 count,
                 i,
             );
-            Stored::Set(count - 1)
+            TextCount::Set(count - 1)
         }
-        Place::Not => {
+        TextPlace::Not => {
             if count < TABLE_SIZE {
-                return Stored::Set(count);
+                return TextCount::Set(count);
             }
-            Stored::Full
+            TextCount::Full
         }
     }
 }
@@ -195,7 +195,7 @@ pub fn keep_line(
     count: usize,
     opened: usize,
     line: &[u8],
-) -> Kept
+) -> KeptLine
     requires { ⌜ Opens (now store) (now lengths) count opened ⌝ }
     ensures { λ r. ⌜ KeptTo (now (store .entry)) (now (lengths .entry)) count opened (now (line .entry)) r (now (store .exit)) ⌝ }
 {
@@ -203,11 +203,11 @@ pub fn keep_line(
     let room = super::table::room_of(store.len());
     let more = line.len() + 1;
     if too_long(room, at, more) {
-        return Kept::Full;
+        return KeptLine::Full;
     }
     copy_in(store, at, line);
     store[at + line.len()] = b'\n';
-    Kept::Longer(opened + more)
+    KeptLine::Longer(opened + more)
 }
 
 // "A macro exists once closed"
@@ -221,7 +221,7 @@ pub fn close_macro(
     opened: usize,
     name: Name,
 ) -> usize
-    requires { ⌜ (Lies (now store) (now firsts) (now seconds) (now kinds) (now lengths) count) × Opens (now store) (now lengths) count opened ⌝ }
+    requires { ⌜ (TextsInvariant (now store) (now firsts) (now seconds) (now kinds) (now lengths) count) × Opens (now store) (now lengths) count opened ⌝ }
     ensures { λ r. ⌜ ClosedTo (now (store .entry)) (now (firsts .entry)) (now (seconds .entry)) (now (kinds .entry)) (now (lengths .entry)) count opened name r (now (firsts .exit)) (now (seconds .exit)) (now (kinds .exit)) (now (lengths .exit)) ⌝ }
 {
     let size = opened as u16;

@@ -6,7 +6,7 @@ ghost use Rattle.rules.specs.Lines.{isClosing};
 ghost use Rattle.texts.specs.Lines.Lines.{firstLine, nextLine, TopInside, isPair};
 
 // A part of the store, from a place up to another.
-pub struct Part {
+pub struct StorePart {
     pub at: usize,
     pub end: usize,
 }
@@ -16,9 +16,9 @@ pub enum Top {
     // so many gathered bytes of the source
     Source(usize),
     // what is left of a macro
-    Lines(Part),
+    Lines(StorePart),
     // a string that was called by its name: one line
-    Whole(Part),
+    Whole(StorePart),
 }
 
 // The place of the first newline, or the length.

@@ -1,5 +1,5 @@
 // A text is taken out of the store and the table: what lies behind it moves down.
-use super::table::Place;
+use super::table::TextPlace;
 use rules::Name;
 use rules::arrays::ByteColumn;
 use rules::arrays::LengthColumn;
@@ -7,8 +7,8 @@ ghost use mathlib.Core.Path.{_≡_};
 ghost use Prim.Native.Nat.{_+_, _<_, _≤_, _-_};
 ghost use lib.Seq.{paste};
 ghost use lib.ListN.{length, drop};
-ghost use Rattle.texts.specs.Table.Table.{Lies};
-ghost use Rattle.texts.specs.Table.Changes.{closed, TakenOut, RemovedTo};
+ghost use Rattle.texts.specs.Table.Table.{TextsInvariant};
+ghost use Rattle.texts.specs.Table.Changes.{closedUp, TakenOut, RemovedTo};
 
 // The bytes from `from` up to `end` move down to `to`.
 fn move_down(store: &mut [u8], to: usize, from: usize, end: usize)
@@ -27,7 +27,7 @@ fn move_down(store: &mut [u8], to: usize, from: usize, end: usize)
 // The rows behind a place, up to `count`, move up by one.
 fn close_byte(column: &mut ByteColumn, place: usize, count: usize)
     requires { ⌜ (place < count) × (count ≤ 64) × (length (now column) ≡ 64) ⌝ }
-    ensures { λ _. ⌜ now (column .exit) ≡ closed (now (column .entry)) place (count - 1 - place) ⌝ }
+    ensures { λ _. ⌜ now (column .exit) ≡ closedUp (now (column .entry)) place (count - 1 - place) ⌝ }
 {
     let last = count - 1;
     let mut i = place;
@@ -41,7 +41,7 @@ fn close_byte(column: &mut ByteColumn, place: usize, count: usize)
 // The same for the column of lengths.
 fn close_length(column: &mut LengthColumn, place: usize, count: usize)
     requires { ⌜ (place < count) × (count ≤ 64) × (length (now column) ≡ 64) ⌝ }
-    ensures { λ _. ⌜ now (column .exit) ≡ closed (now (column .entry)) place (count - 1 - place) ⌝ }
+    ensures { λ _. ⌜ now (column .exit) ≡ closedUp (now (column .entry)) place (count - 1 - place) ⌝ }
 {
     let last = count - 1;
     let mut i = place;
@@ -62,7 +62,7 @@ pub fn take_out(
     count: usize,
     i: usize,
 )
-    requires { ⌜ (Lies (now store) (now firsts) (now seconds) (now kinds) (now lengths) count) × (i < count) ⌝ }
+    requires { ⌜ (TextsInvariant (now store) (now firsts) (now seconds) (now kinds) (now lengths) count) × (i < count) ⌝ }
     ensures { λ _. ⌜ TakenOut (now (store .entry)) (now (firsts .entry)) (now (seconds .entry)) (now (kinds .entry)) (now (lengths .entry)) count i (now (store .exit)) (now (firsts .exit)) (now (seconds .exit)) (now (kinds .exit)) (now (lengths .exit)) ⌝ }
 {
     let to = super::table::start_of(&*lengths, i);
@@ -85,11 +85,11 @@ pub fn remove(
     count: usize,
     name: Name,
 ) -> usize
-    requires { ⌜ Lies (now store) (now firsts) (now seconds) (now kinds) (now lengths) count ⌝ }
+    requires { ⌜ TextsInvariant (now store) (now firsts) (now seconds) (now kinds) (now lengths) count ⌝ }
     ensures { λ r. ⌜ RemovedTo (now (store .entry)) (now (firsts .entry)) (now (seconds .entry)) (now (kinds .entry)) (now (lengths .entry)) count name r (now (store .exit)) (now (firsts .exit)) (now (seconds .exit)) (now (kinds .exit)) (now (lengths .exit)) ⌝ }
 {
     match super::table::find(&*firsts, &*seconds, count, name) {
-        Place::At(i) => {
+        TextPlace::At(i) => {
             take_out(
                 store,
                 &mut *firsts,
@@ -101,6 +101,6 @@ pub fn remove(
             );
             count - 1
         }
-        Place::Not => count,
+        TextPlace::Not => count,
     }
 }

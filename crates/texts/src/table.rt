@@ -10,13 +10,13 @@ ghost use Prim.Native.Nat.{_+_, _<_, _-_};
 ghost use lib.ListN.{length, getD, take, drop};
 ghost use Rattle.rules.specs.Names.{twoBytes, sameName};
 ghost use Rattle.rules.specs.Texts.{textOf};
-ghost use Rattle.texts.specs.Table.Table.{kindOf, namesOf, sum, textsOf, Names, Lies, Starts};
-ghost use Rattle.texts.specs.Table.Places.{placeOf, bytesOr, LookedUp};
+ghost use Rattle.texts.specs.Table.Table.{kindOf, namesOf, totalLength, textsOf, Names, TextsInvariant, TextStarts};
+ghost use Rattle.texts.specs.Table.Places.{textPlace, bytesOr, LookedUp};
 ghost use Rattle.texts.specs.Table.Changes.{roomOf};
-ghost use Rattle.texts.specs.Table.Checks.{NameColumns, isTable, lacks, noNameTwice};
+ghost use Rattle.texts.specs.Table.Checks.{NameColumns, isTextTable, lacksName, noNameTwice};
 
 // The place of a name in the table, if it is there.
-pub enum Place {
+pub enum TextPlace {
     At(usize),
     Not,
 }
@@ -29,19 +29,19 @@ pub struct Spot {
 }
 
 // A text, if there is one.
-pub enum Found {
+pub enum FoundText {
     There(Spot),
     Nothing,
 }
 
 // How many texts there are after a change, or no room for it.
-pub enum Stored {
+pub enum TextCount {
     Set(usize),
     Full,
 }
 
 // How many bytes the body of an open definition has, or no room for the line.
-pub enum Kept {
+pub enum KeptLine {
     Longer(usize),
     Full,
 }
@@ -59,24 +59,24 @@ fn same_at(firsts: &ByteColumn, seconds: &ByteColumn, i: usize, name: Name) -> b
     false
 }
 
-pub fn find(firsts: &ByteColumn, seconds: &ByteColumn, count: usize, name: Name) -> Place
+pub fn find(firsts: &ByteColumn, seconds: &ByteColumn, count: usize, name: Name) -> TextPlace
     requires { ⌜ Names (now firsts) (now seconds) count ⌝ }
-    ensures { λ r. ⌜ r ≡ placeOf name (namesOf (now (firsts .entry)) (now (seconds .entry)) count) ⌝ }
+    ensures { λ r. ⌜ r ≡ textPlace name (namesOf (now (firsts .entry)) (now (seconds .entry)) count) ⌝ }
 {
     let mut i = 0;
     while i < count {
         if same_at(firsts, seconds, i, name) {
-            return Place::At(i);
+            return TextPlace::At(i);
         }
         i += 1;
     }
-    Place::Not
+    TextPlace::Not
 }
 
 // The sum of the first `k` lengths: the place of text `k`.
 pub fn start_of(lengths: &LengthColumn, k: usize) -> usize
-    requires { ⌜ Starts (now lengths) k ⌝ }
-    ensures { λ r. ⌜ r ≡ sum (take k (now (lengths .entry))) ⌝ }
+    requires { ⌜ TextStarts (now lengths) k ⌝ }
+    ensures { λ r. ⌜ r ≡ totalLength (take k (now (lengths .entry))) ⌝ }
 {
     let mut total: usize = 0;
     let mut i: usize = 0;
@@ -102,21 +102,21 @@ pub fn look_up(
     lengths: &LengthColumn,
     count: usize,
     name: Name,
-) -> Found
-    requires { ⌜ Lies (now store) (now firsts) (now seconds) (now kinds) (now lengths) count ⌝ }
+) -> FoundText
+    requires { ⌜ TextsInvariant (now store) (now firsts) (now seconds) (now kinds) (now lengths) count ⌝ }
     ensures { λ r. ⌜ LookedUp (now (store .entry)) (now (firsts .entry)) (now (seconds .entry)) (now (kinds .entry)) (now (lengths .entry)) count name r ⌝ }
 {
     match find(firsts, seconds, count, name) {
-        Place::At(i) => {
+        TextPlace::At(i) => {
             let code = kinds[i];
             let length = lengths[i] as usize;
-            Found::There(Spot {
+            FoundText::There(Spot {
                 kind: kind_of(code),
                 at: start_of(lengths, i),
                 length,
             })
         }
-        Place::Not => Found::Nothing,
+        TextPlace::Not => FoundText::Nothing,
     }
 }
 
@@ -130,16 +130,16 @@ pub fn text_bytes<'a>(
     count: usize,
     name: Name,
 ) -> &'a [u8]
-    requires { ⌜ Lies (now store) (now firsts) (now seconds) (now kinds) (now lengths) count ⌝ }
+    requires { ⌜ TextsInvariant (now store) (now firsts) (now seconds) (now kinds) (now lengths) count ⌝ }
     ensures { λ r. ⌜ now r ≡ bytesOr (textOf name (textsOf (now (store .entry)) (now (firsts .entry)) (now (seconds .entry)) (now (kinds .entry)) (now (lengths .entry)) count)) ⌝ }
 {
     match look_up(store, firsts, seconds, kinds, lengths, count, name) {
-        Found::There(spot) => {
+        FoundText::There(spot) => {
             let at = spot.at;
             let end = at + spot.length;
             &store[at..end]
         }
-        Found::Nothing => &store[0..0],
+        FoundText::Nothing => &store[0..0],
     }
 }
 
@@ -163,7 +163,7 @@ fn wide(size: u16) -> usize
 
 // Whether the first texts are at most 8,192 bytes and lie within a store of so many.
 pub fn is_table(store: usize, lengths: &LengthColumn, count: usize) -> bool
-    ensures { λ r. ⌜ r ≡ isTable store (now (lengths .entry)) count ⌝ }
+    ensures { λ r. ⌜ r ≡ isTextTable store (now (lengths .entry)) count ⌝ }
 {
     if TABLE_SIZE < count {
         return false;
@@ -191,7 +191,7 @@ fn lacks_name(
     name: Name,
 ) -> bool
     requires { ⌜ Names (now firsts) (now seconds) count ⌝ }
-    ensures { λ r. ⌜ r ≡ lacks name (drop place (namesOf (now (firsts .entry)) (now (seconds .entry)) count)) ⌝ }
+    ensures { λ r. ⌜ r ≡ lacksName name (drop place (namesOf (now (firsts .entry)) (now (seconds .entry)) count)) ⌝ }
 {
     let mut i = place;
     while i < count {

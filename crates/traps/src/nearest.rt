@@ -1,5 +1,5 @@
 // The trap that a row of the page meets, and the nearest below it.
-use super::table::Found;
+use super::table::FoundTrap;
 use super::table::Planted;
 use measure::Rows;
 use rules::Trap;
@@ -8,16 +8,16 @@ ghost use Prim.Native.Nat.{_≤_};
 ghost use lib.ListN.{take};
 ghost use Rattle.measure.specs.Counts.{downOf, rowsDown};
 ghost use Rattle.rules.specs.Traps.{rowOf, isRow, nearer, seenAt, nearestTrap};
-ghost use Rattle.traps.specs.Table.Table.{Within, plantedOf, rowIs, foundIs};
+ghost use Rattle.traps.specs.Table.Table.{TrapsInvariant, plantedOf, rowIs, foundIs};
 
 // Where a trap stands on a page.
-enum Row {
+enum TrapRow {
     At(usize),
     Asleep,
 }
 
 // The row of a trap on a page of that many rows: one below 0 is counted up from the page end.
-fn row_of(place: Rows, page: usize) -> Row
+fn row_of(place: Rows, page: usize) -> TrapRow
     ensures { λ r. ⌜ rowIs r ≡ rowOf page (place .0) ⌝ }
 {
     let n = place.0;
@@ -25,15 +25,15 @@ fn row_of(place: Rows, page: usize) -> Row
         // -1 is the last row: 0 rows are below it
         let below = (-1 - n) as usize;
         if below < page {
-            return Row::At(page - (below + 1));
+            return TrapRow::At(page - (below + 1));
         }
-        return Row::Asleep;
+        return TrapRow::Asleep;
     }
     let row = n as usize;
     if row < page {
-        return Row::At(row);
+        return TrapRow::At(row);
     }
-    Row::Asleep
+    TrapRow::Asleep
 }
 
 // Does the trap stand at this row?
@@ -41,13 +41,13 @@ fn stands_at(trap: Trap, page: usize, row: usize) -> bool
     ensures { λ r. ⌜ r ≡ isRow row (rowOf page (trap .place .0)) ⌝ }
 {
     match row_of(trap.place, page) {
-        Row::At(n) => row == n,
-        Row::Asleep => false,
+        TrapRow::At(n) => row == n,
+        TrapRow::Asleep => false,
     }
 }
 
-fn seen_in(p: Planted, page: usize, row: usize) -> Found
-    requires { ⌜ Within p ⌝ }
+fn seen_in(p: Planted, page: usize, row: usize) -> FoundTrap
+    requires { ⌜ TrapsInvariant p ⌝ }
     ensures { λ r. ⌜ foundIs r ≡ seenAt page row (plantedOf p) ⌝ }
 {
     let traps = p.traps;
@@ -57,16 +57,16 @@ fn seen_in(p: Planted, page: usize, row: usize) -> Found
         let trap = traps[i];
         if stands_at(trap, page, row) {
             let name = trap.name;
-            return Found::Text(name);
+            return FoundTrap::Text(name);
         }
         i += 1;
     }
-    Found::Nothing
+    FoundTrap::Nothing
 }
 
 // The name of the first planted trap at a row.
-pub fn seen_at(p: Planted, page: Rows, row: Rows) -> Found
-    requires { ⌜ Within p ⌝ }
+pub fn seen_at(p: Planted, page: Rows, row: Rows) -> FoundTrap
+    requires { ⌜ TrapsInvariant p ⌝ }
     ensures { λ r. ⌜ foundIs r ≡ seenAt (downOf page) (downOf row) (plantedOf p) ⌝ }
 {
     seen_in(p, measure::down(page) as usize, measure::down(row) as usize)
@@ -77,7 +77,7 @@ fn closer(trap: Trap, page: usize, row: usize, best: usize) -> usize
     ensures { λ r. ⌜ r ≡ nearer row (rowOf page (trap .place .0)) best ⌝ }
 {
     match row_of(trap.place, page) {
-        Row::At(n) => {
+        TrapRow::At(n) => {
             if row < n {
                 if n < best {
                     return n;
@@ -85,7 +85,7 @@ fn closer(trap: Trap, page: usize, row: usize, best: usize) -> usize
             }
             best
         }
-        Row::Asleep => best,
+        TrapRow::Asleep => best,
     }
 }
 
@@ -112,7 +112,7 @@ fn nearest_front(traps: [Trap; 16], count: usize, page: usize, row: usize, best:
 
 // The first row below this one that has a trap, or else `best`.
 pub fn nearest(p: Planted, page: Rows, row: Rows, best: Rows) -> Rows
-    requires { ⌜ Within p ⌝ }
+    requires { ⌜ TrapsInvariant p ⌝ }
     ensures { λ r. ⌜ r ≡ rowsDown (nearestTrap (downOf page) (downOf row) (downOf best) (plantedOf p)) ⌝ }
 {
     let traps = p.traps;

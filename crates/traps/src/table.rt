@@ -5,8 +5,8 @@ use rules::Trap;
 ghost use mathlib.Core.Path.{_≡_};
 ghost use lib.ListN.{drop};
 ghost use Rattle.rules.specs.Traps.{removeTrap};
-ghost use Rattle.traps.specs.Table.Table.{Within, emptyTable, plantedOf, holding, without, indexOf, plantingOf};
-ghost use Rattle.traps.specs.Table.Checks.{lacks, isTable};
+ghost use Rattle.traps.specs.Table.Table.{TrapsInvariant, emptyTable, plantedOf, holding, without, indexOf, plantingOf};
+ghost use Rattle.traps.specs.Table.Checks.{lacksPlace, isTrapTable};
 
 pub struct Planted {
     pub traps: [Trap; 16],
@@ -14,7 +14,7 @@ pub struct Planted {
 }
 
 // The name of the trap at a row, if it has one.
-pub enum Found {
+pub enum FoundTrap {
     Text(Name),
     Nothing,
 }
@@ -43,7 +43,7 @@ pub fn empty() -> Planted
 
 // The index of the trap planted at a place, or else the count.
 fn index_of(p: Planted, place: Rows) -> usize
-    requires { ⌜ Within p ⌝ }
+    requires { ⌜ TrapsInvariant p ⌝ }
     ensures { λ r. ⌜ r ≡ indexOf (place .0) (plantedOf p) ⌝ }
 {
     let traps = p.traps;
@@ -61,7 +61,7 @@ fn index_of(p: Planted, place: Rows) -> usize
 
 // Plants a name at a place: the trap that is there is replaced, and a new one comes last.
 pub fn plant(p: Planted, place: Rows, name: Name) -> Planting
-    requires { ⌜ Within p ⌝ }
+    requires { ⌜ TrapsInvariant p ⌝ }
     ensures { λ r. ⌜ r ≡ plantingOf p (place .0) name ⌝ }
 {
     let at = index_of(p, place);
@@ -93,7 +93,7 @@ pub fn plant(p: Planted, place: Rows, name: Name) -> Planting
 
 // The table without the trap at an index: the later ones move down by one.
 fn close_up(p: Planted, at: usize) -> Planted
-    requires { ⌜ Within p ⌝ }
+    requires { ⌜ TrapsInvariant p ⌝ }
     ensures { λ r. ⌜ r ≡ holding p (without at (plantedOf p)) ⌝ }
 {
     let count = p.count;
@@ -117,7 +117,7 @@ fn close_up(p: Planted, at: usize) -> Planted
 
 // Removes the trap planted at a place, if there is one.
 pub fn remove(p: Planted, place: Rows) -> Planted
-    requires { ⌜ Within p ⌝ }
+    requires { ⌜ TrapsInvariant p ⌝ }
     ensures { λ r. ⌜ r ≡ holding p (removeTrap (place .0) (plantedOf p)) ⌝ }
 {
     close_up(p, index_of(p, place))
@@ -125,8 +125,8 @@ pub fn remove(p: Planted, place: Rows) -> Planted
 
 // Whether no trap from an index on is planted at a place.
 fn lacks_place(p: Planted, start: usize, place: Rows) -> bool
-    requires { ⌜ Within p ⌝ }
-    ensures { λ r. ⌜ r ≡ lacks (place .0) (drop start (plantedOf p)) ⌝ }
+    requires { ⌜ TrapsInvariant p ⌝ }
+    ensures { λ r. ⌜ r ≡ lacksPlace (place .0) (drop start (plantedOf p)) ⌝ }
 {
     let traps = p.traps;
     let count = p.count;
@@ -143,7 +143,7 @@ fn lacks_place(p: Planted, start: usize, place: Rows) -> bool
 
 // Whether there are at most 16 traps, no two planted at one place.
 pub fn is_table(p: Planted) -> bool
-    ensures { λ r. ⌜ r ≡ isTable p ⌝ }
+    ensures { λ r. ⌜ r ≡ isTrapTable p ⌝ }
 {
     let traps = p.traps;
     let count = p.count;

@@ -27,7 +27,7 @@ use Rattle.rules.specs.Printers.{tenToTheInch}
 use Rattle.rules.specs.State.{State, start}
 use Rattle.rules.specs.Load.{formatter}
 use Rattle.rules.specs.Laws.Whole.{pagesHere}
-use Rattle.stream.specs.Answers.{Closing, done, refused, Reply, needs-input, needs-room, closes}
+use Rattle.stream.specs.Answers.{Closing, done, refused, ReplyKind, needs-input, needs-room, closes}
 use Rattle.stream.specs.Machine.{callFrom}
 
 abbrev Gives : List ℕ → List ℕ → Closing → Type 0
@@ -45,9 +45,9 @@ lent b l r = record { block = b; last = l; room = r }
 record Told : Type 0 where
   taken : ℕ
   written : List ℕ
-  reply : Reply
+  reply : ReplyKind
 
-abbrev told : ℕ → List ℕ → Reply → Told
+abbrev told : ℕ → List ℕ → ReplyKind → Told
 told t w a = record { taken = t; written = w; reply = a }
 
 -- a block begins at the first byte not taken, and ends with the document at the latest

@@ -16,36 +16,36 @@ use Rattle.rules.specs.Laws.Refusals.{Every, every-map}
 use Rattle.rules.specs.Texts.{Text}
 use Rattle.rules.specs.State.{State, Item}
 use Rattle.rules.specs.Rows.{goes, refuses, skip, startPage, break}
-use Rattle.rules.specs.Acts.{given, spacing, act}
+use Rattle.rules.specs.Acts.{onValue, spacing, act}
 use Rattle.rules.specs.ControlLines.{startOrBreak, breakOrAct}
 use Rattle.traps.specs.declared.table.Planted.{Planted}
-use Rattle.fill.specs.Collected.Filled.{lineOf}
+use Rattle.fill.specs.Collected.Filled.{collectedLine}
 use Rattle.settings.specs.declared.layout.Printer.{Printer}
 use Rattle.settings.specs.declared.layout.NewLayout.{NewLayout}
-use Rattle.settings.specs.Layout.Layouts.{newLayoutIs, LineSet}
+use Rattle.settings.specs.Layout.Layouts.{newLayoutIs, LineSettingRefines}
 use Rattle.page.specs.Springs.Held.{heldOf}
-use Rattle.composition.specs.PageRows.Desk.{Desk, collectedIf, stateAt, Sound}
-use Rattle.composition.specs.BreakRequests.Acting.{spaces}
+use Rattle.composition.specs.PageRows.PageState.{PageState, collectedIf, stateAt, PageInvariant}
+use Rattle.composition.specs.BreakRequests.Acting.{spaceBy}
 use Rattle.composition.specs.BreakRequests.Obeying.{heldLine, heldRequest, startsFirst, obeyed, line-held, request-held}
 
 -- a new layout has the page length that it had
-pub page-above : (p : Printer) (q : LineSetting) (planted : Planted) (d : Desk) (a : List ℕ) (new : NewLayout) → Sound planted d → LineSet p q (d .layout) a new
+pub page-above : (p : Printer) (q : LineSetting) (planted : Planted) (d : PageState) (a : List ℕ) (new : NewLayout) → PageInvariant planted d → LineSettingRefines p q (d .layout) a new
     → Every (λ y. downOf (d .page .used) < y .page) (newLayoutIs new)
 page-above p q planted d a new s h = every-map (h .page) (λ y e. omega (arith, s .above, e))
 
 -- sp of a number, and of a malformed one
-pub spaced-by : (p : printers.Printer) (a : List ℕ) (z : ℤ) (s : State) → value z ≡ spacing p a → skip z s ≡ spaces p a s
-spaced-by p a z s e = ap (λ (j : Judged ℤ). given j s (λ n. skip n s)) e
+pub spaced-by : (p : printers.Printer) (a : List ℕ) (z : ℤ) (s : State) → value z ≡ spacing p a → skip z s ≡ spaceBy p a s
+spaced-by p a z s e = ap (λ (j : Judged ℤ). onValue j s (λ n. skip n s)) e
 
-pub space-refused : (p : printers.Printer) (a : List ℕ) (s : State) → bad 6 ≡ spacing p a → refuses 6 s ≡ spaces p a s
-space-refused p a s e = ap (λ (j : Judged ℤ). given j s (λ n. skip n s)) e
+pub space-refused : (p : printers.Printer) (a : List ℕ) (s : State) → bad 6 ≡ spacing p a → refuses 6 s ≡ spaceBy p a s
+space-refused p a s e = ap (λ (j : Judged ℤ). onValue j s (λ n. skip n s)) e
 
-module _ (p : printers.Printer) (r : Breaking) (l : List ℕ) (d : Desk) (ps : List Trap) (ts : List Text) (x : State) where
+module _ (p : printers.Printer) (r : Breaking) (l : List ℕ) (d : PageState) (ps : List Trap) (ts : List Text) (x : State) where
   -- by whether there is a period and a line is collected
   broken : (q there : Bool) → (q && there) ≡ true
-      → break (lineOf (acrossOf (d .collected .indent)) (acrossOf (d .collected .room)) (d .cells) (d .collected .length) (d .collected .next)) (heldOf ts (heldRequest r) l) (stateAt ts ps d x)
+      → break (collectedLine (acrossOf (d .collected .indent)) (acrossOf (d .collected .room)) (d .cells) (d .collected .length) (d .collected .next)) (heldOf ts (heldRequest r) l) (stateAt ts ps d x)
       ≡ breakOrAct p q (collectedIf there (d .collected) (d .cells)) r l (stateAt ts ps d x)
-  broken true true e = ap (λ (h : List Item). break (lineOf (acrossOf (d .collected .indent)) (acrossOf (d .collected .room)) (d .cells) (d .collected .length) (d .collected .next)) h (stateAt ts ps d x)) (request-held ts r l)
+  broken true true e = ap (λ (h : List Item). break (collectedLine (acrossOf (d .collected .indent)) (acrossOf (d .collected .room)) (d .cells) (d .collected .length) (d .collected .next)) h (stateAt ts ps d x)) (request-held ts r l)
   broken true false e = absurd (false≢true e)
   broken false there e = absurd (false≢true e)
 
@@ -63,7 +63,7 @@ module _ (p : printers.Printer) (r : Breaking) (l : List ℕ) (d : Desk) (ps : L
 
     -- the collected line is broken
     pub breaks-is : startsFirst (d .page .number) q r ≡ false → (q && d .collected .there) ≡ true
-        → break (lineOf (acrossOf (d .collected .indent)) (acrossOf (d .collected .room)) (d .cells) (d .collected .length) (d .collected .next)) (heldOf ts (heldRequest r) l) (stateAt ts ps d x)
+        → break (collectedLine (acrossOf (d .collected .indent)) (acrossOf (d .collected .room)) (d .cells) (d .collected .length) (d .collected .next)) (heldOf ts (heldRequest r) l) (stateAt ts ps d x)
         ≡ obeyed p q r n l (stateAt ts ps d x)
     breaks-is e f = broken q (d .collected .there) f ∙ ap (λ (t : Bool). startOrBreak p t q r n l (stateAt ts ps d x)) (sym e)
 

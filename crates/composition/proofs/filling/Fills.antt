@@ -13,18 +13,18 @@ use Rattle.measure.specs.Counts.{acrossOf}
 use Rattle.measure.specs.declared.Cells.{Cells}
 use Rattle.stream.specs.Machine.{works}
 use Rattle.rules.specs.Settings as rule
-use Rattle.rules.specs.Filling.{Word, word, words, printed, Placed, all, full, place, begin, begun, withNext, indentNow, roomNow, fullRow, leads, standing, after, gapAfter, standingRow}
+use Rattle.rules.specs.Filling.{Word, word, words, printed, Placed, allPlaced, full, place, begin, begun, withNext, indentNow, roomNow, fullRow, leads, standing, after, gapAfter, standingRow}
 use Rattle.rules.specs.Filling as filling
 use Rattle.rules.specs.Texts.{Text}
-use Rattle.rules.specs.State.{State, Item, others, acts, again, text}
+use Rattle.rules.specs.State.{State, Item, others, acts, again, plainText}
 use Rattle.rules.specs.StateSetters.{withLayout, withCollected}
 use Rattle.rules.specs.Rows.{down, goes, break, skip, startPage}
 use Rattle.rules.specs.declared.Breaking.the-variants.{Sp}
 use Rattle.rules.specs.declared.Trap.{Trap}
-use Rattle.rules.specs.TextLines.{othersOf, nextGap, filled, fillFrom, fill, gapHere, stands, fills, breaks, blank, textWay, counted, Way, wayOf, asItStands, blankFrom, textLine}
-use Rattle.fill.specs.Words.Parts.{part, Places}
+use Rattle.rules.specs.TextLines.{othersOf, nextGap, filled, fillFrom, fill, gapHere, stands, fills, breaks, emptyLine, textWay, counted, TextLineCase, textLineCase, asItStands, blankFrom, textLine}
+use Rattle.fill.specs.Words.Parts.{bytesBetween, Places}
 use Rattle.fill.specs.Words.Words.{isNone}
-use Rattle.fill.specs.Collected.Filled.{lineOf, placedOf, PlacedTo}
+use Rattle.fill.specs.Collected.Filled.{collectedLine, placedOf, PlacedTo}
 use Rattle.fill.specs.declared.collected.Placed as declared
 use Rattle.fill.specs.declared.collected.Overflow.{Overflow}
 use Rattle.fill.specs.declared.collected.Placed.the-variants as placed
@@ -33,13 +33,13 @@ use Rattle.settings.specs.Layout.Layouts.{layoutOf}
 use Rattle.page.specs.declared.position.Page.{Page}
 use Rattle.input_stack.specs.declared.stack.Stack.{Stack}
 use Rattle.composition.specs.declared.page_rows.Collected.{Collected}
-use Rattle.composition.specs.PageRows.Desk.{desk, collectedIf, collectedOf, stateAt, nextOf}
+use Rattle.composition.specs.PageRows.PageState.{pageState, collectedIf, collectedOf, stateAt, pageWork}
 use Rattle.page.specs.declared.springs.Held.{Held}
 use Rattle.page.specs.declared.springs.Way.the-variants.{On}
 use Rattle.input_stack.specs.declared.frames.What.the-variants as what
 use Rattle.page.specs.declared.springs.Held.the-variants as held
 use Rattle.page.specs.Springs.Held.{heldOf, Plain}
-use Rattle.composition.specs.Filling.Words.{othersHeld, longer, leadingWord, Filled, Follows, wordWay, breaksFirst, freshWay}
+use Rattle.composition.specs.Filling.Words.{othersHeld, longerLine, leadingWord, WordsFilled, Follows, wordWay, breaksFirst, freshWay}
 
 -- no words are left, or some
 pub held-none : (ws : List Word) (g : ℕ) → isNone ws ≡ true → held.Nothing ≡ othersHeld ws g
@@ -73,50 +73,50 @@ gap-small (w ∷ ws) g h = omega arith
 
 -- a line that a word has started
 pub line-begun : (y : rule.Layout) (i r : Cells) (cells : List ℕ) (n k g q : ℕ) (bs : List ℕ) → acrossOf i ≡ indentNow y → acrossOf r ≡ roomNow y → take n cells ≡ printed bs → k ≡ g
-    → lineOf (acrossOf i) (acrossOf r) cells n k ≡ withNext g (begin y (word q bs))
+    → collectedLine (acrossOf i) (acrossOf r) cells n k ≡ withNext g (begin y (word q bs))
 line-begun y i r cells n k g q bs a b c e = rw (a, b, c, e)
 
 -- what is collected before does not matter to words that are placed
 pub filled-any : (p : Placed) (g : ℕ) (s : State) (c : Option filling.Collected) → filled p g (withCollected c s) ≡ filled p g s
-filled-any (all d) g s c = refl
+filled-any (allPlaced d) g s c = refl
 filled-any (full d w ws) g s c = refl
 
 -- a part of a line is no longer than it
-pub part-short : (line : List ℕ) (at to : ℕ) → Places line at to → length (part line at to) ≤ 512
-unfolding part
+pub part-short : (line : List ℕ) (at to : ℕ) → Places line at to → length (bytesBetween line at to) ≤ 512
+unfolding bytesBetween
 part-short line at to p = simp (length-take, length-drop) (omega (arith, p .few))
 
 -- the row is written, and the word that did not fit starts the next line
 module _ (ts : List Text) (ps : List Trap) (y y' : Layout) (g : Page) (c fresh : Collected) (cells cells' line : List ℕ) (k : Stack) (arena ends : List ℕ) (o : Overflow) (gap to : ℕ) (h : Held) (bytes text : List ℕ) (x : State) where
   abbrev ws : List Word
-  ws = words (part line (o .to) to)
+  ws = words (bytesBetween line (o .to) to)
 
   abbrev line₁ : filling.Collected
-  line₁ = lineOf (acrossOf (c .indent)) (acrossOf (c .room)) cells (o .length) (c .next)
+  line₁ = collectedLine (acrossOf (c .indent)) (acrossOf (c .room)) cells (o .length) (c .next)
 
   abbrev at : rule.Layout → Option filling.Collected → State
-  at v w = withCollected w (withLayout v (stateAt ts ps (desk y g c cells k arena ends) x))
+  at v w = withCollected w (withLayout v (stateAt ts ps (pageState y g c cells k arena ends) x))
 
-  pub overflowed : layoutOf y' ≡ begun (layoutOf y) → h ≡ othersHeld ws gap → bytes ≡ part line (o .to) to
-      → collectedOf fresh cells' ≡ some (withNext (nextGap ws gap) (begin (layoutOf y) (word (acrossOf (o .gap)) (part line (o .from) (o .to))))) → text ≡ fullRow (layoutOf y) line₁
-      → filled (placedOf (acrossOf (c .indent)) (acrossOf (c .room)) cells (c .next) line to (placed.Full o)) gap (stateAt ts ps (desk y g c cells k arena ends) x)
-      ≡ works text (down 1 (heldOf ts h bytes) (stateAt ts ps (desk y' g fresh cells' k arena ends) x))
+  pub overflowed : layoutOf y' ≡ begun (layoutOf y) → h ≡ othersHeld ws gap → bytes ≡ bytesBetween line (o .to) to
+      → collectedOf fresh cells' ≡ some (withNext (nextGap ws gap) (begin (layoutOf y) (word (acrossOf (o .gap)) (bytesBetween line (o .from) (o .to))))) → text ≡ fullRow (layoutOf y) line₁
+      → filled (placedOf (acrossOf (c .indent)) (acrossOf (c .room)) cells (c .next) line to (placed.Full o)) gap (stateAt ts ps (pageState y g c cells k arena ends) x)
+      ≡ works text (down 1 (heldOf ts h bytes) (stateAt ts ps (pageState y' g fresh cells' k arena ends) x))
   overflowed a b e f t =
       let held : heldOf ts h bytes ≡ othersOf ws gap = ap (λ (v : Held). heldOf ts v bytes) b ∙ held-others ts ws gap bytes (ap words e) in
       sym (ap (λ (v : rule.Layout). works text (down 1 (heldOf ts h bytes) (at v (collectedOf fresh cells')))) a
       ∙ ap (λ (v : Option filling.Collected). works text (down 1 (heldOf ts h bytes) (at (begun (layoutOf y)) v))) f
-      ∙ ap (λ (v : List Item). works text (down 1 v (at (begun (layoutOf y)) (some (withNext (nextGap ws gap) (begin (layoutOf y) (word (acrossOf (o .gap)) (part line (o .from) (o .to))))))))) held
-      ∙ ap (λ (v : List ℕ). works v (down 1 (othersOf ws gap) (at (begun (layoutOf y)) (some (withNext (nextGap ws gap) (begin (layoutOf y) (word (acrossOf (o .gap)) (part line (o .from) (o .to))))))))) t)
+      ∙ ap (λ (v : List Item). works text (down 1 v (at (begun (layoutOf y)) (some (withNext (nextGap ws gap) (begin (layoutOf y) (word (acrossOf (o .gap)) (bytesBetween line (o .from) (o .to))))))))) held
+      ∙ ap (λ (v : List ℕ). works v (down 1 (othersOf ws gap) (at (begun (layoutOf y)) (some (withNext (nextGap ws gap) (begin (layoutOf y) (word (acrossOf (o .gap)) (bytesBetween line (o .from) (o .to))))))))) t)
 
 -- the words that fitted are collected
 pub collected-all : (ts : List Text) (ps : List Trap) (y : Layout) (g : Page) (c : Collected) (cells line row : List ℕ) (k : Stack) (arena ends : List ℕ) (n gap to : ℕ) (x : State)
-    → nextOf ts ps On 0 (desk y g (longer n gap c) cells k arena ends) row x
-    ≡ filled (placedOf (acrossOf (c .indent)) (acrossOf (c .room)) cells (c .next) line to (placed.All n)) gap (stateAt ts ps (desk y g c cells k arena ends) x)
+    → pageWork ts ps On 0 (pageState y g (longerLine n gap c) cells k arena ends) row x
+    ≡ filled (placedOf (acrossOf (c .indent)) (acrossOf (c .room)) cells (c .next) line to (placed.All n)) gap (stateAt ts ps (pageState y g c cells k arena ends) x)
 collected-all ts ps y g c cells line row k arena ends n gap to x = refl
 
 -- words that were placed
 pub filled-from : (line : List ℕ) (at to : ℕ) (ws : List Word) (entry : List ℕ) (count room gap : ℕ) (r : declared.Placed) (exit : List ℕ) → PlacedTo line at to ws entry count room r exit → Places line at to → gap ≤ 2
-    → Filled line to exit room gap r
+    → WordsFilled line to exit room gap r
 filled-from line at to ws entry count room gap (placed.All n) exit p q h = (p .cells, h)
 filled-from line at to ws entry count room gap (placed.Full o) exit p q h =
     let g = p .good in record { places = record { long = q .long; ordered = g .2; few = q .few }; word = g .1; collected = p .cells; small = h }
@@ -127,13 +127,13 @@ follow n [] e = refl
 follow n (w ∷ ws) e = let z : w .gap ≡ 0 = omega (arith, leb-false 1 (w .gap) e) in ap (λ (q : ℕ). word n (replicate q fixedBlank ++ w .bytes) ∷ ws) z
 
 -- what a line asks for on a page that has started
-way-blank : (n : ℕ) (ws : List Word) (c : Option filling.Collected) (q : Bool) → 0 < n → isNone ws ≡ true → wayOf n ws c q ≡ blank
+way-blank : (n : ℕ) (ws : List Word) (c : Option filling.Collected) (q : Bool) → 0 < n → isNone ws ≡ true → textLineCase n ws c q ≡ emptyLine
 way-blank zero ws c q h e = absurd (omega arith)
 way-blank (suc n) [] c q h e = refl
 way-blank (suc n) (w ∷ ws) c q h e = let z : _≡_ {A = ℕ} 0 1 = cc in absurd (omega arith)
 
 way-words : (n : ℕ) (ws : List Word) (t q : Bool) (c : Collected) (cells : List ℕ) → 0 < n → isNone ws ≡ false
-    → wayOf n ws (collectedIf t c cells) q ≡ wordWay t q (leads ws) (lineOf (acrossOf (c .indent)) (acrossOf (c .room)) cells (c .length) (c .next))
+    → textLineCase n ws (collectedIf t c cells) q ≡ wordWay t q (leads ws) (collectedLine (acrossOf (c .indent)) (acrossOf (c .room)) cells (c .length) (c .next))
 way-words zero ws t q c cells h e = absurd (omega arith)
 way-words (suc n) [] t q c cells h e = let z : _≡_ {A = ℕ} 0 1 = cc in absurd (omega arith)
 way-words (suc n) (w ∷ ws) true true c cells h e = refl
@@ -165,13 +165,13 @@ fresh-follows t q ws a e = go t (subst (λ (v : Bool). breaksFirst t v (leads ws
     go false h = tt
 
 -- nothing is a part
-pub part-none : (l : List ℕ) → part l 0 0 ≡ []
-unfolding part
+pub part-none : (l : List ℕ) → bytesBetween l 0 0 ≡ []
+unfolding bytesBetween
 part-none l = refl
 
 module _ (ts : List Text) (ps : List Trap) (y : Layout) (g : Page) (c : Collected) (cells : List ℕ) (k : Stack) (arena ends : List ℕ) (gap : ℕ) (x : State) where
   abbrev here : State
-  here = stateAt ts ps (desk y g c cells k arena ends) x
+  here = stateAt ts ps (pageState y g c cells k arena ends) x
 
   -- words go on from what is collected
   fill-with : (t : Bool) (w : Word) (ws : List Word) → c .there ≡ t → fill (w ∷ ws) gap here ≡ fillFrom (collectedIf t c cells) w ws gap here
@@ -185,7 +185,7 @@ module _ (ts : List Text) (ps : List Trap) (y : Layout) (g : Page) (c : Collecte
   module _ (y' : Layout) (fresh : Collected) (cells' : List ℕ) where
     -- a word has started a line, and the others were placed behind it
     pub begun-filled : (w : Word) (ws : List Word) (p : Placed) (b : filling.Collected) → c .there ≡ false → layoutOf y' ≡ begun (layoutOf y) → p ≡ place b ws → b ≡ withNext 1 (begin (layoutOf y) w)
-        → fill (w ∷ ws) gap here ≡ filled p gap (stateAt ts ps (desk y' g fresh cells' k arena ends) x)
+        → fill (w ∷ ws) gap here ≡ filled p gap (stateAt ts ps (pageState y' g fresh cells' k arena ends) x)
     begun-filled w ws p b e a d f =
         fill-with false w ws e
         ∙ ap (λ (v : filling.Collected). filled (place v ws) gap (withLayout (begun (layoutOf y)) here)) (sym f)
@@ -195,22 +195,22 @@ module _ (ts : List Text) (ps : List Trap) (y : Layout) (g : Page) (c : Collecte
 
   -- the words were placed behind what is collected
   pub behind-filled : (cells' : List ℕ) (w : Word) (ws : List Word) (p : Placed) → c .there ≡ true
-      → p ≡ place (lineOf (acrossOf (c .indent)) (acrossOf (c .room)) cells (c .length) (c .next)) (w ∷ ws)
-      → fill (w ∷ ws) gap here ≡ filled p gap (stateAt ts ps (desk y g c cells' k arena ends) x)
+      → p ≡ place (collectedLine (acrossOf (c .indent)) (acrossOf (c .room)) cells (c .length) (c .next)) (w ∷ ws)
+      → fill (w ∷ ws) gap here ≡ filled p gap (stateAt ts ps (pageState y g c cells' k arena ends) x)
   behind-filled cells' w ws p e d =
       fill-with true w ws e ∙ ap (λ (v : Placed). filled v gap here) (sym d) ∙ sym (filled-any p gap here (collectedOf c cells'))
 
   -- a text line whose words were placed behind what is collected
   pub line-behind : (l cells' : List ℕ) (ws : List Word) (w : Word) (rest : List Word) (p : Placed) → ws ≡ w ∷ rest → c .there ≡ true → leads ws ≡ false → gap ≡ gapAfter ws
-      → p ≡ place (lineOf (acrossOf (c .indent)) (acrossOf (c .room)) cells (c .length) (c .next)) (after (c .next) ws)
-      → textWay fills ws l here ≡ filled p gap (stateAt ts ps (desk y g c cells' k arena ends) x)
+      → p ≡ place (collectedLine (acrossOf (c .indent)) (acrossOf (c .room)) cells (c .length) (c .next)) (after (c .next) ws)
+      → textWay fills ws l here ≡ filled p gap (stateAt ts ps (pageState y g c cells' k arena ends) x)
   line-behind l cells' ws w rest p o e f q d =
       ap (λ (t : Bool). fill (after (gapHere (collectedIf t c cells)) (standing ws)) (gapAfter ws) here) e
       ∙ ap (λ (v : List Word). fill v (gapAfter ws) here) (follow (c .next) ws f)
       ∙ ap (λ (n : ℕ). fill (after (c .next) ws) n here) (sym q)
       ∙ ap (λ (v : List Word). fill (after (c .next) v) gap here) o
       ∙ behind-filled cells' (word (c .next) (w .bytes)) rest p e
-      (d ∙ ap (λ (v : List Word). place (lineOf (acrossOf (c .indent)) (acrossOf (c .room)) cells (c .length) (c .next)) (after (c .next) v)) o)
+      (d ∙ ap (λ (v : List Word). place (collectedLine (acrossOf (c .indent)) (acrossOf (c .room)) cells (c .length) (c .next)) (after (c .next) v)) o)
 
   -- a text line whose first word starts a line
   pub line-new : (l : List ℕ) (ws : List Word) (n : ℕ) (bs : List ℕ) (rest : List Word) → ws ≡ word n bs ∷ rest → c .there ≡ false → gap ≡ gapAfter ws
@@ -227,16 +227,16 @@ module _ (ts : List Text) (ps : List Trap) (y : Layout) (g : Page) (c : Collecte
 
   -- a text line that is written as it stands
   pub line-stands : (y' : Layout) (ws : List Word) (l printedText bytes : List ℕ) → layoutOf y' ≡ counted (layoutOf y) → printedText ≡ standingRow (layoutOf y) ws
-      → textWay stands ws l here ≡ works printedText (down 1 (heldOf ts held.Nothing bytes) (stateAt ts ps (desk y' g c cells k arena ends) x))
+      → textWay stands ws l here ≡ works printedText (down 1 (heldOf ts held.Nothing bytes) (stateAt ts ps (pageState y' g c cells k arena ends) x))
   line-stands y' ws l printedText bytes a t =
       sym (ap (λ (v : rule.Layout). works printedText (down 1 [] (withLayout v here))) a ∙ ap (λ (v : List ℕ). works v (down 1 [] (withLayout (counted (layoutOf y)) here))) t)
 
   -- "A line that .. has no bytes or only spaces acts as sp 1"
   pub blank-breaks : (bytes : List ℕ) → c .there ≡ true → bytes ≡ [] → blankFrom (here .collected) here
-      ≡ break (lineOf (acrossOf (c .indent)) (acrossOf (c .room)) cells (c .length) (c .next)) (heldOf ts (held.Item (what.Acts Sp)) bytes) here
+      ≡ break (collectedLine (acrossOf (c .indent)) (acrossOf (c .room)) cells (c .length) (c .next)) (heldOf ts (held.Item (what.Acts Sp)) bytes) here
   blank-breaks bytes e b =
       ap (λ (t : Bool). blankFrom (collectedIf t c cells) here) e
-      ∙ sym (ap (λ (l : List ℕ). break (lineOf (acrossOf (c .indent)) (acrossOf (c .room)) cells (c .length) (c .next)) (acts Sp l ∷ []) here) b)
+      ∙ sym (ap (λ (l : List ℕ). break (collectedLine (acrossOf (c .indent)) (acrossOf (c .room)) cells (c .length) (c .next)) (acts Sp l ∷ []) here) b)
 
   pub blank-skips : c .there ≡ false → blankFrom (here .collected) here ≡ skip (pos 1) here
   blank-skips e = ap (λ (t : Bool). blankFrom (collectedIf t c cells) here) e
@@ -245,15 +245,15 @@ module _ (ts : List Text) (ps : List Trap) (y : Layout) (g : Page) (c : Collecte
   pub text-starts : (l bytes : List ℕ) → bytes ≡ l → g .number ≡ 0 → textLine l here ≡ goes (startPage (heldOf ts (held.Item what.Text) bytes) here)
   unfolding textLine
   text-starts l bytes b e =
-      ap (λ (n : ℕ). textWay (wayOf n (words l) (collectedOf c cells) (asItStands (layoutOf y))) (words l) l here) e
-      ∙ sym (ap (λ (v : List ℕ). goes (startPage (again (text v) ∷ []) here)) b)
+      ap (λ (n : ℕ). textWay (textLineCase n (words l) (collectedOf c cells) (asItStands (layoutOf y))) (words l) l here) e
+      ∙ sym (ap (λ (v : List ℕ). goes (startPage (again (plainText v) ∷ []) here)) b)
 
   -- on a page that has started it is blank, or has words
   pub text-blank : (l : List ℕ) → 0 < g .number → isNone (words l) ≡ true → textLine l here ≡ blankFrom (here .collected) here
   unfolding textLine
-  text-blank l h e = ap (λ (w : Way). textWay w (words l) l here) (way-blank (g .number) (words l) (collectedOf c cells) (asItStands (layoutOf y)) h e)
+  text-blank l h e = ap (λ (w : TextLineCase). textWay w (words l) l here) (way-blank (g .number) (words l) (collectedOf c cells) (asItStands (layoutOf y)) h e)
 
   pub text-words : (l : List ℕ) → 0 < g .number → isNone (words l) ≡ false
-      → textLine l here ≡ textWay (wordWay (c .there) (asItStands (layoutOf y)) (leads (words l)) (lineOf (acrossOf (c .indent)) (acrossOf (c .room)) cells (c .length) (c .next))) (words l) l here
+      → textLine l here ≡ textWay (wordWay (c .there) (asItStands (layoutOf y)) (leads (words l)) (collectedLine (acrossOf (c .indent)) (acrossOf (c .room)) cells (c .length) (c .next))) (words l) l here
   unfolding textLine
-  text-words l h e = ap (λ (w : Way). textWay w (words l) l here) (way-words (g .number) (words l) (c .there) (asItStands (layoutOf y)) c cells h e)
+  text-words l h e = ap (λ (w : TextLineCase). textWay w (words l) l here) (way-words (g .number) (words l) (c .there) (asItStands (layoutOf y)) c cells h e)

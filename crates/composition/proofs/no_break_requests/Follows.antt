@@ -18,19 +18,19 @@ use Rattle.rules.specs.Rows.{Next, goes}
 use Rattle.rules.specs.Lines.{lineOf, simplyHolds, holdsIf, holds}
 use Rattle.rules.specs.Acts.{settles, follows, ifLine, decide}
 use Rattle.texts.specs.Table.Table.{textsOf}
-use Rattle.line_syntax.specs.declared.lines.Condition.{Condition}
+use Rattle.line_syntax.specs.declared.lines.ConditionPart.{ConditionPart}
 use Rattle.line_syntax.specs.Lines.Places.{ConditionAt}
 use Rattle.traps.specs.declared.table.Planted.{Planted}
 use Rattle.traps.specs.Table.Table.{plantedOf}
 use Rattle.settings.specs.declared.layout.Printer.{Printer}
 use Rattle.settings.specs.declared.layout.Layout.{Layout}
-use Rattle.line_syntax.specs.declared.conditions.Condition as settings
+use Rattle.line_syntax.specs.declared.conditions.ConditionResult as settings
 use Rattle.settings.specs.Lengths.Views.{printer}
 use Rattle.line_syntax.specs.Conditions.Conditions.{conditionIs}
 use Rattle.settings.specs.Layout.Layouts.{printerOf}
 use Rattle.input_stack.specs.declared.frames.What.{What}
 use Rattle.input_stack.specs.declared.stack.Stack.{Stack}
-use Rattle.input_stack.specs.Stack.Frames.{Columns}
+use Rattle.input_stack.specs.Stack.Frames.{StackInvariant}
 use Rattle.input_stack.specs.Stack.Items.{itemBy, stackOf}
 use Rattle.page.specs.declared.position.Page.{Page}
 use Rattle.page.specs.declared.springs.Held.the-variants as held
@@ -38,7 +38,7 @@ use Rattle.page.specs.declared.springs.Way.the-variants.{On}
 use Rattle.page.specs.Springs.Held.{noEnds, PlainItem, HeldTo}
 use Rattle.page.proofs.springs.Stacks.{fits-few, over-items, over-good, over-fits}
 use Rattle.composition.specs.declared.page_rows.Collected.{Collected}
-use Rattle.composition.specs.PageRows.Desk.{desk, stateAt, Sound, Worked}
+use Rattle.composition.specs.PageRows.PageState.{pageState, stateAt, PageInvariant, PageRefines}
 use Rattle.composition.specs.NoBreakRequests.Following.{followed, Followed}
 
 -- all bytes from a place on
@@ -66,7 +66,7 @@ judged : (p : printers.Printer) (l rest : List ℕ) (s : State) → 0 < length l
 judged p [] rest s h = absurd (omega arith)
 judged p (b ∷ l) rest s h = refl
 
-module _ (p : Printer) (line : List ℕ) (r : Condition) (h : ConditionAt line 0 r) (s : State) where
+module _ (p : Printer) (line : List ℕ) (r : ConditionPart) (h : ConditionAt line 0 r) (s : State) where
   if-is : settles (ifLine (printerOf p) (take (r .to - r .from) (drop (r .from) line)) (drop (r .rest) line) s) s ≡ settles (decide (printerOf p) line s) s
   unfolding decide
   if-is = ap (λ (c : Part). settles (ifLine (printerOf p) (c .part) (c .rest) s) s) (h .is)
@@ -78,7 +78,7 @@ module _ (p : Printer) (line : List ℕ) (r : Condition) (h : ConditionAt line 0
       sym (ap (λ (n : ℕ). settles (ifLine (printerOf p) (take n (drop (r .from) line)) (drop (r .rest) line) s) s) z) ∙ if-is
 
   -- else the condition says whether the rest follows
-  pub if-holds : (v : settings.Condition) → conditionIs v ≡ holds (printer (p .pitch) 0) (s .page .number) (take (r .to - r .from) (drop (r .from) line)) → r .from < r .to
+  pub if-holds : (v : settings.ConditionResult) → conditionIs v ≡ holds (printer (p .pitch) 0) (s .page .number) (take (r .to - r .from) (drop (r .from) line)) → r .from < r .to
       → settles (conditionIs v >>= λ t. value (follows t (drop (r .rest) line) s)) s ≡ settles (decide (printerOf p) line s) s
   if-holds v e d =
       let l = take (r .to - r .from) (drop (r .from) line) in let rest = drop (r .rest) line in
@@ -97,7 +97,7 @@ followed-some (b ∷ l) k h = refl
 
 module _ (rest : List ℕ) (s : Stack) (arena ends : List ℕ) (d : s .depth ≤ 16) where
   -- nothing follows
-  pub followed-none : length rest ≡ 0 → Columns s arena ends → Followed rest s arena ends s arena ends
+  pub followed-none : length rest ≡ 0 → StackInvariant s arena ends → Followed rest s arena ends s arena ends
   followed-none e k = record { is = λ ts. followed-none-items rest (stackOf ts s arena ends) e; good = λ ts g. g; columns = k; fits = fits-few s ends d }
 
   -- a line follows
@@ -117,14 +117,14 @@ follows-is : (rest : List ℕ) (s : State) → goes (withStack (followed rest (s
 follows-is [] s = refl
 follows-is (b ∷ l) s = refl
 
-module _ (fs ss : List ℕ) (n : ℕ) (planted : Planted) (y : Layout) (g : Page) (c : Collected) (cells : List ℕ) (k : Stack) (arena ends row : List ℕ) (s : Sound planted (desk y g c cells k arena ends)) (few : k .depth ≤ 16) (long : length row ≡ 872) where
+module _ (fs ss : List ℕ) (n : ℕ) (planted : Planted) (y : Layout) (g : Page) (c : Collected) (cells : List ℕ) (k : Stack) (arena ends row : List ℕ) (s : PageInvariant planted (pageState y g c cells k arena ends)) (few : k .depth ≤ 16) (long : length row ≡ 872) where
   -- the rest of an if has followed
   pub follows-on : (rule : List Text → State → Next) (rest : List ℕ) (r : Stack) (arena' ends' : List ℕ) → Followed rest k arena ends r arena' ends'
-      → ((ts : List Text) (x : State) → let v = stateAt ts (plantedOf planted) (desk y g c cells k arena ends) x in goes (follows true rest v) ≡ rule ts v)
-      → Worked rule fs ss n planted (desk y g c cells k arena ends) On 0 (desk y g c cells r arena' ends') row
+      → ((ts : List Text) (x : State) → let v = stateAt ts (plantedOf planted) (pageState y g c cells k arena ends) x in goes (follows true rest v) ≡ rule ts v)
+      → PageRefines rule fs ss n planted (pageState y g c cells k arena ends) On 0 (pageState y g c cells r arena' ends') row
   follows-on rule rest r arena' ends' f law = record {
     is = λ st ks ls i x.
-        let ts = textsOf st fs ss ks ls n in let v = stateAt ts (plantedOf planted) (desk y g c cells k arena ends) x in
+        let ts = textsOf st fs ss ks ls n in let v = stateAt ts (plantedOf planted) (pageState y g c cells k arena ends) x in
         ap (λ (q : List Item). goes (withStack q v)) (f .is ts) ∙ follows-is rest v ∙ law ts x;
     good = λ st ks ls i h. f .good (textsOf st fs ss ks ls n) h;
     sound = record { limits = s .limits; above = s .above; numbered = s .numbered; few = s .few; line = s .line; indent = s .indent; next = s .next; columns = f .columns };

@@ -12,7 +12,7 @@ use Rattle.rules.specs.Requests.{traits, startsPage}
 use Rattle.rules.specs.Texts.{Text}
 use Rattle.rules.specs.State.{State, Item, control, again, acts}
 use Rattle.rules.specs.Rows.{Next, heldIf}
-use Rattle.rules.specs.ControlLines.{requests, heldAfter, heldFirst, startOrBreak, obey}
+use Rattle.rules.specs.ControlLines.{meansRequest, heldAfter, heldFirst, startOrBreak, obey}
 use Rattle.input_stack.specs.declared.frames.What.{What}
 use Rattle.input_stack.specs.declared.frames.What.the-variants as what
 use Rattle.page.specs.declared.springs.Held.{Held}
@@ -41,7 +41,7 @@ abbrev pub obeyed : Printer → (period : Bool) → Breaking → Name → List �
 obeyed p q r n l s = startOrBreak p (startsFirst (s .page .number) q r) q r n l s
 
 -- Sanity: that is the rules' one, after an if or not.
-pub obey-is : (p : Printer) (afterIf q : Bool) (r : Breaking) (n : Name) (l : List ℕ) (s : State) → obeyed p q r n l s ≡ obey p (requests (Breaks r)) afterIf q n l s
+pub obey-is : (p : Printer) (afterIf q : Bool) (r : Breaking) (n : Name) (l : List ℕ) (s : State) → obeyed p q r n l s ≡ obey p (meansRequest (Breaks r)) afterIf q n l s
 obey-is p i q r n l s = refl
 
 line-by : (ts : List Text) (t q : Bool) (n : Name) (l : List ℕ) → heldOf ts (itemIf t (what.Control q n)) l ≡ heldIf t (again (control q n l))

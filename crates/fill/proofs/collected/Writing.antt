@@ -13,7 +13,7 @@ use borrow.Author.Tests.{eq-eqb, ne-eqb}
 use Rattle.rules.specs.Bytes.{space, mark, fixedBlank}
 use Rattle.rules.specs.Filling.{printed, printedByte, width, countIf, gapCells}
 use Rattle.rules.specs.Laws.Filling.{printed-append}
-use Rattle.fill.specs.Words.Parts.{part}
+use Rattle.fill.specs.Words.Parts.{bytesBetween}
 use Rattle.fill.specs.Collected.Writing.{shownIf, Written}
 use Rattle.fill.proofs.words.Parts.{part-none, part-cons, part-length}
 
@@ -55,33 +55,33 @@ printed-shown false b bs = refl
 
 -- a mark; another byte; the end
 module _ (l : List ℕ) (i to : ℕ) (k : to ≤ length l) where
-  pub printed-mark : i < to → getD l i 0 ≡ 2 → printed (part l i to) ≡ printed (part l (i + 1) to)
+  pub printed-mark : i < to → getD l i 0 ≡ 2 → printed (bytesBetween l i to) ≡ printed (bytesBetween l (i + 1) to)
   unfolding printed
   printed-mark h e = rw (part-cons l i to h k, eq-eqb (getD l i 0) 2 e)
 
   pub printed-byte : i < to → (getD l i 0 ≡ 2 → ⊥)
-      → printed (part l i to) ≡ shownIf (eqb (getD l i 0) fixedBlank) (getD l i 0) ∷ printed (part l (i + 1) to)
+      → printed (bytesBetween l i to) ≡ shownIf (eqb (getD l i 0) fixedBlank) (getD l i 0) ∷ printed (bytesBetween l (i + 1) to)
   unfolding printed
   printed-byte h e =
-      rw (part-cons l i to h k, ne-eqb (getD l i 0) 2 e) (printed-shown (eqb (getD l i 0) fixedBlank) (getD l i 0) (printed (part l (i + 1) to)))
+      rw (part-cons l i to h k, ne-eqb (getD l i 0) 2 e) (printed-shown (eqb (getD l i 0) fixedBlank) (getD l i 0) (printed (bytesBetween l (i + 1) to)))
 
-  pub printed-end : to ≤ i → printed (part l i to) ≡ []
+  pub printed-end : to ≤ i → printed (bytesBetween l i to) ≡ []
   unfolding printed
   printed-end h = rw (part-none l i to h)
 
 -- the place behind what is written
 module _ (l b : List ℕ) (n i to : ℕ) (k : to ≤ length l) where
-  pub write-mark : i < to → getD l i 0 ≡ 2 → sets b n (printed (part l i to)) ≡ sets b n (printed (part l (i + 1) to))
+  pub write-mark : i < to → getD l i 0 ≡ 2 → sets b n (printed (bytesBetween l i to)) ≡ sets b n (printed (bytesBetween l (i + 1) to))
   write-mark h e = ap (sets b n) (printed-mark l i to k h e)
 
   pub write-byte : i < to → (getD l i 0 ≡ 2 → ⊥)
-      → sets b n (printed (part l i to)) ≡ sets (set b n (shownIf (eqb (getD l i 0) fixedBlank) (getD l i 0))) (n + 1) (printed (part l (i + 1) to))
+      → sets b n (printed (bytesBetween l i to)) ≡ sets (set b n (shownIf (eqb (getD l i 0) fixedBlank) (getD l i 0))) (n + 1) (printed (bytesBetween l (i + 1) to))
   write-byte h e = ap (sets b n) (printed-byte l i to k h e) ∙ rw (add-one n)
 
-  pub count-mark : i < to → getD l i 0 ≡ 2 → length (printed (part l i to)) ≡ length (printed (part l (i + 1) to))
+  pub count-mark : i < to → getD l i 0 ≡ 2 → length (printed (bytesBetween l i to)) ≡ length (printed (bytesBetween l (i + 1) to))
   count-mark h e = ap length (printed-mark l i to k h e)
 
-  pub count-byte : i < to → (getD l i 0 ≡ 2 → ⊥) → length (printed (part l i to)) ≡ suc (length (printed (part l (i + 1) to)))
+  pub count-byte : i < to → (getD l i 0 ≡ 2 → ⊥) → length (printed (bytesBetween l i to)) ≡ suc (length (printed (bytesBetween l (i + 1) to)))
   count-byte h e = ap length (printed-byte l i to k h e)
 
 -- fixed blanks are printed as spaces
@@ -99,8 +99,8 @@ width-short (b ∷ l) = go (eqb b mark) (width l) (width-short l)
     go true n h = omega arith
     go false n h = omega arith
 
-pub part-width : (l : List ℕ) (at to : ℕ) → to ≤ length l → width (part l at to) ≤ to - at
-part-width l at to h = omega (arith, width-short (part l at to), part-length l at to h)
+pub part-width : (l : List ℕ) (at to : ℕ) → to ≤ length l → width (bytesBetween l at to) ≤ to - at
+part-width l at to h = omega (arith, width-short (bytesBetween l at to), part-length l at to h)
 
 -- a gap
 pub gap-cells : (l : List ℕ) (n g : ℕ) → 0 < g → sets (set l n 4) (n + 1) (replicate (g - 1) 32) ≡ sets l n (gapCells g)

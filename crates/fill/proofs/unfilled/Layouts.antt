@@ -5,13 +5,13 @@ use Prim.Native.Nat.{ℕ, _+_, _-_}
 use lib.Dec.{ltb}
 use Rattle.rules.specs.Settings.{Layout}
 use Rattle.rules.specs.Filling.{Word, adjusted, row, printed, spelled, span, indentNow, roomNow, fullRow, standingRow}
-use Rattle.fill.specs.Collected.Filled.{lineOf}
+use Rattle.fill.specs.Collected.Filled.{collectedLine}
 use Rattle.fill.specs.Unfilled.Lines.{standingOf}
 use Rattle.fill.proofs.unfilled.Rows.{adjusted-same, left-count}
 
 module _ (y : Layout) (cells : List ℕ) (count indent room next : ℕ) where
   -- a collected line that is written for overflow
-  pub full-is : row (y .offset .now + indent) (adjusted (y .adjusting) (lineOf indent room cells count 1)) ≡ fullRow y (lineOf indent room cells count next)
+  pub full-is : row (y .offset .now + indent) (adjusted (y .adjusting) (collectedLine indent room cells count 1)) ≡ fullRow y (collectedLine indent room cells count next)
   full-is = ap (row (y .offset .now + indent)) (adjusted-same (y .adjusting) indent indent room cells count 1 next)
 
 -- a line of nf or ce

@@ -13,9 +13,9 @@ use Rattle.rules.specs.Bytes.{newline, space, mark, fixedBlank}
 use Rattle.rules.specs.Filling.{words, gaps, spread, adjusted, trimmed, printed, printedByte, spelled, span, width, row, left}
 use Rattle.rules.specs.Laws.Filling.{trimmed-blank, trimmed-spaces, trimmed-ends, trimmed-short, printed-append, printed-length, spelled-width, level-length, share-length, adjusted-alone}
 use Rattle.rules.specs.Laws.Lines.{spelled-words}
-use Rattle.fill.specs.Words.Parts.{part}
+use Rattle.fill.specs.Words.Parts.{bytesBetween}
 use Rattle.fill.specs.Collected.Writing.{Written}
-use Rattle.fill.specs.Collected.Filled.{lineOf}
+use Rattle.fill.specs.Collected.Filled.{collectedLine}
 use Rattle.fill.specs.Unfilled.Lines.{CellsEnd, isBlankByte, TextEnd, oneIf}
 use Rattle.fill.proofs.words.Parts.{part-none, part-snoc}
 use Rattle.fill.proofs.collected.Writing.{sets-append}
@@ -39,18 +39,18 @@ blank-row : (n : ℕ) (b : List ℕ) → b ≡ [] → trimmed (replicate n space
 blank-row n b e = ap (λ (x : List ℕ). trimmed (replicate n space ++ x)) e ∙ ap trimmed (append-nil (replicate n space)) ∙ trimmed-blank n
 
 module _ (cells : List ℕ) (count end : ℕ) (k : count ≤ length cells) (e : CellsEnd cells count end) (n each few : ℕ) where
-  pub cells-none : end ≡ 0 → newline ∷ [] ≡ row n (spread each few (part cells 0 count))
+  pub cells-none : end ≡ 0 → newline ∷ [] ≡ row n (spread each few (bytesBetween cells 0 count))
   unfolding spread
   cells-none h =
       sym (ap (λ (x : List ℕ). x ++ newline ∷ [])
-      (e .is n each few ∙ blank-row n (spread each few (part cells 0 end)) (ap (spread each few) (part-none cells 0 end (omega arith)))))
+      (e .is n each few ∙ blank-row n (spread each few (bytesBetween cells 0 end)) (ap (spread each few) (part-none cells 0 end (omega arith)))))
 
-  pub cells-row : 0 < end → replicate n space ++ spread each few (part cells 0 end) ++ newline ∷ [] ≡ row n (spread each few (part cells 0 count))
+  pub cells-row : 0 < end → replicate n space ++ spread each few (bytesBetween cells 0 end) ++ newline ∷ [] ≡ row n (spread each few (bytesBetween cells 0 count))
   cells-row h = sym (ap (λ (x : List ℕ). x ++ newline ∷ []) (e .is n each few ∙ end-last cells end (omega (arith, e .high)) n each few h (e .last h)))
 
-  pub cells-short : 0 < end → length (spread each few (part cells 0 end)) ≤ length (spread each few (part cells 0 count))
+  pub cells-short : 0 < end → length (spread each few (bytesBetween cells 0 end)) ≤ length (spread each few (bytesBetween cells 0 count))
   cells-short h =
-      omega (arith, trimmed-short (spread each few (part cells 0 count)), ap length (e .is 0 each few ∙ end-last cells end (omega (arith, e .high)) 0 each few h (e .last h)))
+      omega (arith, trimmed-short (spread each few (bytesBetween cells 0 count)), ap length (e .is 0 each few ∙ end-last cells end (omega (arith, e .high)) 0 each few h (e .last h)))
 
 -- what is printed of a byte at the end
 byte-trim : (l : List ℕ) (b : ℕ) → isBlankByte b ≡ true → trimmed (l ++ printed (b ∷ [])) ≡ trimmed l
@@ -83,49 +83,49 @@ byte-space b h = go (eqb b space) (eqb b fixedBlank || eqb b mark) h
     go false t h = refl
 
 module _ (l : List ℕ) (at i : ℕ) (k : i ≤ length l) (n : ℕ) (h : at < i) where
-  text-snoc : replicate n space ++ printed (part l at i) ≡ (replicate n space ++ printed (part l at (i - 1))) ++ printed (getD l (i - 1) 0 ∷ [])
+  text-snoc : replicate n space ++ printed (bytesBetween l at i) ≡ (replicate n space ++ printed (bytesBetween l at (i - 1))) ++ printed (getD l (i - 1) 0 ∷ [])
   text-snoc =
       ap (λ (x : List ℕ). replicate n space ++ printed x) (part-snoc l at i h k)
-      ∙ ap (λ (x : List ℕ). replicate n space ++ x) (printed-append (part l at (i - 1)) (getD l (i - 1) 0 ∷ []))
-      ∙ sym (append-assoc (replicate n space) (printed (part l at (i - 1))) (printed (getD l (i - 1) 0 ∷ [])))
+      ∙ ap (λ (x : List ℕ). replicate n space ++ x) (printed-append (bytesBetween l at (i - 1)) (getD l (i - 1) 0 ∷ []))
+      ∙ sym (append-assoc (replicate n space) (printed (bytesBetween l at (i - 1))) (printed (getD l (i - 1) 0 ∷ [])))
 
   pub text-more : isBlankByte (getD l (i - 1) 0) ≡ true
-      → trimmed (replicate n space ++ printed (part l at i)) ≡ trimmed (replicate n space ++ printed (part l at (i - 1)))
-  text-more e = ap trimmed text-snoc ∙ byte-trim (replicate n space ++ printed (part l at (i - 1))) (getD l (i - 1) 0) e
+      → trimmed (replicate n space ++ printed (bytesBetween l at i)) ≡ trimmed (replicate n space ++ printed (bytesBetween l at (i - 1)))
+  text-more e = ap trimmed text-snoc ∙ byte-trim (replicate n space ++ printed (bytesBetween l at (i - 1))) (getD l (i - 1) 0) e
 
-  text-last : isBlankByte (getD l (i - 1) 0) ≡ false → trimmed (replicate n space ++ printed (part l at i)) ≡ replicate n space ++ printed (part l at i)
+  text-last : isBlankByte (getD l (i - 1) 0) ≡ false → trimmed (replicate n space ++ printed (bytesBetween l at i)) ≡ replicate n space ++ printed (bytesBetween l at i)
   text-last e =
-      let r = text-snoc ∙ ap (λ (x : List ℕ). (replicate n space ++ printed (part l at (i - 1))) ++ x) (byte-solid (getD l (i - 1) 0) e) in
-      ap trimmed r ∙ trimmed-ends (replicate n space ++ printed (part l at (i - 1))) (getD l (i - 1) 0) (byte-space (getD l (i - 1) 0) e) ∙ sym r
+      let r = text-snoc ∙ ap (λ (x : List ℕ). (replicate n space ++ printed (bytesBetween l at (i - 1))) ++ x) (byte-solid (getD l (i - 1) 0) e) in
+      ap trimmed r ∙ trimmed-ends (replicate n space ++ printed (bytesBetween l at (i - 1))) (getD l (i - 1) 0) (byte-space (getD l (i - 1) 0) e) ∙ sym r
 
 module _ (l : List ℕ) (at to end : ℕ) (k : to ≤ length l) (e : TextEnd l at to end) (n : ℕ) where
-  pub text-none : end ≡ at → newline ∷ [] ≡ row n (printed (part l at to))
+  pub text-none : end ≡ at → newline ∷ [] ≡ row n (printed (bytesBetween l at to))
   unfolding printed
   text-none h =
       sym (ap (λ (x : List ℕ). x ++ newline ∷ [])
-      (e .is n ∙ blank-row n (printed (part l at end)) (ap printed (part-none l at end (omega arith)))))
+      (e .is n ∙ blank-row n (printed (bytesBetween l at end)) (ap printed (part-none l at end (omega arith)))))
 
-  pub text-row : at < end → replicate n space ++ printed (part l at end) ++ newline ∷ [] ≡ row n (printed (part l at to))
+  pub text-row : at < end → replicate n space ++ printed (bytesBetween l at end) ++ newline ∷ [] ≡ row n (printed (bytesBetween l at to))
   text-row h = sym (ap (λ (x : List ℕ). x ++ newline ∷ []) (e .is n ∙ text-last l at end (omega (arith, e .high)) n h (e .last h)))
 
-  pub text-short : at < end → width (part l at end) ≤ length (printed (part l at to))
+  pub text-short : at < end → width (bytesBetween l at end) ≤ length (printed (bytesBetween l at to))
   text-short h =
-      omega (arith, printed-length (part l at end), trimmed-short (printed (part l at to)), ap length (e .is 0 ∙ text-last l at end (omega (arith, e .high)) 0 h (e .last h)))
+      omega (arith, printed-length (bytesBetween l at end), trimmed-short (printed (bytesBetween l at to)), ap length (e .is 0 ∙ text-last l at end (omega (arith, e .high)) 0 h (e .last h)))
 
 -- a full line is at most as wide as its room or its cells
-adjusted-wide : (t : Bool) (i r : ℕ) (cs : List ℕ) (n g : ℕ) → n ≤ length cs → (m : ℕ) → n ≤ m → r ≤ m → length (adjusted t (lineOf i r cs n g)) ≤ m
+adjusted-wide : (t : Bool) (i r : ℕ) (cs : List ℕ) (n g : ℕ) → n ≤ length cs → (m : ℕ) → n ≤ m → r ≤ m → length (adjusted t (collectedLine i r cs n g)) ≤ m
 adjusted-wide false i r cs n g h m a b = omega (arith, level-length (take n cs), length-take-le n cs h)
 adjusted-wide true i r cs n g h m a b = go (gaps (take n cs)) refl
   where
-    go : (k : ℕ) → gaps (take n cs) ≡ k → length (adjusted true (lineOf i r cs n g)) ≤ m
-    go zero e = omega (arith, ap length (adjusted-alone true (lineOf i r cs n g) e), length-take-le n cs h)
+    go : (k : ℕ) → gaps (take n cs) ≡ k → length (adjusted true (collectedLine i r cs n g)) ≤ m
+    go zero e = omega (arith, ap length (adjusted-alone true (collectedLine i r cs n g) e), length-take-le n cs h)
     go (suc k) e = omega (arith, share-length (r - length (take n cs)) k (take n cs) e, length-take-le n cs h)
 
-pub adjusted-short : (t : Bool) (r : ℕ) (cs : List ℕ) (n : ℕ) → n ≤ length cs → n ≤ 512 → r ≤ 512 → length (adjusted t (lineOf 0 r cs n 1)) ≤ 512
+pub adjusted-short : (t : Bool) (r : ℕ) (cs : List ℕ) (n : ℕ) → n ≤ length cs → n ≤ 512 → r ≤ 512 → length (adjusted t (collectedLine 0 r cs n 1)) ≤ 512
 adjusted-short t r cs n h a b = adjusted-wide t 0 r cs n 1 h 512 a b
 
 -- neither the indent nor the gap to the next line matters
-pub adjusted-same : (t : Bool) (i j r : ℕ) (cs : List ℕ) (n g h : ℕ) → adjusted t (lineOf i r cs n g) ≡ adjusted t (lineOf j r cs n h)
+pub adjusted-same : (t : Bool) (i j r : ℕ) (cs : List ℕ) (n g h : ℕ) → adjusted t (collectedLine i r cs n g) ≡ adjusted t (collectedLine j r cs n h)
 adjusted-same true i j r cs n g h = refl
 adjusted-same false i j r cs n g h = refl
 
@@ -139,15 +139,15 @@ left-count zero s = refl
 left-count (suc n) s = rw (lt-ltb 0 (suc n) (omega arith))
 
 -- a line as it stands, without its trailing spaces
-module _ (l : List ℕ) (at to end : ℕ) (f : part l at end ≡ trimmed (part l at to)) where
-  spelled-is : part l at end ≡ spelled (words (part l at to))
-  spelled-is = f ∙ sym (spelled-words (part l at to))
+module _ (l : List ℕ) (at to end : ℕ) (f : bytesBetween l at end ≡ trimmed (bytesBetween l at to)) where
+  spelled-is : bytesBetween l at end ≡ spelled (words (bytesBetween l at to))
+  spelled-is = f ∙ sym (spelled-words (bytesBetween l at to))
 
-  pub standing-bytes : printed (part l at end) ≡ printed (spelled (words (part l at to)))
+  pub standing-bytes : printed (bytesBetween l at end) ≡ printed (spelled (words (bytesBetween l at to)))
   standing-bytes = ap printed spelled-is
 
-  pub standing-width : width (part l at end) ≡ span (words (part l at to))
-  standing-width = ap width spelled-is ∙ spelled-width (words (part l at to))
+  pub standing-width : width (bytesBetween l at end) ≡ span (words (bytesBetween l at to))
+  standing-width = ap width spelled-is ∙ spelled-width (words (bytesBetween l at to))
 
 -- a row that is written whole, and one of a newline alone
 pub row-done : (r r1 r2 b bytes : List ℕ) (n m : ℕ) → r1 ≡ sets r 0 (replicate n 32) → Written r1 n b r2 m → replicate n space ++ b ++ newline ∷ [] ≡ bytes

@@ -12,24 +12,24 @@ use borrow.Author.Tests.{eq-eqb, ne-eqb, eqb-true}
 use Rattle.rules.specs.Bytes.{space, gapStart}
 use Rattle.rules.specs.Filling.{gaps, countGap, spread, spreadCell, fewAfter, moreIf, share, adjusted, trimmed}
 use Rattle.rules.specs.Laws.Filling.{spread-none, trimmed-spaces, trimmed-ends}
-use Rattle.fill.specs.Words.Parts.{part}
+use Rattle.fill.specs.Words.Parts.{bytesBetween}
 use Rattle.fill.specs.Collected.Writing.{Written}
-use Rattle.fill.specs.Collected.Filled.{lineOf}
+use Rattle.fill.specs.Collected.Filled.{collectedLine}
 use Rattle.fill.specs.Unfilled.Lines.{isBlankCell}
 use Rattle.fill.proofs.words.Parts.{part-none, part-cons, part-snoc, part-zero}
 use Rattle.fill.proofs.collected.Writing.{sets-append}
 
 -- one gap more; another cell; the end
 module _ (l : List ℕ) (i to n : ℕ) (k : to ≤ length l) where
-  pub gaps-more : i < to → getD l i 0 ≡ 4 → n + gaps (part l i to) ≡ n + 1 + gaps (part l (i + 1) to)
+  pub gaps-more : i < to → getD l i 0 ≡ 4 → n + gaps (bytesBetween l i to) ≡ n + 1 + gaps (bytesBetween l (i + 1) to)
   unfolding gaps
   gaps-more h e = rw (part-cons l i to h k, eq-eqb (getD l i 0) 4 e) (omega arith)
 
-  pub gaps-other : i < to → (getD l i 0 ≡ 4 → ⊥) → n + gaps (part l i to) ≡ n + gaps (part l (i + 1) to)
+  pub gaps-other : i < to → (getD l i 0 ≡ 4 → ⊥) → n + gaps (bytesBetween l i to) ≡ n + gaps (bytesBetween l (i + 1) to)
   unfolding gaps
   gaps-other h e = rw (part-cons l i to h k, ne-eqb (getD l i 0) 4 e)
 
-  pub gaps-end : to ≤ i → n ≡ n + gaps (part l i to)
+  pub gaps-end : to ≤ i → n ≡ n + gaps (bytesBetween l i to)
   unfolding gaps
   gaps-end h = rw (part-none l i to h) (omega arith)
 
@@ -42,20 +42,20 @@ module _ (cells : List ℕ) (count room : ℕ) (h : count ≤ length cells) wher
   all : length (take count cells) ≡ count
   all = length-take-le count cells h
 
-  pub share-none : gaps (part cells 0 count) ≡ 0 → spread 0 0 (part cells 0 count) ≡ adjusted true (lineOf 0 room cells count 1)
+  pub share-none : gaps (bytesBetween cells 0 count) ≡ 0 → spread 0 0 (bytesBetween cells 0 count) ≡ adjusted true (collectedLine 0 room cells count 1)
   share-none e =
       let z = part-zero cells count in
       let g : gaps (take count cells) ≡ 0 = ap gaps (sym z) ∙ e in
-      spread-none 0 0 (part cells 0 count) e ∙ z ∙ sym (ap (λ (k : ℕ). share (room - length (take count cells)) k (take count cells)) g)
+      spread-none 0 0 (bytesBetween cells 0 count) e ∙ z ∙ sym (ap (λ (k : ℕ). share (room - length (take count cells)) k (take count cells)) g)
 
-  pub share-some : (k e : ℕ) → k ≡ gaps (part cells 0 count) → e ≡ room - count → 0 < k → spread (e / k) (k - e % k) (part cells 0 count) ≡ adjusted true (lineOf 0 room cells count 1)
+  pub share-some : (k e : ℕ) → k ≡ gaps (bytesBetween cells 0 count) → e ≡ room - count → 0 < k → spread (e / k) (k - e % k) (bytesBetween cells 0 count) ≡ adjusted true (collectedLine 0 room cells count 1)
   share-some k e f g p =
       let z = part-zero cells count in
       let a : k ≡ gaps (take count cells) = f ∙ ap gaps z in
       let b : e ≡ room - length (take count cells) = g ∙ ap (λ (n : ℕ). room - n) (sym all) in
-      share-by e k (part cells 0 count) p ∙ (λ i. share (b i) (a i) (z i))
+      share-by e k (bytesBetween cells 0 count) p ∙ (λ i. share (b i) (a i) (z i))
 
-  pub share-off : spread 0 count (part cells 0 count) ≡ adjusted false (lineOf 0 room cells count 1)
+  pub share-off : spread 0 count (bytesBetween cells 0 count) ≡ adjusted false (collectedLine 0 room cells count 1)
   share-off = λ i. spread 0 (sym all i) (part-zero cells count i)
 
 -- spread in two parts
@@ -104,26 +104,26 @@ no-space b h = go (eqb b space) refl (eqb b gapStart) h
     go false e t h = refl
 
 module _ (l : List ℕ) (i : ℕ) (k : i ≤ length l) (n each few : ℕ) (h : 0 < i) where
-  row-snoc : replicate n space ++ spread each few (part l 0 i)
-      ≡ (replicate n space ++ spread each few (part l 0 (i - 1))) ++ spread each (few - gaps (part l 0 (i - 1))) (getD l (i - 1) 0 ∷ [])
+  row-snoc : replicate n space ++ spread each few (bytesBetween l 0 i)
+      ≡ (replicate n space ++ spread each few (bytesBetween l 0 (i - 1))) ++ spread each (few - gaps (bytesBetween l 0 (i - 1))) (getD l (i - 1) 0 ∷ [])
   row-snoc =
       ap (λ (x : List ℕ). replicate n space ++ spread each few x) (part-snoc l 0 i h k)
-      ∙ ap (λ (x : List ℕ). replicate n space ++ x) (spread-append each few (part l 0 (i - 1)) (getD l (i - 1) 0 ∷ []))
-      ∙ sym (append-assoc (replicate n space) (spread each few (part l 0 (i - 1))) (spread each (few - gaps (part l 0 (i - 1))) (getD l (i - 1) 0 ∷ [])))
+      ∙ ap (λ (x : List ℕ). replicate n space ++ x) (spread-append each few (bytesBetween l 0 (i - 1)) (getD l (i - 1) 0 ∷ []))
+      ∙ sym (append-assoc (replicate n space) (spread each few (bytesBetween l 0 (i - 1))) (spread each (few - gaps (bytesBetween l 0 (i - 1))) (getD l (i - 1) 0 ∷ [])))
 
   -- a blank at the end leaves the row as it is
   pub end-more : isBlankCell (getD l (i - 1) 0) ≡ true
-      → trimmed (replicate n space ++ spread each few (part l 0 i)) ≡ trimmed (replicate n space ++ spread each few (part l 0 (i - 1)))
+      → trimmed (replicate n space ++ spread each few (bytesBetween l 0 i)) ≡ trimmed (replicate n space ++ spread each few (bytesBetween l 0 (i - 1)))
   end-more e =
       ap trimmed row-snoc
-      ∙ blank-trim (replicate n space ++ spread each few (part l 0 (i - 1))) each (few - gaps (part l 0 (i - 1))) (getD l (i - 1) 0) e
+      ∙ blank-trim (replicate n space ++ spread each few (bytesBetween l 0 (i - 1))) each (few - gaps (bytesBetween l 0 (i - 1))) (getD l (i - 1) 0) e
 
   -- up to another cell the row is written whole
   pub end-last : isBlankCell (getD l (i - 1) 0) ≡ false
-      → trimmed (replicate n space ++ spread each few (part l 0 i)) ≡ replicate n space ++ spread each few (part l 0 i)
+      → trimmed (replicate n space ++ spread each few (bytesBetween l 0 i)) ≡ replicate n space ++ spread each few (bytesBetween l 0 i)
   end-last e =
-      let r = row-snoc ∙ ap (λ (x : List ℕ). (replicate n space ++ spread each few (part l 0 (i - 1))) ++ x) (solid-spread each (few - gaps (part l 0 (i - 1))) (getD l (i - 1) 0) e) in
-      ap trimmed r ∙ trimmed-ends (replicate n space ++ spread each few (part l 0 (i - 1))) (getD l (i - 1) 0) (no-space (getD l (i - 1) 0) e) ∙ sym r
+      let r = row-snoc ∙ ap (λ (x : List ℕ). (replicate n space ++ spread each few (bytesBetween l 0 (i - 1))) ++ x) (solid-spread each (few - gaps (bytesBetween l 0 (i - 1))) (getD l (i - 1) 0) e) in
+      ap trimmed r ∙ trimmed-ends (replicate n space ++ spread each few (bytesBetween l 0 (i - 1))) (getD l (i - 1) 0) (no-space (getD l (i - 1) 0) e) ∙ sym r
 
 -- a cell and those behind it
 cell-first : (t : Bool) (m b : ℕ) (l : List ℕ) → spreadCell t m b l ≡ spreadCell t m b [] ++ l
@@ -141,27 +141,27 @@ abbrev pub cellAt : List ℕ → (i each few : ℕ) → List ℕ
 cellAt l i each few = spreadCell (eqb (getD l i 0) gapStart) (each + moreIf few) (getD l i 0) []
 
 spread-first : (l : List ℕ) (i to each few : ℕ) → to ≤ length l → i < to
-    → spread each few (part l i to) ≡ cellAt l i each few ++ spread each (fewAfter (eqb (getD l i 0) gapStart) few) (part l (i + 1) to)
+    → spread each few (bytesBetween l i to) ≡ cellAt l i each few ++ spread each (fewAfter (eqb (getD l i 0) gapStart) few) (bytesBetween l (i + 1) to)
 unfolding spread
 spread-first l i to each few k h =
     rw (part-cons l i to h k)
-    (cell-first (eqb (getD l i 0) gapStart) (each + moreIf few) (getD l i 0) (spread each (fewAfter (eqb (getD l i 0) gapStart) few) (part l (i + 1) to)))
+    (cell-first (eqb (getD l i 0) gapStart) (each + moreIf few) (getD l i 0) (spread each (fewAfter (eqb (getD l i 0) gapStart) few) (bytesBetween l (i + 1) to)))
 
 -- what is still to be spread from a place on
 pub record Spreading (cells : List ℕ) (to each few : ℕ) (entry : List ℕ) (at : ℕ) (row : List ℕ) (i n left : ℕ) : Type 0 where
   pub high : i ≤ to
   pub long : length row ≡ length entry
-  pub is : sets entry at (spread each few (part cells 0 to)) ≡ sets row n (spread each left (part cells i to))
-  pub end : at + length (spread each few (part cells 0 to)) ≡ n + length (spread each left (part cells i to))
+  pub is : sets entry at (spread each few (bytesBetween cells 0 to)) ≡ sets row n (spread each left (bytesBetween cells i to))
+  pub end : at + length (spread each few (bytesBetween cells 0 to)) ≡ n + length (spread each left (bytesBetween cells i to))
 
 module _ (cells : List ℕ) (to each few : ℕ) (entry : List ℕ) (at : ℕ) (row : List ℕ) (i n left : ℕ) (k : to ≤ length cells) (q : Spreading cells to each few entry at row i n left) where
-  first-length : i < to → length (spread each left (part cells i to)) ≡ length (cellAt cells i each left) + length (spread each (fewAfter (eqb (getD cells i 0) gapStart) left) (part cells (i + 1) to))
+  first-length : i < to → length (spread each left (bytesBetween cells i to)) ≡ length (cellAt cells i each left) + length (spread each (fewAfter (eqb (getD cells i 0) gapStart) left) (bytesBetween cells (i + 1) to))
   first-length h =
       ap length (spread-first cells i to each left k h)
-      ∙ length-append (cellAt cells i each left) (spread each (fewAfter (eqb (getD cells i 0) gapStart) left) (part cells (i + 1) to))
+      ∙ length-append (cellAt cells i each left) (spread each (fewAfter (eqb (getD cells i 0) gapStart) left) (bytesBetween cells (i + 1) to))
 
   -- there is a place for the next cell
-  pub spreading-room : i < to → at + length (spread each few (part cells 0 to)) ≤ 872 → n + length (cellAt cells i each left) ≤ 872
+  pub spreading-room : i < to → at + length (spread each few (bytesBetween cells 0 to)) ≤ 872 → n + length (cellAt cells i each left) ≤ 872
   spreading-room h r = omega (arith, first-length h, q .end)
 
   pub spreading-next : (row2 : List ℕ) (n2 left2 : ℕ) → i < to → Written row n (cellAt cells i each left) row2 n2 → left2 ≡ fewAfter (eqb (getD cells i 0) gapStart) left
@@ -170,15 +170,15 @@ module _ (cells : List ℕ) (to each few : ℕ) (entry : List ℕ) (at : ℕ) (r
     high = omega arith;
     long = w .long ∙ q .long;
     is = q .is ∙ ap (sets row n) (spread-first cells i to each left k h)
-        ∙ sets-append (cellAt cells i each left) (spread each (fewAfter (eqb (getD cells i 0) gapStart) left) (part cells (i + 1) to)) row n
-        ∙ (λ x. sets (sym (w .is) x) (sym (w .end) x) (spread each (sym e x) (part cells (i + 1) to)));
+        ∙ sets-append (cellAt cells i each left) (spread each (fewAfter (eqb (getD cells i 0) gapStart) left) (bytesBetween cells (i + 1) to)) row n
+        ∙ (λ x. sets (sym (w .is) x) (sym (w .end) x) (spread each (sym e x) (bytesBetween cells (i + 1) to)));
     end = rw e (omega (arith, first-length h, q .end, w .end));
   }
 
-  pub spreading-done : to ≤ i → Written entry at (spread each few (part cells 0 to)) row n
+  pub spreading-done : to ≤ i → Written entry at (spread each few (bytesBetween cells 0 to)) row n
   unfolding spread
   spreading-done h =
-      let z : spread each left (part cells i to) ≡ [] = ap (spread each left) (part-none cells i to h) in
+      let z : spread each left (bytesBetween cells i to) ≡ [] = ap (spread each left) (part-none cells i to h) in
       record { is = sym (q .is ∙ ap (sets row n) z); end = omega (arith, q .end, ap length z); long = q .long }
 
 -- the gaps that have no cell more

@@ -9,18 +9,18 @@ use Rattle.rules.specs.Bytes.{space}
 use Rattle.rules.specs.Filling.{Word, words, trimmed, spelled, gapAfter, gapIf, isStop, lastByte}
 use Rattle.rules.specs.Laws.Filling.{trimmed-spaces, trimmed-ends}
 use Rattle.rules.specs.Laws.Lines.{Solid, Formed, words-formed, spelled-words}
-use Rattle.fill.specs.Words.Parts.{part}
+use Rattle.fill.specs.Words.Parts.{bytesBetween}
 use Rattle.fill.proofs.words.Parts.{part-none, part-snoc}
 
 module _ (l : List ℕ) (at i : ℕ) (k : i ≤ length l) where
   -- a space at the end; another byte there; no bytes
-  pub trim-more : at < i → getD l (i - 1) 0 ≡ 32 → trimmed (part l at i) ≡ trimmed (part l at (i - 1))
-  trim-more h e = rw (part-snoc l at i h k, e) (trimmed-spaces (part l at (i - 1)) 1)
+  pub trim-more : at < i → getD l (i - 1) 0 ≡ 32 → trimmed (bytesBetween l at i) ≡ trimmed (bytesBetween l at (i - 1))
+  trim-more h e = rw (part-snoc l at i h k, e) (trimmed-spaces (bytesBetween l at (i - 1)) 1)
 
-  pub trim-stop : at < i → (getD l (i - 1) 0 ≡ 32 → ⊥) → part l at i ≡ trimmed (part l at i)
-  trim-stop h e = rw (part-snoc l at i h k) (sym (trimmed-ends (part l at (i - 1)) (getD l (i - 1) 0) (ne-eqb (getD l (i - 1) 0) 32 e)))
+  pub trim-stop : at < i → (getD l (i - 1) 0 ≡ 32 → ⊥) → bytesBetween l at i ≡ trimmed (bytesBetween l at i)
+  trim-stop h e = rw (part-snoc l at i h k) (sym (trimmed-ends (bytesBetween l at (i - 1)) (getD l (i - 1) 0) (ne-eqb (getD l (i - 1) 0) 32 e)))
 
-  pub trim-none : i ≤ at → part l at i ≡ trimmed (part l at i)
+  pub trim-none : i ≤ at → bytesBetween l at i ≡ trimmed (bytesBetween l at i)
   unfolding trimmed
   trim-none h = rw (part-none l at i h)
 
@@ -55,12 +55,12 @@ gap-spelled (w ∷ v ∷ ws) h =
 gap-trimmed : (l : List ℕ) → gapAfter (words l) ≡ gapIf (isStop (lastByte (trimmed l)))
 gap-trimmed l = gap-spelled (words l) (words-formed l) ∙ ap (λ (x : List ℕ). gapIf (isStop (lastByte x))) (spelled-words l)
 
-module _ (l : List ℕ) (at to end : ℕ) (k : to ≤ length l) (f : part l at end ≡ trimmed (part l at to)) where
-  pub gap-none : end ≤ at → 1 ≡ gapAfter (words (part l at to))
-  gap-none h = sym (gap-trimmed (part l at to) ∙ ap (λ (x : List ℕ). gapIf (isStop (lastByte x))) (sym f ∙ part-none l at end h))
+module _ (l : List ℕ) (at to end : ℕ) (k : to ≤ length l) (f : bytesBetween l at end ≡ trimmed (bytesBetween l at to)) where
+  pub gap-none : end ≤ at → 1 ≡ gapAfter (words (bytesBetween l at to))
+  gap-none h = sym (gap-trimmed (bytesBetween l at to) ∙ ap (λ (x : List ℕ). gapIf (isStop (lastByte x))) (sym f ∙ part-none l at end h))
 
-  pub gap-last : at < end → end ≤ to → gapIf (isStop (getD l (end - 1) 0)) ≡ gapAfter (words (part l at to))
+  pub gap-last : at < end → end ≤ to → gapIf (isStop (getD l (end - 1) 0)) ≡ gapAfter (words (bytesBetween l at to))
   gap-last h i =
-      sym (gap-trimmed (part l at to)
+      sym (gap-trimmed (bytesBetween l at to)
       ∙ ap (λ (x : List ℕ). gapIf (isStop (lastByte x))) (sym f ∙ part-snoc l at end h (omega arith))
-      ∙ ap (λ (b : ℕ). gapIf (isStop b)) (last-append (part l at (end - 1)) (getD l (end - 1) 0) []))
+      ∙ ap (λ (b : ℕ). gapIf (isStop b)) (last-append (bytesBetween l at (end - 1)) (getD l (end - 1) 0) []))

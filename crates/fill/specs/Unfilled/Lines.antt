@@ -8,7 +8,7 @@ use lib.ListN.{length, getD, replicate}
 use Rattle.measure.specs.declared.Cells.{Cells}
 use Rattle.rules.specs.Bytes.{space, mark, fixedBlank, gapStart}
 use Rattle.rules.specs.Filling.{Word, spread, trimmed, printed, spelled, span, row, left}
-use Rattle.fill.specs.Words.Parts.{part}
+use Rattle.fill.specs.Words.Parts.{bytesBetween}
 use Rattle.measure.specs.Counts.{acrossOf}
 
 -- a cell that is printed as a blank
@@ -18,7 +18,7 @@ isBlankCell b = eqb b space || eqb b gapStart
 -- "blanks at a line's end are not written": the cells up to here give the row, however they are spread, and the last of them is no blank
 pub record CellsEnd (cells : List ℕ) (count end : ℕ) : Type 0 where
   pub high : end ≤ count
-  pub is : (n each few : ℕ) → trimmed (replicate n space ++ spread each few (part cells 0 count)) ≡ trimmed (replicate n space ++ spread each few (part cells 0 end))
+  pub is : (n each few : ℕ) → trimmed (replicate n space ++ spread each few (bytesBetween cells 0 count)) ≡ trimmed (replicate n space ++ spread each few (bytesBetween cells 0 end))
   pub last : 0 < end → isBlankCell (getD cells (end - 1) 0) ≡ false
 
 -- a byte of which nothing or a blank is printed
@@ -29,7 +29,7 @@ isBlankByte b = eqb b space || (eqb b fixedBlank || eqb b mark)
 pub record TextEnd (line : List ℕ) (at to end : ℕ) : Type 0 where
   pub low : at ≤ end
   pub high : end ≤ to
-  pub is : (n : ℕ) → trimmed (replicate n space ++ printed (part line at to)) ≡ trimmed (replicate n space ++ printed (part line at end))
+  pub is : (n : ℕ) → trimmed (replicate n space ++ printed (bytesBetween line at to)) ≡ trimmed (replicate n space ++ printed (bytesBetween line at end))
   pub last : at < end → isBlankByte (getD line (end - 1) 0) ≡ false
 
 -- the bytes have a place in the row

@@ -5,8 +5,8 @@ use Prim.Native.Nat.{ℕ, _-_, _≤_}
 use lib.ListN.{length, take, drop}
 
 -- the bytes from a place up to another
-unfoldable pub part : List ℕ → (at to : ℕ) → List ℕ
-part l at to = take (to - at) (drop at l)
+unfoldable pub bytesBetween : List ℕ → (at to : ℕ) → List ℕ
+bytesBetween l at to = take (to - at) (drop at l)
 
 -- a line of 512 bytes, and two places of it
 pub record Places (line : List ℕ) (at to : ℕ) : Type 0 where

@@ -8,11 +8,11 @@ use lib.ListN.{take}
 use Rattle.measure.specs.Counts.{acrossOf, cellsAcross}
 use Rattle.rules.specs.Bytes.{space}
 use Rattle.rules.specs.Filling.{Word, word, words, width}
-use Rattle.fill.specs.Words.Parts.{part}
+use Rattle.fill.specs.Words.Parts.{bytesBetween}
 use Rattle.fill.specs.declared.words.WordEnd.{WordEnd}
 use Rattle.fill.specs.declared.words.WordAt.{WordAt}
-use Rattle.fill.specs.declared.words.Next.{Next}
-use Rattle.fill.specs.declared.words.Next.the-variants.{Found, Nothing}
+use Rattle.fill.specs.declared.words.NextWord.{NextWord}
+use Rattle.fill.specs.declared.words.NextWord.the-variants.{Found, Nothing}
 
 abbrev pub sucIf : Bool → ℕ → ℕ
 sucIf true n = suc n
@@ -28,21 +28,21 @@ spaces [] = 0
 spaces (b ∷ bs) = sucIf (eqb b space) (spaces bs)
 
 -- how many bytes stand before the first space
-unfoldable pub run : List ℕ → ℕ
-run [] = 0
-run (b ∷ bs) = sucUnless (eqb b space) (run bs)
+unfoldable pub runLength : List ℕ → ℕ
+runLength [] = 0
+runLength (b ∷ bs) = sucUnless (eqb b space) (runLength bs)
 
 -- the run without spaces at the front, its end and its width
 pub record WordEndIs (line : List ℕ) (at to : ℕ) (r : WordEnd) : Type 0 where
-  pub place : r .to ≡ at + run (part line at to)
-  pub width : r .width ≡ cellsAcross (width (take (run (part line at to)) (part line at to)))
+  pub place : r .to ≡ at + runLength (bytesBetween line at to)
+  pub width : r .width ≡ cellsAcross (width (take (runLength (bytesBetween line at to)) (bytesBetween line at to)))
   pub low : at ≤ r .to
   pub high : r .to ≤ to
 
 -- the words of a line by its first one and the place behind that
-abbrev pub nextOf : (line : List ℕ) → (to : ℕ) → Next → List Word
-nextOf line to (Found w) = word (acrossOf (w .gap)) (part line (w .from) (w .to)) ∷ words (part line (w .to) to)
-nextOf line to Nothing = []
+abbrev pub wordsFrom : (line : List ℕ) → (to : ℕ) → NextWord → List Word
+wordsFrom line to (Found w) = word (acrossOf (w .gap)) (bytesBetween line (w .from) (w .to)) ∷ words (bytesBetween line (w .to) to)
+wordsFrom line to Nothing = []
 
 -- where a word stands, and its width
 pub record WordIs (line : List ℕ) (at to : ℕ) (w : WordAt) : Type 0 where
@@ -50,9 +50,9 @@ pub record WordIs (line : List ℕ) (at to : ℕ) (w : WordAt) : Type 0 where
   pub gap : w .gap ≡ cellsAcross (w .from - at)
   pub some : w .from < w .to
   pub high : w .to ≤ to
-  pub width : w .width ≡ cellsAcross (width (part line (w .from) (w .to)))
+  pub width : w .width ≡ cellsAcross (width (bytesBetween line (w .from) (w .to)))
 
-abbrev pub GoodNext : (line : List ℕ) → (at to : ℕ) → Next → Type 0
+abbrev pub GoodNext : (line : List ℕ) → (at to : ℕ) → NextWord → Type 0
 GoodNext line at to (Found w) = WordIs line at to w
 GoodNext line at to Nothing = Unit {0}
 

@@ -6,7 +6,7 @@ use lib.Seq.{take-length}
 use Rattle.settings.specs.Layout.Layouts.{printerOf}
 use Rattle.page.proofs.springs.Stacks.{no-arguments}
 use Rattle.state.specs.Statuses.{wholeOf}
-use Rattle.formatter.specs.StoredLines.WorkLaws.{read-did, sound-valued, shows}
+use Rattle.formatter.specs.StoredLines.WorkLaws.{read-refines, sound-valued, shows}
 use Rattle.formatter.proofs.stored_lines.Reading.{no-arguments-of}
 use borrow.Author.Needs.{needs}
 use Rattle.formatter.proofs.deal.Statement.{statement}
@@ -25,7 +25,7 @@ same-length : tie.Need-same-length
 same-length c = search needs
 
 returns : tie.Need-returns
-returns c = let y = (c .before .before .before .before .before .before .before .before .before .before .before .before .before .before .before .before .before .before .before .before .before .before .before .before .before .before .before .before .before .before .before .before .before .before .before) in let a = y .args in let b = y .pre in read-did (printerOf (a .printer)) (wholeOf (a .status) (now (a .cells)) (now (a .arena)) (now (a .ends)) (now (a .store)) (now (a .text-firsts)) (now (a .text-seconds)) (now (a .kinds)) (now (a .lengths)) (now (a .firsts)) (now (a .seconds)) (now (a .values)) (now (a .steps))) [] _ (now (a .line)) _ _ _ _ (no-arguments-of _ []) (take-length (now (a .line))) (c .before .before .before .before .before .before .before .before .before .before .before .before .before .before .before .before .before .read .ensures) _ _ _ _ (c .before .before .finish .ensures)
+returns c = let y = (c .before .before .before .before .before .before .before .before .before .before .before .before .before .before .before .before .before .before .before .before .before .before .before .before .before .before .before .before .before .before .before .before .before .before .before) in let a = y .args in let b = y .pre in read-refines (printerOf (a .printer)) (wholeOf (a .status) (now (a .cells)) (now (a .arena)) (now (a .ends)) (now (a .store)) (now (a .text-firsts)) (now (a .text-seconds)) (now (a .kinds)) (now (a .lengths)) (now (a .firsts)) (now (a .seconds)) (now (a .values)) (now (a .steps))) [] _ (now (a .line)) _ _ _ _ (no-arguments-of _ []) (take-length (now (a .line))) (c .before .before .before .before .before .before .before .before .before .before .before .before .before .before .before .before .before .read .ensures) _ _ _ _ (c .before .before .finish .ensures)
 
 pub deal-spec : {M : Type 1} → statement M
 deal-spec =

@@ -7,9 +7,9 @@ use Rattle.rules.specs.Session.{idle, workEnd}
 use Rattle.settings.specs.Layout.Layouts.{printerOf}
 use Rattle.input_stack.specs.declared.stack.Entry.{Entry}
 use Rattle.page.specs.declared.springs.Way.the-variants.{Refused}
-use Rattle.state.specs.WholeLaws.{desk-did, stay-did}
+use Rattle.state.specs.WholeLaws.{page-refines, stay-refines}
 use Rattle.state.specs.Statuses.{wholeOf}
-use Rattle.formatter.specs.StoredLines.WorkLaws.{worked-end, idle-open, idle-none}
+use Rattle.formatter.specs.StoredLines.WorkLaws.{step-end, idle-open, idle-none}
 use Rattle.formatter.proofs.stored_lines.Others.{no-text}
 use borrow.Author.Needs.{needs}
 use Rattle.formatter.proofs.work.Statement.{statement}
@@ -22,10 +22,10 @@ counted-requires : tie.Need-counted-requires
 counted-requires c κs = search needs
 
 returns : tie.Need-returns
-returns c = let y = (c .before .before .before .before .before .before .before .before) in let a = y .args in let b = y .pre in rw (c .counted .ensures, c .before .stay .ensures) (worked-end (printerOf (a .printer)) (wholeOf (a .status) (now (a .cells)) (now (a .arena)) (now (a .ends)) (now (a .store)) (now (a .text-firsts)) (now (a .text-seconds)) (now (a .kinds)) (now (a .lengths)) (now (a .firsts)) (now (a .seconds)) (now (a .values)) (now (a .steps))) (a .stored) (b .counted) _ _ _ _ (c .before .before .before .if1 .taken) (λ s. idle (printerOf (a .printer)) true (s .tables .opened) s) (λ x. refl) (stay-did (λ s. idle (printerOf (a .printer)) true (s .tables .opened) s) (wholeOf (a .status) (now (a .cells)) (now (a .arena)) (now (a .ends)) (now (a .store)) (now (a .text-firsts)) (now (a .text-seconds)) (now (a .kinds)) (now (a .lengths)) (now (a .firsts)) (now (a .seconds)) (now (a .values)) (now (a .steps))) (Refused 8) _ (b .sound) (omega (arith, c .before .before .before .if1 .taken)) (b .long) (λ x. idle-open (printerOf (a .printer)) (wholeOf (a .status) (now (a .cells)) (now (a .arena)) (now (a .ends)) (now (a .store)) (now (a .text-firsts)) (now (a .text-seconds)) (now (a .kinds)) (now (a .lengths)) (now (a .firsts)) (now (a .seconds)) (now (a .values)) (now (a .steps))) x (c .before .before .if2 .taken))))
+returns c = let y = (c .before .before .before .before .before .before .before .before) in let a = y .args in let b = y .pre in rw (c .counted .ensures, c .before .stay .ensures) (step-end (printerOf (a .printer)) (wholeOf (a .status) (now (a .cells)) (now (a .arena)) (now (a .ends)) (now (a .store)) (now (a .text-firsts)) (now (a .text-seconds)) (now (a .kinds)) (now (a .lengths)) (now (a .firsts)) (now (a .seconds)) (now (a .values)) (now (a .steps))) (a .stored) (b .counted) _ _ _ _ (c .before .before .before .if1 .taken) (λ s. idle (printerOf (a .printer)) true (s .tables .opened) s) (λ x. refl) (stay-refines (λ s. idle (printerOf (a .printer)) true (s .tables .opened) s) (wholeOf (a .status) (now (a .cells)) (now (a .arena)) (now (a .ends)) (now (a .store)) (now (a .text-firsts)) (now (a .text-seconds)) (now (a .kinds)) (now (a .lengths)) (now (a .firsts)) (now (a .seconds)) (now (a .values)) (now (a .steps))) (Refused 8) _ (b .sound) (omega (arith, c .before .before .before .if1 .taken)) (b .long) (λ x. idle-open (printerOf (a .printer)) (wholeOf (a .status) (now (a .cells)) (now (a .arena)) (now (a .ends)) (now (a .store)) (now (a .text-firsts)) (now (a .text-seconds)) (now (a .kinds)) (now (a .lengths)) (now (a .firsts)) (now (a .seconds)) (now (a .values)) (now (a .steps))) x (c .before .before .if2 .taken))))
 
 work-end-requires : tie.Need-work-end-requires
-work-end-requires c κs = let y = (c .before .before .before .before .before .before .before .before .before .before .before .before) in let a = y .args in let b = y .pre in record { sound = b .sound .sheet; items = omega (arith, c .before .before .before .before .before .before .before .if1 .taken); short = omega arith; long = b .long; names = b .sound .lies .names }
+work-end-requires c κs = let y = (c .before .before .before .before .before .before .before .before .before .before .before .before) in let a = y .args in let b = y .pre in record { sound = b .sound .pageState; items = omega (arith, c .before .before .before .before .before .before .before .if1 .taken); short = omega arith; long = b .long; names = b .sound .lies .names }
 
 moved-requires : tie.Need-moved-requires
 moved-requires c κs = search needs
@@ -34,10 +34,10 @@ counted-requires-2 : tie.Need-counted-requires-2
 counted-requires-2 c κs = search needs
 
 returns-2 : tie.Need-returns-2
-returns-2 c = let y = (c .before .before .before .before .before .before .before .before .before .before .before .before .before .before .before) in let a = y .args in let b = y .pre in rw (c .counted2 .ensures, c .before .moved .ensures) (worked-end (printerOf (a .printer)) (wholeOf (a .status) (now (a .cells)) (now (a .arena)) (now (a .ends)) (now (a .store)) (now (a .text-firsts)) (now (a .text-seconds)) (now (a .kinds)) (now (a .lengths)) (now (a .firsts)) (now (a .seconds)) (now (a .values)) (now (a .steps))) (a .stored) (b .counted) _ _ _ _ (c .before .before .before .before .before .before .before .before .before .before .if1 .taken) (λ s. workEnd (s .page .last) s) (λ x. idle-none (printerOf (a .printer)) (wholeOf (a .status) (now (a .cells)) (now (a .arena)) (now (a .ends)) (now (a .store)) (now (a .text-firsts)) (now (a .text-seconds)) (now (a .kinds)) (now (a .lengths)) (now (a .firsts)) (now (a .seconds)) (now (a .values)) (now (a .steps))) x (c .before .before .before .before .before .before .before .before .before .if2 .left)) (desk-did (λ ts s. workEnd (s .page .last) s) (wholeOf (a .status) (now (a .cells)) (now (a .arena)) (now (a .ends)) (now (a .store)) (now (a .text-firsts)) (now (a .text-seconds)) (now (a .kinds)) (now (a .lengths)) (now (a .firsts)) (now (a .seconds)) (now (a .values)) (now (a .steps))) _ _ _ _ (b .sound) (c .before .before .work-end .ensures)))
+returns-2 c = let y = (c .before .before .before .before .before .before .before .before .before .before .before .before .before .before .before) in let a = y .args in let b = y .pre in rw (c .counted2 .ensures, c .before .moved .ensures) (step-end (printerOf (a .printer)) (wholeOf (a .status) (now (a .cells)) (now (a .arena)) (now (a .ends)) (now (a .store)) (now (a .text-firsts)) (now (a .text-seconds)) (now (a .kinds)) (now (a .lengths)) (now (a .firsts)) (now (a .seconds)) (now (a .values)) (now (a .steps))) (a .stored) (b .counted) _ _ _ _ (c .before .before .before .before .before .before .before .before .before .before .if1 .taken) (λ s. workEnd (s .page .last) s) (λ x. idle-none (printerOf (a .printer)) (wholeOf (a .status) (now (a .cells)) (now (a .arena)) (now (a .ends)) (now (a .store)) (now (a .text-firsts)) (now (a .text-seconds)) (now (a .kinds)) (now (a .lengths)) (now (a .firsts)) (now (a .seconds)) (now (a .values)) (now (a .steps))) x (c .before .before .before .before .before .before .before .before .before .if2 .left)) (page-refines (λ ts s. workEnd (s .page .last) s) (wholeOf (a .status) (now (a .cells)) (now (a .arena)) (now (a .ends)) (now (a .store)) (now (a .text-firsts)) (now (a .text-seconds)) (now (a .kinds)) (now (a .lengths)) (now (a .firsts)) (now (a .seconds)) (now (a .values)) (now (a .steps))) _ _ _ _ (b .sound) (c .before .before .work-end .ensures)))
 
 top-requires : tie.Need-top-requires
-top-requires c κs = let y = (c .before .before .before .before .before .before) in let a = y .args in let b = y .pre in (omega (arith, c .before .if1 .left), b .sound .sheet .columns .few)
+top-requires c κs = let y = (c .before .before .before .before .before .before) in let a = y .args in let b = y .pre in (omega (arith, c .before .if1 .left), b .sound .pageState .columns .few)
 
 enum-known-what : tie.Need-enum-known-what
 enum-known-what c = search needs

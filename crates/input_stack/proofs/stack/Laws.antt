@@ -14,8 +14,8 @@ use Rattle.input_stack.specs.declared.frames.What.{What}
 use Rattle.input_stack.specs.declared.stack.Entry.{Entry}
 use Rattle.input_stack.specs.declared.stack.Stack.{Stack}
 use Rattle.input_stack.specs.declared.frames.Words.{Words}
-use Rattle.input_stack.specs.Frames.Words.{wordsOf, whatIn}
-use Rattle.input_stack.specs.Stack.Frames.{frame, entry, entryAt, entered, frameAt, framesTo, Columns, PushedTo, isCalled, calledTo}
+use Rattle.input_stack.specs.Frames.Words.{itemWords, whatIn}
+use Rattle.input_stack.specs.Stack.Frames.{frame, frameEntry, entryAt, entered, frameAt, framesTo, StackInvariant, PushedTo, isCalled, calledBelow}
 use Rattle.input_stack.specs.Stack.FrameLaws.{entry-is, entry-within, frames-kept}
 
 -- what is before a copy stays
@@ -62,7 +62,7 @@ module _ (ps : List ℕ) (i : ℕ) (w : Words) (n : ℕ) (l : i * 13 + 4 ≤ len
   l₃ : length p₃ ≡ length ps
   l₃ = length-set p₂ (i * 13 + 2) (w .third) ∙ l₂
 
-  entered-entry : entryAt (set p₃ (i * 13 + 3) n) i ≡ entry (whatIn w) n
+  entered-entry : entryAt (set p₃ (i * 13 + 3) n) i ≡ frameEntry (whatIn w) n
   entered-entry =
       entry-is (set p₃ (i * 13 + 3) n) i (w .first) (w .second) (w .third) n
       (getD-set-other p₃ (i * 13 + 3) (i * 13) n 0 (λ q. absurd (omega arith)) ∙ getD-set-other p₂ (i * 13 + 2) (i * 13) (w .third) 0 (λ q. absurd (omega arith))
@@ -73,24 +73,24 @@ module _ (ps : List ℕ) (i : ℕ) (w : Words) (n : ℕ) (l : i * 13 + 4 ≤ len
       (getD-set-same p₃ (i * 13 + 3) n 0 (omega (arith, l₃)))
 
 -- a frame on top
-module _ (s : Stack) (bs ps : List ℕ) (w : What) (l g : List ℕ) (k : Columns s bs ps) (back : whatIn (wordsOf w) ≡ w) (h : s .depth < 17) (a : length l ≤ 512) (b : length g ≡ 9) where
+module _ (s : Stack) (bs ps : List ℕ) (w : What) (l g : List ℕ) (k : StackInvariant s bs ps) (back : whatIn (itemWords w) ≡ w) (h : s .depth < 17) (a : length l ≤ 512) (b : length g ≡ 9) where
   abbrev d : ℕ
   d = s .depth
 
   abbrev e : Entry
-  e = entry w (length l)
+  e = frameEntry w (length l)
 
   abbrev bs' : List ℕ
   bs' = paste bs (d * 512) l (length l)
 
   abbrev ps₁ : List ℕ
-  ps₁ = entered ps (d * 13) (wordsOf w) (length l)
+  ps₁ = entered ps (d * 13) (itemWords w) (length l)
 
   abbrev ps' : List ℕ
   ps' = paste ps₁ (d * 13 + 4) g 9
 
   long₁ : length ps₁ ≡ 221
-  long₁ = entered-length ps (d * 13) (wordsOf w) (length l) ∙ k .ends-long
+  long₁ = entered-length ps (d * 13) (itemWords w) (length l) ∙ k .ends-long
 
   words-kept : take (d * 13 + 4) ps' ≡ take (d * 13 + 4) ps₁
   words-kept = before-copy ps₁ (d * 13 + 4) g 9 (omega (arith, long₁)) (omega arith)
@@ -98,12 +98,12 @@ module _ (s : Stack) (bs ps : List ℕ) (w : What) (l g : List ℕ) (k : Columns
   before-kept : take (d * 13) ps' ≡ take (d * 13) ps
   before-kept =
       sym (take-take (d * 13) (d * 13 + 4) ps' (omega arith)) ∙ ap (take (d * 13)) words-kept ∙ take-take (d * 13) (d * 13 + 4) ps₁ (omega arith)
-      ∙ entered-before ps (d * 13) (wordsOf w) (length l)
+      ∙ entered-before ps (d * 13) (itemWords w) (length l)
 
   entry-on : entryAt ps' d ≡ e
   entry-on =
-      entry-within (d * 13 + 4) d ps₁ ps' (omega arith) words-kept ∙ entered-entry ps d (wordsOf w) (length l) (omega (arith, k .ends-long))
-      ∙ ap (λ (x : What). entry x (length l)) back
+      entry-within (d * 13 + 4) d ps₁ ps' (omega arith) words-kept ∙ entered-entry ps d (itemWords w) (length l) (omega (arith, k .ends-long))
+      ∙ ap (λ (x : What). frameEntry x (length l)) back
 
   top-is : frameAt bs' ps' d ≡ frame e l g
   top-is =
@@ -143,11 +143,11 @@ front-step d s j v h k e t =
     ∙ sym (take-suc s j 0 k) ∙ ap (λ (n : ℕ). take n s) (sym (add-one j))
 
 -- a text lies below a depth if it is the frame under it, or lies below that
-pub called-step : (n : Name) (ps : List ℕ) (i : ℕ) → 0 < i → calledTo n ps i ≡ isCalled n (entryAt ps (i - 1) .what) || calledTo n ps (i - 1)
-unfolding calledTo
-called-step n ps i h = let e : i ≡ suc (i - 1) = omega arith in ap (calledTo n ps) e
+pub called-step : (n : Name) (ps : List ℕ) (i : ℕ) → 0 < i → calledBelow n ps i ≡ isCalled n (entryAt ps (i - 1) .what) || calledBelow n ps (i - 1)
+unfolding calledBelow
+called-step n ps i h = let e : i ≡ suc (i - 1) = omega arith in ap (calledBelow n ps) e
 
 -- and none lies below the first
-pub called-none : (n : Name) (ps : List ℕ) (i : ℕ) → i ≡ 0 → calledTo n ps i ≡ false
-unfolding calledTo
-called-none n ps i e = ap (calledTo n ps) e
+pub called-none : (n : Name) (ps : List ℕ) (i : ℕ) → i ≡ 0 → calledBelow n ps i ≡ false
+unfolding calledBelow
+called-none n ps i e = ap (calledBelow n ps) e

@@ -23,22 +23,22 @@ settingNumber Ce = 5
 settingNumber In = 6
 settingNumber Ti = 7
 
-abbrev pub numberOf : Breaking → ℕ
-numberOf Br = 0
-numberOf Sp = 1
-numberOf Bp = 2
-numberOf (Sets r) = settingNumber r
+abbrev pub requestNumber : Breaking → ℕ
+requestNumber Br = 0
+requestNumber Sp = 1
+requestNumber Bp = 2
+requestNumber (Sets r) = settingNumber r
 
 -- the request of a number; a number that is none of theirs counts as the last
-abbrev pub requestOf : ℕ → Breaking
-requestOf zero = Br
-requestOf (suc zero) = Sp
-requestOf (suc (suc zero)) = Bp
-requestOf (suc (suc (suc zero))) = Sets Fi
-requestOf (suc (suc (suc (suc zero)))) = Sets Nf
-requestOf (suc (suc (suc (suc (suc zero))))) = Sets Ce
-requestOf (suc (suc (suc (suc (suc (suc zero)))))) = Sets In
-requestOf (suc (suc (suc (suc (suc (suc (suc n))))))) = Sets Ti
+abbrev pub requestBy : ℕ → Breaking
+requestBy zero = Br
+requestBy (suc zero) = Sp
+requestBy (suc (suc zero)) = Bp
+requestBy (suc (suc (suc zero))) = Sets Fi
+requestBy (suc (suc (suc (suc zero)))) = Sets Nf
+requestBy (suc (suc (suc (suc (suc zero))))) = Sets Ce
+requestBy (suc (suc (suc (suc (suc (suc zero)))))) = Sets In
+requestBy (suc (suc (suc (suc (suc (suc (suc n))))))) = Sets Ti
 
 -- a name in a word
 abbrev pub nameWord : Name → ℕ
@@ -53,18 +53,18 @@ periodOf true = 258
 periodOf false = 2
 
 -- words, one by one
-abbrev pub words : (first second third : ℕ) → Words
-words a b c = record { first = a; second = b; third = c }
+abbrev pub frameWords : (first second third : ℕ) → Words
+frameWords a b c = record { first = a; second = b; third = c }
 
 -- the words of an item: its kind, with 256 times a small number; a name, or the low half of a page; a place, or the high half
-abbrev pub wordsOf : What → Words
-wordsOf (Reading n k c) = words (0 + 256 * c) (nameWord n) k
-wordsOf Text = words 1 0 0
-wordsOf (Control q n) = words (periodOf q) (nameWord n) 0
-wordsOf Ignored = words 3 0 0
-wordsOf (Others g) = words (4 + 256 * g) 0 0
-wordsOf (Acts r) = words (5 + 256 * numberOf r) 0 0
-wordsOf (Ejects p) = words 6 (p % 65536) (p / 65536)
+abbrev pub itemWords : What → Words
+itemWords (Reading n k c) = frameWords (0 + 256 * c) (nameWord n) k
+itemWords Text = frameWords 1 0 0
+itemWords (Control q n) = frameWords (periodOf q) (nameWord n) 0
+itemWords Ignored = frameWords 3 0 0
+itemWords (Others g) = frameWords (4 + 256 * g) 0 0
+itemWords (Acts r) = frameWords (5 + 256 * requestNumber r) 0 0
+itemWords (Ejects p) = frameWords 6 (p % 65536) (p / 65536)
 
 -- the item of a kind; a kind that is none of theirs is an ignored line
 abbrev pub whatBy : (kind small second third : ℕ) → What
@@ -73,7 +73,7 @@ whatBy (suc zero) s b c = Text
 whatBy (suc (suc zero)) s b c = Control (not (eqb s 0)) (nameIn b)
 whatBy (suc (suc (suc zero))) s b c = Ignored
 whatBy (suc (suc (suc (suc zero)))) s b c = Others s
-whatBy (suc (suc (suc (suc (suc zero))))) s b c = Acts (requestOf s)
+whatBy (suc (suc (suc (suc (suc zero))))) s b c = Acts (requestBy s)
 whatBy (suc (suc (suc (suc (suc (suc zero)))))) s b c = Ejects (b + 65536 * c)
 whatBy (suc (suc (suc (suc (suc (suc (suc k))))))) s b c = Ignored
 
@@ -113,7 +113,7 @@ unfolding whatOf
 what-rest a b c p q r t u v = by-rest (a % 256) (a / 256) b c p q r t u v
 
 -- Any other number is the last request.
-pub request-rest : (n : ℕ) → n ≢ 0 → n ≢ 1 → n ≢ 2 → n ≢ 3 → n ≢ 4 → n ≢ 5 → n ≢ 6 → requestOf n ≡ Sets Ti
+pub request-rest : (n : ℕ) → n ≢ 0 → n ≢ 1 → n ≢ 2 → n ≢ 3 → n ≢ 4 → n ≢ 5 → n ≢ 6 → requestBy n ≡ Sets Ti
 request-rest zero p q r s t u v = absurd (p refl)
 request-rest (suc zero) p q r s t u v = absurd (q refl)
 request-rest (suc (suc zero)) p q r s t u v = absurd (r refl)
@@ -130,7 +130,7 @@ name-back n s =
     ap (λ (k : ℕ). twoBytes k (nameWord n % 256)) x ∙ ap (twoBytes (n .first)) y
 
 -- A request by its number is that request.
-pub request-back : (r : Breaking) → requestOf (numberOf r) ≡ r
+pub request-back : (r : Breaking) → requestBy (requestNumber r) ≡ r
 request-back Br = refl
 request-back Sp = refl
 request-back Bp = refl
@@ -141,25 +141,25 @@ request-back (Sets In) = refl
 request-back (Sets Ti) = refl
 
 -- the name of an item has a second byte
-abbrev pub Named : What → Type 0
-Named (Reading n k c) = n .second < 256
-Named Text = Unit
-Named (Control q n) = n .second < 256
-Named Ignored = Unit
-Named (Others g) = Unit
-Named (Acts r) = Unit
-Named (Ejects p) = Unit
+abbrev pub SecondFits : What → Type 0
+SecondFits (Reading n k c) = n .second < 256
+SecondFits Text = Unit
+SecondFits (Control q n) = n .second < 256
+SecondFits Ignored = Unit
+SecondFits (Others g) = Unit
+SecondFits (Acts r) = Unit
+SecondFits (Ejects p) = Unit
 
 period-back : (q : Bool) (n : Name) → whatOf (periodOf q) (nameWord n) 0 ≡ Control q (nameIn (nameWord n))
 period-back true n = what-is 2 1 258 (nameWord n) 0 (omega arith) refl
 period-back false n = what-is 2 0 2 (nameWord n) 0 (omega arith) refl
 
 -- The words of an item stand for it.
-pub what-back : (w : What) → Named w → whatIn (wordsOf w) ≡ w
+pub what-back : (w : What) → SecondFits w → whatIn (itemWords w) ≡ w
 what-back (Reading n k c) h = what-is 0 c (0 + 256 * c) (nameWord n) k (omega arith) refl ∙ ap (λ (m : Name). Reading m k c) (name-back n h)
 what-back Text h = what-is 1 0 1 0 0 (omega arith) refl
 what-back (Control q n) h = period-back q n ∙ ap (Control q) (name-back n h)
 what-back Ignored h = what-is 3 0 3 0 0 (omega arith) refl
 what-back (Others g) h = what-is 4 g (4 + 256 * g) 0 0 (omega arith) refl
-what-back (Acts r) h = what-is 5 (numberOf r) (5 + 256 * numberOf r) 0 0 (omega arith) refl ∙ ap Acts (request-back r)
+what-back (Acts r) h = what-is 5 (requestNumber r) (5 + 256 * requestNumber r) 0 0 (omega arith) refl ∙ ap Acts (request-back r)
 what-back (Ejects p) h = what-is 6 0 6 (p % 65536) (p / 65536) (omega arith) refl ∙ ap Ejects (omega arith)

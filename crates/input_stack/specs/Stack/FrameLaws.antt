@@ -12,7 +12,7 @@ use Rattle.input_stack.specs.declared.frames.What.{What}
 use Rattle.input_stack.specs.declared.frames.What.the-variants.{Reading}
 use Rattle.input_stack.specs.declared.stack.Entry.{Entry}
 use Rattle.input_stack.specs.Frames.Words.{nameIn, whatBy, whatOf}
-use Rattle.input_stack.specs.Stack.Frames.{frame, entry, entryAt, frameAt, framesTo, moved, movedEntry, placedBy, placedIn}
+use Rattle.input_stack.specs.Stack.Frames.{frame, frameEntry, entryAt, frameAt, framesTo, moved, movedEntry, placedBy, placedIn}
 
 drop-take : (n m : ℕ) (l : List ℕ) → drop n (take (n + m) l) ≡ take m (drop n l)
 drop-take zero m l = let z : 0 + m ≡ m = omega arith in ap (λ (k : ℕ). take k l) z
@@ -29,7 +29,7 @@ word-within w i a b h e = sym (getD-take w a i 0 h) ∙ ap (λ (l : List ℕ). g
 
 -- An entry is that of its words.
 pub entry-is : (ps : List ℕ) (i a b c n : ℕ) → getD ps (i * 13) 0 ≡ a → getD ps (i * 13 + 1) 0 ≡ b → getD ps (i * 13 + 2) 0 ≡ c → getD ps (i * 13 + 3) 0 ≡ n
-    → entryAt ps i ≡ entry (whatOf a b c) n
+    → entryAt ps i ≡ frameEntry (whatOf a b c) n
 unfolding entryAt
 entry-is ps i a b c n p q r s = rw (p, q, r, s)
 
@@ -87,11 +87,11 @@ module _ (ps : List ℕ) (i p : ℕ) where
       entry-is (set ps (i * 13 + 2) p) i first (getD ps (i * 13 + 1) 0) p (getD ps (i * 13 + 3) 0)
       (getD-set-other ps (i * 13 + 2) (i * 13) p 0 (λ q. absurd (omega arith))) (getD-set-other ps (i * 13 + 2) (i * 13 + 1) p 0 (λ q. absurd (omega arith)))
       (getD-set-same ps (i * 13 + 2) p 0 (omega arith)) (getD-set-other ps (i * 13 + 2) (i * 13 + 3) p 0 (λ q. absurd (omega arith)))
-      ∙ ap (λ (w : What). entry w (getD ps (i * 13 + 3) 0)) (what-text first (getD ps (i * 13 + 1) 0) p z)
-      ∙ sym (ap (λ (w : What). entry (moved p w) (getD ps (i * 13 + 3) 0)) (what-text first (getD ps (i * 13 + 1) 0) (getD ps (i * 13 + 2) 0) z))
+      ∙ ap (λ (w : What). frameEntry w (getD ps (i * 13 + 3) 0)) (what-text first (getD ps (i * 13 + 1) 0) p z)
+      ∙ sym (ap (λ (w : What). frameEntry (moved p w) (getD ps (i * 13 + 3) 0)) (what-text first (getD ps (i * 13 + 1) 0) (getD ps (i * 13 + 2) 0) z))
   entry-by false e l =
       let z = eqb-false (first % 256) 0 e in
-      sym (ap (λ (w : What). entry w (getD ps (i * 13 + 3) 0)) (what-other first (getD ps (i * 13 + 1) 0) (getD ps (i * 13 + 2) 0) p (omega arith)))
+      sym (ap (λ (w : What). frameEntry w (getD ps (i * 13 + 3) 0)) (what-other first (getD ps (i * 13 + 1) 0) (getD ps (i * 13 + 2) 0) p (omega arith)))
 
   -- The entry there has that place.
   pub placed-entry : i * 13 + 4 ≤ length ps → entryAt (placedIn ps i p) i ≡ movedEntry p (entryAt ps i)

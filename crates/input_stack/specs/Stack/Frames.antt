@@ -25,8 +25,8 @@ abbrev pub frame : Entry → List ℕ → List ℕ → Frame
 frame e bs es = record { entry = e; bytes = bs; ends = es }
 
 -- an entry, field by field
-abbrev pub entry : What → (size : ℕ) → Entry
-entry w n = record { what = w; size = n }
+abbrev pub frameEntry : What → (size : ℕ) → Entry
+frameEntry w n = record { what = w; size = n }
 
 -- a stack with nothing on it
 abbrev pub noFrames : Stack
@@ -34,7 +34,7 @@ noFrames = record { depth = 0 }
 
 -- the entry in a row
 unfoldable pub entryAt : (ends : List ℕ) → ℕ → Entry
-entryAt ps i = entry (whatOf (getD ps (i * 13) 0) (getD ps (i * 13 + 1) 0) (getD ps (i * 13 + 2) 0)) (getD ps (i * 13 + 3) 0)
+entryAt ps i = frameEntry (whatOf (getD ps (i * 13) 0) (getD ps (i * 13 + 1) 0) (getD ps (i * 13 + 2) 0)) (getD ps (i * 13 + 3) 0)
 
 -- an entry put into its four words
 abbrev pub entered : (ends : List ℕ) → (at : ℕ) → Words → (size : ℕ) → List ℕ
@@ -70,7 +70,7 @@ abbrev pub topEnds : Stack → (ends : List ℕ) → List ℕ
 topEnds s ps = take 9 (drop ((s .depth - 1) * 13 + 4) ps)
 
 -- "10: input stack past 16 items": there are no more, but for one that is held for a moment, each within its bytes
-pub record Columns (s : Stack) (arena ends : List ℕ) : Type 0 where
+pub record StackInvariant (s : Stack) (arena ends : List ℕ) : Type 0 where
   pub few : s .depth ≤ 17
   pub long : length arena ≡ 8704
   pub ends-long : length ends ≡ 221
@@ -84,8 +84,8 @@ pub record Topped (s : Stack) (ends : List ℕ) : Type 0 where
 
 -- one frame more on top
 pub record PushedTo (s : Stack) (bs ps : List ℕ) (w : What) (l g : List ℕ) (r : Stack) (bs' ps' : List ℕ) : Type 0 where
-  pub frames : framesOf r bs' ps' ≡ frame (entry w (length l)) l g ∷ framesOf s bs ps
-  pub columns : Columns r bs' ps'
+  pub frames : framesOf r bs' ps' ≡ frame (frameEntry w (length l)) l g ∷ framesOf s bs ps
+  pub columns : StackInvariant r bs' ps'
   pub depth : r .depth ≡ s .depth + 1
 
 -- the bytes of the frame on top stand in front
@@ -96,8 +96,8 @@ pub record LoadedTo (s : Stack) (arena ends : List ℕ) (r : ℕ) (out : List �
   pub long : length out ≡ 512
 
 -- the stack without the frame on top
-abbrev pub below : Stack → Stack
-below s = record { depth = s .depth - 1 }
+abbrev pub popped : Stack → Stack
+popped s = record { depth = s .depth - 1 }
 
 -- a text that is read up to another place
 abbrev pub moved : (place : ℕ) → What → What
@@ -111,7 +111,7 @@ moved p (Ejects n) = Ejects n
 
 -- an entry with another place
 abbrev pub movedEntry : (place : ℕ) → Entry → Entry
-movedEntry p e = entry (moved p (e .what)) (e .size)
+movedEntry p e = frameEntry (moved p (e .what)) (e .size)
 
 -- words with another place from a row on, if that is a text
 abbrev pub placedBy : (text : Bool) → (ends : List ℕ) → (at place : ℕ) → List ℕ
@@ -136,6 +136,6 @@ isCalled n (Acts r) = false
 isCalled n (Ejects p) = false
 
 -- whether one below a depth is
-unfoldable pub calledTo : Name → (ends : List ℕ) → ℕ → Bool
-calledTo n ps zero = false
-calledTo n ps (suc d) = isCalled n (entryAt ps d .what) || calledTo n ps d
+unfoldable pub calledBelow : Name → (ends : List ℕ) → ℕ → Bool
+calledBelow n ps zero = false
+calledBelow n ps (suc d) = isCalled n (entryAt ps d .what) || calledBelow n ps d

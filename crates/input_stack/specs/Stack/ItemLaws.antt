@@ -23,9 +23,9 @@ use Rattle.input_stack.specs.declared.frames.What.{What}
 use Rattle.input_stack.specs.declared.frames.What.the-variants as what
 use Rattle.input_stack.specs.declared.stack.Entry.{Entry}
 use Rattle.input_stack.specs.declared.stack.Stack.{Stack}
-use Rattle.input_stack.specs.Stack.Frames.{Frame, frame, entryAt, frameAt, framesTo, framesOf, topFrame, topEntry, topBytes, topEnds, Columns, Topped, PushedTo, below, moved, movedEntry, placedIn, placedAt, isCalled, calledTo}
+use Rattle.input_stack.specs.Stack.Frames.{Frame, frame, entryAt, frameAt, framesTo, framesOf, topFrame, topEntry, topBytes, topEnds, StackInvariant, Topped, PushedTo, popped, moved, movedEntry, placedIn, placedAt, isCalled, calledBelow}
 use Rattle.input_stack.specs.Stack.FrameLaws.{frames-kept, placed-entry, placed-size, placed-before, placed-behind, placed-length}
-use Rattle.input_stack.specs.Stack.Items.{unreadBy, unread, itemBy, itemOf, itemsOf, stackOf, GoodBy, Good, Stacked}
+use Rattle.input_stack.specs.Stack.Items.{unreadBy, unread, itemBy, itemOf, itemsOf, stackOf, GoodBy, GoodFrames, Stacked}
 
 frames-to : (bs ps : List ℕ) (d : ℕ) → length (framesTo bs ps d) ≡ d
 unfolding framesTo
@@ -47,27 +47,27 @@ pub stack-length : (ts : List Text) (s : Stack) (arena ends : List ℕ) → leng
 stack-length ts s bs ps = items-length ts (framesOf s bs ps) ∙ frames-length s bs ps
 
 -- A stack is its top frame and the frames below it.
-pub top-first : (s : Stack) (arena ends : List ℕ) → 0 < s .depth → framesOf s arena ends ≡ topFrame s arena ends ∷ framesOf (below s) arena ends
+pub top-first : (s : Stack) (arena ends : List ℕ) → 0 < s .depth → framesOf s arena ends ≡ topFrame s arena ends ∷ framesOf (popped s) arena ends
 unfolding framesTo
 top-first s bs ps h = let e : s .depth ≡ suc (s .depth - 1) = omega arith in ap (framesTo bs ps) e
 
 -- The same of its items, where it is known what the one on top is.
 pub top-item : (ts : List Text) (s : Stack) (arena ends : List ℕ) (w : What) → 0 < s .depth → topEntry s ends .what ≡ w
-    → stackOf ts s arena ends ≡ itemBy ts w (topBytes s arena ends) (topEnds s ends) ∷ stackOf ts (below s) arena ends
+    → stackOf ts s arena ends ≡ itemBy ts w (topBytes s arena ends) (topEnds s ends) ∷ stackOf ts (popped s) arena ends
 unfolding itemsOf
 top-item ts s bs ps w h e =
-    ap (itemsOf ts) (top-first s bs ps h) ∙ ap (λ (x : What). itemBy ts x (topBytes s bs ps) (topEnds s ps) ∷ stackOf ts (below s) bs ps) e
+    ap (itemsOf ts) (top-first s bs ps h) ∙ ap (λ (x : What). itemBy ts x (topBytes s bs ps) (topEnds s ps) ∷ stackOf ts (popped s) bs ps) e
 
 -- The first of the frames is the one on top, and the others lie below it.
 pub top-known : (s : Stack) (arena ends : List ℕ) (f : Frame) (fs : List Frame) → framesOf s arena ends ≡ f ∷ fs
-    → (topFrame s arena ends ≡ f) × (framesOf (below s) arena ends ≡ fs)
+    → (topFrame s arena ends ≡ f) × (framesOf (popped s) arena ends ≡ fs)
 top-known s bs ps f fs e = let h = top-first s bs ps (omega (arith, frames-length s bs ps, ap length e)) in (cc, cc)
 
 -- The frame on top of a stack is good.
 pub top-good : (ts : List Text) (s : Stack) (arena ends : List ℕ) (w : What) → 0 < s .depth → topEntry s ends .what ≡ w
     → Stacked ts s arena ends → GoodBy ts w (topBytes s arena ends) (topEnds s ends)
 top-good ts s bs ps w h e k =
-    subst (λ (x : What). GoodBy ts x (topBytes s bs ps) (topEnds s ps)) e (subst (Good ts) (top-first s bs ps h) (k .good) .0)
+    subst (λ (x : What). GoodBy ts x (topBytes s bs ps) (topEnds s ps)) e (subst (GoodFrames ts) (top-first s bs ps h) (k .good) .0)
 
 -- Nothing lies on a stack that is not deep.
 pub none-there : (ts : List Text) (s : Stack) (arena ends : List ℕ) → s .depth ≡ 0 → stackOf ts s arena ends ≡ []
@@ -75,20 +75,20 @@ unfolding itemsOf framesTo
 none-there ts s bs ps e = ap (λ (d : ℕ). itemsOf ts (framesTo bs ps d)) e
 
 -- There is a frame on top of a stack that is deep.
-pub topped : (s : Stack) (arena ends : List ℕ) → Columns s arena ends → 0 < s .depth → Topped s ends
+pub topped : (s : Stack) (arena ends : List ℕ) → StackInvariant s arena ends → 0 < s .depth → Topped s ends
 topped s bs ps k h = record { some = h; few = k .few; size = k .sizes (s .depth - 1) (omega arith) }
 
 -- What lies below keeps to the limits.
-pub below-columns : (s : Stack) (arena ends : List ℕ) → Columns s arena ends → Columns (below s) arena ends
+pub below-columns : (s : Stack) (arena ends : List ℕ) → StackInvariant s arena ends → StackInvariant (popped s) arena ends
 below-columns s bs ps k = record { few = omega (arith, k .few); long = k .long; ends-long = k .ends-long; sizes = λ i h. k .sizes i (omega arith) }
 
-good-down : (ts : List Text) (bs ps : List ℕ) (d : ℕ) → Good ts (framesTo bs ps d) → Good ts (framesTo bs ps (d - 1))
+good-down : (ts : List Text) (bs ps : List ℕ) (d : ℕ) → GoodFrames ts (framesTo bs ps d) → GoodFrames ts (framesTo bs ps (d - 1))
 unfolding framesTo
 good-down ts bs ps zero g = g
-good-down ts bs ps (suc d) g = let e : d ≡ suc d - 1 = omega arith in subst (λ (k : ℕ). Good ts (framesTo bs ps k)) e (g .1)
+good-down ts bs ps (suc d) g = let e : d ≡ suc d - 1 = omega arith in subst (λ (k : ℕ). GoodFrames ts (framesTo bs ps k)) e (g .1)
 
 -- What lies below is a stack.
-pub below-stacked : (ts : List Text) (s : Stack) (arena ends : List ℕ) → Stacked ts s arena ends → Stacked ts (below s) arena ends
+pub below-stacked : (ts : List Text) (s : Stack) (arena ends : List ℕ) → Stacked ts s arena ends → Stacked ts (popped s) arena ends
 below-stacked ts s bs ps k =
     record { columns = below-columns s bs ps (k .columns); good = good-down ts bs ps (s .depth) (k .good) }
 
@@ -100,8 +100,8 @@ module _ (ts : List Text) (s : Stack) (bs ps : List ℕ) (w : What) (l g : List 
   pushed-items = ap (itemsOf ts) (p .frames)
 
   -- A good frame leaves all good.
-  pub pushed-good : GoodBy ts w l g → Good ts (framesOf s bs ps) → Good ts (framesOf r bs' ps')
-  pushed-good a b = subst (Good ts) (sym (p .frames)) (a, b)
+  pub pushed-good : GoodBy ts w l g → GoodFrames ts (framesOf s bs ps) → GoodFrames ts (framesOf r bs' ps')
+  pushed-good a b = subst (GoodFrames ts) (sym (p .frames)) (a, b)
 
 -- a frame that is read up to another place
 abbrev pub movedFrame : (place : ℕ) → Frame → Frame
@@ -121,7 +121,7 @@ good-moved ts p (what.Others k) l es g = g
 good-moved ts p (what.Acts r) l es g = g
 good-moved ts p (what.Ejects k) l es g = g
 
-first-moved : (ts : List Text) (p : ℕ) (fs : List Frame) → Good ts fs → Good ts (movedFirst p fs)
+first-moved : (ts : List Text) (p : ℕ) (fs : List Frame) → GoodFrames ts fs → GoodFrames ts (movedFirst p fs)
 first-moved ts p [] g = g
 first-moved ts p (f ∷ fs) g = (good-moved ts p (f .entry .what) (f .bytes) (f .ends) (g .0), g .1)
 
@@ -134,7 +134,7 @@ moved-frames bs ps d p l z =
     ∙ ap (λ x. movedFrame p (frameAt bs ps d) ∷ x) (frames-kept bs bs ps (placedIn ps d p) d refl (placed-before ps d p) z d (omega arith))
 
 -- another place in the frame on top
-module _ (s : Stack) (p : ℕ) (arena ends : List ℕ) (k : Columns s arena ends) (deep : 0 < s .depth) where
+module _ (s : Stack) (p : ℕ) (arena ends : List ℕ) (k : StackInvariant s arena ends) (deep : 0 < s .depth) where
   abbrev ends' : List ℕ
   ends' = placedAt s ends p
 
@@ -162,14 +162,14 @@ module _ (s : Stack) (p : ℕ) (arena ends : List ℕ) (k : Columns s arena ends
 
   -- A text is then read from that place on.
   pub placed-item : (ts : List Text) (n : Name) (m c : ℕ) → topEntry s ends .what ≡ what.Reading n m c
-      → stackOf ts s arena ends' ≡ itemBy ts (what.Reading n p c) (topBytes s arena ends) (topEnds s ends) ∷ stackOf ts (below s) arena ends
+      → stackOf ts s arena ends' ≡ itemBy ts (what.Reading n p c) (topBytes s arena ends) (topEnds s ends) ∷ stackOf ts (popped s) arena ends
   unfolding itemsOf
   placed-item ts n m c e =
       ap (itemsOf ts) (placed-frames ∙ ap (movedFirst p) (top-first s arena ends deep))
-      ∙ ap (λ (x : What). itemBy ts (moved p x) (topBytes s arena ends) (topEnds s ends) ∷ stackOf ts (below s) arena ends) e
+      ∙ ap (λ (x : What). itemBy ts (moved p x) (topBytes s arena ends) (topEnds s ends) ∷ stackOf ts (popped s) arena ends) e
 
   -- They keep to their limits.
-  pub placed-columns : Columns s arena ends'
+  pub placed-columns : StackInvariant s arena ends'
   unfolding placedAt
   placed-columns = record {
     few = k .few;
@@ -183,7 +183,7 @@ module _ (s : Stack) (p : ℕ) (arena ends : List ℕ) (k : Columns s arena ends
 
   -- It is a stack.
   pub placed-stacked : (ts : List Text) → Stacked ts s arena ends → Stacked ts s arena ends'
-  placed-stacked ts g = record { columns = placed-columns; good = subst (Good ts) (sym placed-frames) (first-moved ts p (framesOf s arena ends) (g .good)) }
+  placed-stacked ts g = record { columns = placed-columns; good = subst (GoodFrames ts) (sym placed-frames) (first-moved ts p (framesOf s arena ends) (g .good)) }
 
 called-item : (ts : List Text) (n : Name) (w : What) (l es : List ℕ) → isCalled n w ≡ isReading n (itemBy ts w l es)
 called-item ts n (what.Reading m k c) l es = refl
@@ -194,15 +194,15 @@ called-item ts n (what.Others g) l es = refl
 called-item ts n (what.Acts r) l es = refl
 called-item ts n (what.Ejects p) l es = refl
 
-called-below : (ts : List Text) (n : Name) (bs ps : List ℕ) (d : ℕ) → calledTo n ps d ≡ onStack n (itemsOf ts (framesTo bs ps d))
-unfolding calledTo onStack itemsOf framesTo
+called-below : (ts : List Text) (n : Name) (bs ps : List ℕ) (d : ℕ) → calledBelow n ps d ≡ onStack n (itemsOf ts (framesTo bs ps d))
+unfolding calledBelow onStack itemsOf framesTo
 called-below ts n bs ps zero = refl
 called-below ts n bs ps (suc d) =
-    ap (λ (b : Bool). b || calledTo n ps d) (called-item ts n (entryAt ps d .what) (frameAt bs ps d .bytes) (frameAt bs ps d .ends))
+    ap (λ (b : Bool). b || calledBelow n ps d) (called-item ts n (entryAt ps d .what) (frameAt bs ps d .bytes) (frameAt bs ps d .ends))
     ∙ ap (λ (b : Bool). isReading n (itemOf ts (frameAt bs ps d)) || b) (called-below ts n bs ps d)
 
 -- Whether a text lies on the stack is told without the bytes.
-pub on-stack : (ts : List Text) (n : Name) (s : Stack) (arena ends : List ℕ) → calledTo n ends (s .depth) ≡ onStack n (stackOf ts s arena ends)
+pub on-stack : (ts : List Text) (n : Name) (s : Stack) (arena ends : List ℕ) → calledBelow n ends (s .depth) ≡ onStack n (stackOf ts s arena ends)
 on-stack ts n s bs ps = called-below ts n bs ps (s .depth)
 
 neither : (a b : Bool) → (a || b) ≡ false → (a ≡ false) × (b ≡ false)
@@ -236,7 +236,7 @@ module _ (ts ts' : List Text) (m : Name) (kept : (k : Name) → sameName k m ≡
       let b = neither (isReading m (itemOf ts f)) (onStack m (itemsOf ts fs)) h in
       ap (λ x. x ∷ itemsOf ts' fs) (item-kept (f .entry .what) (f .bytes) (f .ends) (b .0)) ∙ ap (λ x. itemOf ts f ∷ x) (all-kept fs (b .1))
 
-  all-good : (fs : List Frame) → onStack m (itemsOf ts fs) ≡ false → Good ts fs → Good ts' fs
+  all-good : (fs : List Frame) → onStack m (itemsOf ts fs) ≡ false → GoodFrames ts fs → GoodFrames ts' fs
   unfolding itemsOf onStack
   all-good [] h g = tt
   all-good (f ∷ fs) h g =
@@ -250,7 +250,7 @@ items-kept ts ts' m fs h kept = all-kept ts ts' m kept fs h
 
 -- The frames stay good.
 pub good-kept : (ts ts' : List Text) (m : Name) (fs : List Frame) → onStack m (itemsOf ts fs) ≡ false
-    → ((k : Name) → sameName k m ≡ false → textOf k ts' ≡ textOf k ts) → Good ts fs → Good ts' fs
+    → ((k : Name) → sameName k m ≡ false → textOf k ts' ≡ textOf k ts) → GoodFrames ts fs → GoodFrames ts' fs
 good-kept ts ts' m fs h kept g = all-good ts ts' m kept fs h g
 
 -- A text that is found is found where others stand behind it.
@@ -285,14 +285,14 @@ module _ (ts : List Text) (t : Text) where
   frame-appended (what.Ejects p) l es g = g
 
   -- The items stay what they are.
-  pub items-appended : (fs : List Frame) → Good ts fs → itemsOf (ts ++ t ∷ []) fs ≡ itemsOf ts fs
+  pub items-appended : (fs : List Frame) → GoodFrames ts fs → itemsOf (ts ++ t ∷ []) fs ≡ itemsOf ts fs
   unfolding itemsOf
   items-appended [] g = refl
   items-appended (f ∷ fs) g =
       ap (λ x. x ∷ itemsOf (ts ++ t ∷ []) fs) (item-appended (f .entry .what) (f .bytes) (f .ends) (g .0)) ∙ ap (λ x. itemOf ts f ∷ x) (items-appended fs (g .1))
 
   -- The frames stay good.
-  pub good-appended : (fs : List Frame) → Good ts fs → Good (ts ++ t ∷ []) fs
+  pub good-appended : (fs : List Frame) → GoodFrames ts fs → GoodFrames (ts ++ t ∷ []) fs
   good-appended [] g = g
   good-appended (f ∷ fs) g = (frame-appended (f .entry .what) (f .bytes) (f .ends) (g .0), good-appended fs (g .1))
 

@@ -10,13 +10,13 @@ use Rattle.rules.specs.declared.Kind.the-variants.{Macro, String}
 use Rattle.rules.specs.Texts.{Text, textOf}
 use Rattle.rules.specs.Rows.{lines}
 use Rattle.rules.specs.Filling.{words}
-use Rattle.rules.specs.State.{Item, reading, again, others, acts, ejects, text, control, ignored}
+use Rattle.rules.specs.State.{Item, reading, again, others, acts, ejects, plainText, control, ignored}
 use Rattle.rules.specs.Laws.Tables.{Each}
 use Rattle.scan.specs.Arguments.Around.{argumentsOf, Arguments}
 use Rattle.input_stack.specs.declared.frames.What.{What}
 use Rattle.input_stack.specs.declared.frames.What.the-variants as what
 use Rattle.input_stack.specs.declared.stack.Stack.{Stack}
-use Rattle.input_stack.specs.Stack.Frames.{Frame, framesOf, Columns}
+use Rattle.input_stack.specs.Stack.Frames.{Frame, framesOf, StackInvariant}
 
 -- the lines of a text from a place on: "A string called as a macro is one line"
 abbrev pub unreadBy : Kind → List ℕ → (place : ℕ) → List (List ℕ)
@@ -32,7 +32,7 @@ unread (some t) k = unreadBy (t .kind) (t .bytes) k
 -- the item of these bytes and places
 abbrev pub itemBy : List Text → What → (bytes ends : List ℕ) → Item
 itemBy ts (what.Reading n k c) l es = reading n (unread (textOf n ts) k) (argumentsOf l es c)
-itemBy ts what.Text l es = again (text l)
+itemBy ts what.Text l es = again (plainText l)
 itemBy ts (what.Control q n) l es = again (control q n l)
 itemBy ts what.Ignored l es = again ignored
 itemBy ts (what.Others g) l es = others (words l) g
@@ -71,10 +71,10 @@ abbrev pub GoodFrame : List Text → Frame → Type 0
 GoodFrame ts f = GoodBy ts (f .entry .what) (f .bytes) (f .ends)
 
 -- each of the frames is good
-abbrev pub Good : List Text → List Frame → Type 0
-Good ts fs = Each (GoodFrame ts) fs
+abbrev pub GoodFrames : List Text → List Frame → Type 0
+GoodFrames ts fs = Each (GoodFrame ts) fs
 
 -- what every stack keeps to, over these texts
 pub record Stacked (ts : List Text) (s : Stack) (arena ends : List ℕ) : Type 0 where
-  pub columns : Columns s arena ends
-  pub good : Good ts (framesOf s arena ends)
+  pub columns : StackInvariant s arena ends
+  pub good : GoodFrames ts (framesOf s arena ends)

@@ -9,29 +9,29 @@ use Rattle.state.specs.declared.Opening.{Opening}
 use Rattle.state.specs.declared.Opened.{Opened}
 use Rattle.state.specs.WholeLaws.{wayOf}
 use Rattle.state.specs.declared.Status.{Status}
-use Rattle.state.specs.declared.Step.{Step}
-use Rattle.state.specs.Steps.{stayed, withRegisters, withPlanted, withTexts}
+use Rattle.state.specs.declared.WorkOutcome.{WorkOutcome}
+use Rattle.state.specs.Steps.{stayed, withRegisterCount, withPlanted, withTextCount}
 
 -- after nr
-abbrev pub assignedTo : Assigned → Status → Step
-assignedTo (assigned.Count n) s = stayed On (withRegisters n s)
+abbrev pub assignedTo : Assigned → Status → WorkOutcome
+assignedTo (assigned.Count n) s = stayed On (withRegisterCount n s)
 assignedTo (assigned.Refused k) s = stayed (Refused k) s
 
 -- after wh
-abbrev pub plantedTo : Plants → Status → Step
+abbrev pub plantedTo : Plants → Status → WorkOutcome
 plantedTo a s = stayed (wayOf (a .refused)) (withPlanted (a .planted) s)
 
 -- after ds and rm
-abbrev pub changedTo : Changed → Status → Step
-changedTo (changed.Count n) s = stayed On (withTexts n (s .opening) s)
+abbrev pub changedTo : Changed → Status → WorkOutcome
+changedTo (changed.Count n) s = stayed On (withTextCount n (s .opening) s)
 changedTo changed.Same s = stayed On s
 changedTo (changed.Refused k) s = stayed (Refused k) s
 
 -- after de
-abbrev pub openedBy : Changed → Opening → Status → Step
-openedBy (changed.Count n) o s = stayed On (withTexts n o s)
-openedBy changed.Same o s = stayed On (withTexts (s .texts) o s)
-openedBy (changed.Refused k) o s = stayed (Refused k) (withTexts (s .texts) o s)
+abbrev pub openedBy : Changed → Opening → Status → WorkOutcome
+openedBy (changed.Count n) o s = stayed On (withTextCount n o s)
+openedBy changed.Same o s = stayed On (withTextCount (s .texts) o s)
+openedBy (changed.Refused k) o s = stayed (Refused k) (withTextCount (s .texts) o s)
 
-abbrev pub openedTo : Opened → Status → Step
+abbrev pub openedTo : Opened → Status → WorkOutcome
 openedTo a s = openedBy (a .changed) (a .opening) s

@@ -7,17 +7,17 @@ use native.Mathlib.Omega.{arith}
 use lib.ListN.{length, getD, take, drop}
 use borrow.Author.Tests.{eq-eqb, ne-eqb}
 use Rattle.rules.specs.Bytes.{byte}
-use Rattle.rules.specs.Names.{oneByte, twoBytes, none, one, tooLong, nameOf}
+use Rattle.rules.specs.Names.{oneByte, twoBytes, noName, one, tooLong, nameOf}
 use Rattle.rules.specs.Arguments.{Part}
-use Rattle.rules.specs.State.{text}
-use Rattle.rules.specs.Lines.{lineOf, named}
-use Rattle.scan.specs.Arguments.Parting.{WordAt}
+use Rattle.rules.specs.State.{plainText}
+use Rattle.rules.specs.Lines.{lineOf, namedLine}
+use Rattle.scan.specs.Arguments.Parting.{WordEnds}
 use Rattle.line_syntax.specs.declared.lines.Named.{Named}
 use Rattle.line_syntax.specs.declared.lines.Line.{Line}
-use Rattle.line_syntax.specs.Lines.Lines.{namedIs, lineIs, Inside, LineIs, ControlIs}
+use Rattle.line_syntax.specs.Lines.Lines.{namedIs, lineIs, PlaceInside, LineIs, ControlIs}
 
 -- no byte, one, two, more
-pub name-none : (l : List ℕ) → length l ≡ 0 → none ≡ nameOf l
+pub name-none : (l : List ℕ) → length l ≡ 0 → noName ≡ nameOf l
 name-none [] h = refl
 name-none (a ∷ l) h = absurd (omega arith)
 
@@ -39,10 +39,10 @@ name-long (a ∷ b ∷ []) p q r = absurd (r refl)
 name-long (a ∷ b ∷ c ∷ l) p q r = refl
 
 -- a control line by its name and where that ends
-pub control-is : (l : List ℕ) (q : Bool) (end : ℕ) (n : Named) (r : Line) → WordAt l 1 end → namedIs n ≡ nameOf (take (end - 1) (drop 1 l))
-    → lineIs l r ≡ named (namedIs n) q (drop end l) → Inside l r → ControlIs l q r
+pub control-is : (l : List ℕ) (q : Bool) (end : ℕ) (n : Named) (r : Line) → WordEnds l 1 end → namedIs n ≡ nameOf (take (end - 1) (drop 1 l))
+    → lineIs l r ≡ namedLine (namedIs n) q (drop end l) → PlaceInside l r → ControlIs l q r
 control-is l q end n r w e f i = record {
-  is = f ∙ ap (λ x. named x q (drop end l)) e ∙ ap (λ (p : Part). named (nameOf (p .part)) q (p .rest)) (w .is);
+  is = f ∙ ap (λ x. namedLine x q (drop end l)) e ∙ ap (λ (p : Part). namedLine (nameOf (p .part)) q (p .rest)) (w .is);
   inside = i;
 }
 
@@ -57,12 +57,12 @@ unfolding lineOf
 line-quote [] r h d e c = absurd (omega arith)
 line-quote (b ∷ l) r h d e c = record { is = rw (ne-eqb b (byte ".") d, eq-eqb b (byte "'") e) (c .is); inside = c .inside }
 
-pub line-text : (l : List ℕ) → (getD l 0 0 ≡ byte "." → ⊥) → (getD l 0 0 ≡ byte "'" → ⊥) → text l ≡ lineOf l
+pub line-text : (l : List ℕ) → (getD l 0 0 ≡ byte "." → ⊥) → (getD l 0 0 ≡ byte "'" → ⊥) → plainText l ≡ lineOf l
 unfolding lineOf
 line-text [] d e = refl
 line-text (b ∷ l) d e = rw (ne-eqb b (byte ".") d, ne-eqb b (byte "'") e) refl
 
-pub line-empty : (l : List ℕ) → length l ≡ 0 → text l ≡ lineOf l
+pub line-empty : (l : List ℕ) → length l ≡ 0 → plainText l ≡ lineOf l
 unfolding lineOf
 line-empty [] h = refl
 line-empty (b ∷ l) h = absurd (omega arith)

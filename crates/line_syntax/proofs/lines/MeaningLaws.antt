@@ -11,10 +11,10 @@ use Rattle.rules.specs.Requests.{requestOf}
 use Rattle.rules.specs.ControlLines.{requestMeaning, textMeaning, nameLength}
 use Rattle.texts.specs.declared.table.Spot.{Spot}
 use Rattle.texts.specs.Table.Places.{partOf}
-use Rattle.line_syntax.specs.Lines.Meanings.{Called, PrefixIs}
+use Rattle.line_syntax.specs.Lines.Meanings.{CallsText, PrefixIs}
 
 -- a text that is found is called
-pub calls-it : {ts : List Text} {n : Name} (store : List ℕ) (s : Spot) → some (text n (s .kind) (partOf store s)) ≡ textOf n ts → Called ts n (s .kind)
+pub calls-it : {ts : List Text} {n : Name} (store : List ℕ) (s : Spot) → some (text n (s .kind) (partOf store s)) ≡ textOf n ts → CallsText ts n (s .kind)
 calls-it {ts} {n} store s e = record { text = text n (s .kind) (partOf store s); is = sym e; name = refl; kind = refl }
 
 -- else the name is looked for among the requests

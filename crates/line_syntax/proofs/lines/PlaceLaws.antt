@@ -7,13 +7,13 @@ use native.Mathlib.Omega.{arith}
 use lib.Dec.{eqb}
 use lib.ListN.{length, getD, take, drop}
 use Rattle.rules.specs.Bytes.{byte, space, firstWhere}
-use Rattle.rules.specs.Arguments.{Part, part, byteOf, afterSpaces, withoutQuoteBy, withoutQuote, stringText, word, condition}
+use Rattle.rules.specs.Arguments.{Part, part, byteOf, afterSpaces, withoutQuoteBy, withoutQuote, stringText, firstWord, condition}
 use Rattle.scan.specs.Arguments.Around.{argumentsOf, beginOf, Arguments}
-use Rattle.scan.specs.Arguments.Parting.{Spaces, WordAt}
+use Rattle.scan.specs.Arguments.Parting.{Spaces, WordEnds}
 use Rattle.scan.proofs.expansion.Givens.{argument-is}
 use Rattle.scan.proofs.output.Places.{unread, nothing}
 use Rattle.scan.proofs.arguments.Parts.{quote-is}
-use Rattle.line_syntax.specs.declared.lines.Condition.{Condition}
+use Rattle.line_syntax.specs.declared.lines.ConditionPart.{ConditionPart}
 use Rattle.line_syntax.specs.Lines.Places.{StringAt, ConditionAt}
 
 -- another byte than a quote stays
@@ -44,10 +44,10 @@ module _ (s : List ℕ) (at r : ℕ) (g : Spaces s at r) where
       text-from r (u ∙ sym (ap withoutQuote u ∙ not-quote (getD s r 0) (drop (r + 1) s) e)) (omega arith) (g .inside)
 
 -- spaces, a word, spaces
-pub condition-is : (s : List ℕ) (at : ℕ) (c : Condition) → Spaces s at (c .from) → WordAt s (c .from) (c .to) → Spaces s (c .to) (c .rest) → ConditionAt s at c
+pub condition-is : (s : List ℕ) (at : ℕ) (c : ConditionPart) → Spaces s at (c .from) → WordEnds s (c .from) (c .to) → Spaces s (c .to) (c .rest) → ConditionAt s at c
 unfolding condition
 condition-is s at c f w g = record {
-  is = ap (part (take (c .to - c .from) (drop (c .from) s))) (g .is) ∙ ap (λ (p : Part). part (p .part) (afterSpaces (p .rest))) (w .is ∙ ap word (f .is));
+  is = ap (part (take (c .to - c .from) (drop (c .from) s))) (g .is) ∙ ap (λ (p : Part). part (p .part) (afterSpaces (p .rest))) (w .is ∙ ap firstWord (f .is));
   ahead = f .onward;
   order = w .onward;
   onward = g .onward;

@@ -10,23 +10,23 @@ use Rattle.rules.specs.Bytes.{bytes, backslash, mark, fixedBlank, firstWhere, e
 use Rattle.rules.specs.Escapes.{escaped}
 
 -- so many bytes are written, and two more have room
-pub record Room (out : List ℕ) (at : ℕ) : Type 0 where
+pub record RoomForTwo (out : List ℕ) (at : ℕ) : Type 0 where
   pub long : length out ≡ 1024
   pub room : at + 2 ≤ 1024
 
 -- the bytes l stand behind those written before
-pub record Put (l out : List ℕ) (at r : ℕ) (out' : List ℕ) : Type 0 where
+pub record PutBack (l out : List ℕ) (at r : ℕ) (out' : List ℕ) : Type 0 where
   pub is : take r out' ≡ take at out ++ l
   pub count : r ≡ at + length l
   pub long : length out' ≡ 1024
 
 -- a backslash and a byte stand there
 abbrev pub PairBehind : (byte : ℕ) (out : List ℕ) (at r : ℕ) (out' : List ℕ) → Type 0
-PairBehind b out at r out' = Put (backslash ∷ b ∷ []) out at r out'
+PairBehind b out at r out' = PutBack (backslash ∷ b ∷ []) out at r out'
 
 -- a byte stands there as it is written back
 abbrev pub Behind : (byte : ℕ) (out : List ℕ) (at r : ℕ) (out' : List ℕ) → Type 0
-Behind b out at r out' = Put (escaped (b ∷ [])) out at r out'
+Behind b out at r out' = PutBack (escaped (b ∷ [])) out at r out'
 
 -- "ds after an if, write backslash, mark and fixed blank as \e, \& and backslash-space"
 pub record WrittenBack (bytes : List ℕ) (r : ℕ) (out' : List ℕ) : Type 0 where

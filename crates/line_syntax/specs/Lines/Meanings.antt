@@ -6,12 +6,12 @@ use Prim.Native.Nat.{ℕ, _≤_}
 use Rattle.rules.specs.declared.Name.{Name}
 use Rattle.rules.specs.declared.Kind.{Kind}
 use Rattle.rules.specs.Texts.{Text, textOf}
-use Rattle.rules.specs.ControlLines.{calls, requests, nothing, textMeaning, prefixOf}
+use Rattle.rules.specs.ControlLines.{calls, meansRequest, nothing, textMeaning, prefixOf}
 use Rattle.line_syntax.specs.declared.lines.Meaning.{Meaning}
 use Rattle.line_syntax.specs.declared.lines.Meaning.the-variants.{Calls, Requests, Nothing}
 
 -- the text that a name calls
-pub record Called (ts : List Text) (n : Name) (k : Kind) : Type 0 where
+pub record CallsText (ts : List Text) (n : Name) (k : Kind) : Type 0 where
   pub text : Text
   pub is : textOf n ts ≡ some text
   pub name : text .name ≡ n
@@ -19,12 +19,12 @@ pub record Called (ts : List Text) (n : Name) (k : Kind) : Type 0 where
 
 -- "User names hide requests": a text of this kind, a request, or nothing
 abbrev pub MeaningIs : List Text → Name → Meaning → Type 0
-MeaningIs ts n (Calls k) = Called ts n k
-MeaningIs ts n (Requests r) = textMeaning (textOf n ts) n ≡ requests r
+MeaningIs ts n (Calls k) = CallsText ts n k
+MeaningIs ts n (Requests r) = textMeaning (textOf n ts) n ≡ meansRequest r
 MeaningIs ts n Nothing = textMeaning (textOf n ts) n ≡ nothing
 
 -- A name that calls a text means that text.
-pub called-means : {ts : List Text} {n : Name} {k : Kind} (c : Called ts n k) → textMeaning (textOf n ts) n ≡ calls (c .text)
+pub called-means : {ts : List Text} {n : Name} {k : Kind} (c : CallsText ts n k) → textMeaning (textOf n ts) n ≡ calls (c .text)
 called-means {ts} {n} c = ap (λ (o : Option Text). textMeaning o n) (c .is)
 
 -- the bytes of control byte and name, of which there are at most three

@@ -5,11 +5,11 @@ use mathlib.Core.Option.{Option, none, some}
 use Rattle.rules.specs.declared.Name.{Name}
 use Rattle.rules.specs.declared.Request.{Request}
 use Rattle.rules.specs.Names.{sameName}
-use Rattle.line_syntax.specs.declared.request_names.Named.{Named}
-use Rattle.line_syntax.specs.declared.request_names.Named.the-variants.{Is, Other}
+use Rattle.line_syntax.specs.declared.request_names.RequestNamed.{RequestNamed}
+use Rattle.line_syntax.specs.declared.request_names.RequestNamed.the-variants.{Is, Other}
 
 -- the request that an answer stands for
-abbrev pub requestFrom : Named → Option Request
+abbrev pub requestFrom : RequestNamed → Option Request
 requestFrom (Is r) = some r
 requestFrom Other = none
 

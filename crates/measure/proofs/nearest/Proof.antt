@@ -11,7 +11,7 @@ use mir.Syntax.{w32, w64}
 use mir.Val.{SFits, toZ, ofZ}
 use mir.Facts.{toZ-ofZ, toZ-pos, sfits-widen}
 use Rattle.measure.specs.Rounding.{halfUp, nearestOf}
-use Rattle.measure.specs.RoundingLaws.{fewer}
+use Rattle.measure.specs.RoundingLaws.{half-up-fewer}
 use Rattle.measure.proofs.Signed.{widened}
 use Rattle.measure.proofs.nearest.Statement.{statement}
 use Rattle.measure.proofs.nearest.Tie as tie
@@ -55,7 +55,7 @@ count-is : (c : tie.After-half-up) → c .half-up .result ≡ halfUp (c .before 
 count-is c = c .half-up .ensures ∙ ap (λ (z : ℤ). halfUp (c .before .before .args .size) (natAbs z)) (size-is (c .before))
 
 count-small : (c : tie.After-half-up) → c .half-up .result ≤ 2 ^ 31
-count-small c = let a = c .before .before .args in omega (arith, down (c .before) .small, count-is c, fewer (a .size) (natAbs (a .units)))
+count-small c = let a = c .before .before .args in omega (arith, down (c .before) .small, count-is c, half-up-fewer (a .size) (natAbs (a .units)))
 
 -- the count with its sign back
 neg-fits : (m : ℕ) → m ≤ 2 ^ 31 → SFits w32 (negℤ (pos m))
@@ -73,7 +73,7 @@ plain-is : (c : tie.After-half-up2) → c .half-up2 .result ≡ halfUp (c .befor
 plain-is c = c .half-up2 .ensures ∙ ap (λ (z : ℤ). halfUp (c .before .before .args .size) (natAbs z)) (wide-is (c .before .before))
 
 plain-small : (c : tie.After-half-up2) → c .half-up2 .result < 2 ^ 31
-plain-small c = let a = c .before .before .args in omega (arith, up (c .before) .small, plain-is c, fewer (a .size) (natAbs (a .units)))
+plain-small c = let a = c .before .before .args in omega (arith, up (c .before) .small, plain-is c, half-up-fewer (a .size) (natAbs (a .units)))
 
 cast-wide : tie.Need-cast-wide
 cast-wide c = rw (toZ-ofZ (c .fits .units)) (sfits-widen tt (c .fits .units))

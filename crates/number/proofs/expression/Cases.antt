@@ -10,16 +10,16 @@ use lib.IntN.{ℤ, natAbs, negℤ}
 use borrow.Author.Tests.{ne-eqb, ltb-true, ltb-false}
 use Rattle.measure.specs.declared.Pitch.{Pitch}
 use Rattle.measure.specs.declared.Scale.{Scale}
-use Rattle.rules.specs.Bytes.{byte, firstWhere, orElse}
+use Rattle.rules.specs.Bytes.{byte, firstWhere, orOther}
 use Rattle.rules.specs.Laws.Tables.{absent}
 use Rattle.rules.specs.Refusals.{value, bad, _>>=_}
 use Rattle.rules.specs.Laws.Refusals.{of-value}
-use Rattle.rules.specs.Numbers.{operate, jointOf, isDigit, Start, literal, opens, plus, minus, noTerm, startBy, startOf, closed, term, onward}
+use Rattle.rules.specs.Numbers.{operate, jointOf, isDigit, Start, literal, opens, plus, minus, noTerm, startBy, startOf, parenthesized, term, onward}
 use Rattle.rules.specs.Numbers as rules
 use Rattle.rules.specs.Laws.Numbers.{start-digit, start-other, start-none, term-bounded}
 use Rattle.rules.specs.declared.Operator.{Operator}
 use Rattle.number.specs.Expression.Reading.{jointIn, GoodJoint, readOf, Forward, literalTerm}
-use Rattle.number.specs.Expression.Meaning.{expression, TermIs, ExpressionIs}
+use Rattle.number.specs.Expression.Meaning.{expressionFrom, TermIs, ExpressionIs}
 use Rattle.number.specs.declared.expression.Read.{Read}
 use Rattle.number.specs.declared.expression.Read.the-variants.{Value, Refused}
 use Rattle.number.specs.declared.expression.Joint.{Joint}
@@ -33,10 +33,10 @@ pub record JointIs (s : List ℕ) (i : ℕ) (j : Joint) : Type 0 where
 -- what the rules give from i on, after v, is what they give from the start
 pub record From (p : Pitch) (d : Scale) (s : List ℕ) (at left : ℕ) (v : ℤ) (i : ℕ) : Type 0 where
   pub good : Forward (length s) at (Value v i)
-  pub is : (n : ℕ) → length s < n + at → (m : ℕ) × (length s < m + i) × (expression p d n left (drop at s) ≡ onward p d m left v (jointOf (drop i s)))
+  pub is : (n : ℕ) → length s < n + at → (m : ℕ) × (length s < m + i) × (expressionFrom p d n left (drop at s) ≡ onward p d m left v (jointOf (drop i s)))
 
 module _ {p : Pitch} {d : Scale} {s : List ℕ} where
-  made : {at left : ℕ} {r : Read} → Forward (length s) at r → ((n : ℕ) → length s < n + at → readOf s r ≡ expression p d n left (drop at s)) → ExpressionIs p d s at left r
+  made : {at left : ℕ} {r : Read} → Forward (length s) at r → ((n : ℕ) → length s < n + at → readOf s r ≡ expressionFrom p d n left (drop at s)) → ExpressionIs p d s at left r
   made g e = record { outright = e (suc (length s)) (omega arith); good = g; is = e }
 
   -- from what holds of the rest at each count of one more, to what holds of the whole
@@ -74,7 +74,7 @@ module _ {p : Pitch} {d : Scale} {s : List ℕ} where
           unfolding term
           turn {y} b = record {
             good = (omega (arith, f .good, o .good, e .good), e .good .1);
-            is = λ n h. let q = f .is n h in go (expression p d n left (drop at s)) (q .0) (q .1) (q .2);
+            is = λ n h. let q = f .is n h in go (expressionFrom p d n left (drop at s)) (q .0) (q .1) (q .2);
           }
             where
               go : (z : rules.Read) (m : ℕ) → length s < m + i → z ≡ onward p d m left v (jointOf (drop i s))
@@ -96,15 +96,15 @@ unfolding startOf firstWhere
 starts-plus s at h e = ap startOf (unread s at 43 h e)
 
 -- a closing parenthesis, or none
-shuts : (s : List ℕ) (v : ℤ) (next : ℕ) → next < length s → getD s next 0 ≡ 41 → closed v (drop next s) ≡ value (v, drop (next + 1) s)
-shuts s v next h e = ap (closed v) (unread s next 41 h e)
+shuts : (s : List ℕ) (v : ℤ) (next : ℕ) → next < length s → getD s next 0 ≡ 41 → parenthesized v (drop next s) ≡ value (v, drop (next + 1) s)
+shuts s v next h e = ap (parenthesized v) (unread s next 41 h e)
 
-shuts-not : (s : List ℕ) (v : ℤ) (next : ℕ) → (getD s next 0 ≡ 41 → ⊥) → closed v (drop next s) ≡ bad 6
+shuts-not : (s : List ℕ) (v : ℤ) (next : ℕ) → (getD s next 0 ≡ 41 → ⊥) → parenthesized v (drop next s) ≡ bad 6
 shuts-not s v next e = go (ltb next (length s)) refl
   where
-    go : (t : Bool) → ltb next (length s) ≡ t → closed v (drop next s) ≡ bad 6
-    go true h = ap (closed v) (unread s next (getD s next 0) (ltb-true next (length s) h) refl) ∙ rw (ne-eqb (getD s next 0) 41 e)
-    go false h = ap (closed v) (drop-of-length-le s (ltb-false next (length s) h))
+    go : (t : Bool) → ltb next (length s) ≡ t → parenthesized v (drop next s) ≡ bad 6
+    go true h = ap (parenthesized v) (unread s next (getD s next 0) (ltb-true next (length s) h) refl) ∙ rw (ne-eqb (getD s next 0) 41 e)
+    go false h = ap (parenthesized v) (drop-of-length-le s (ltb-false next (length s) h))
 
 -- a term that is neither parenthesised nor signed is a literal or none
 module _ (p : Pitch) (d : Scale) where
@@ -112,7 +112,7 @@ module _ (p : Pitch) (d : Scale) where
   unfolding term firstWhere
   plain-byte left b l f g h m =
       let e : startBy false b l ≡ noTerm =
-      ap (λ o. orElse o noTerm) (absent ((byte "(", opens l) ∷ (byte "+", plus l) ∷ (byte "-", minus l) ∷ []) b (ne-eqb b 40 f, (ne-eqb b 43 g, (ne-eqb b 45 h, tt)))) in
+      ap (λ o. orOther o noTerm) (absent ((byte "(", opens l) ∷ (byte "+", plus l) ∷ (byte "-", minus l) ∷ []) b (ne-eqb b 40 f, (ne-eqb b 43 g, (ne-eqb b 45 h, tt)))) in
       rw e
 
   plain-start : (left : ℕ) (s : List ℕ) (at : ℕ) → (getD s at 0 ≡ 40 → ⊥) → (getD s at 0 ≡ 43 → ⊥) → (getD s at 0 ≡ 45 → ⊥)

@@ -12,14 +12,14 @@ use Rattle.number.specs.Expression.Reading.{readOf, Forward}
 use Rattle.number.specs.declared.expression.Read.{Read}
 
 -- an expression from a place on, of which `left` parentheses may still be opened
-abbrev pub expression : Pitch → Scale → (n left : ℕ) → List ℕ → rules.Read
-expression p d n left l = expressionBy (term p d n left) (onward p d n left) l
+abbrev pub expressionFrom : Pitch → Scale → (n left : ℕ) → List ℕ → rules.Read
+expressionFrom p d n left l = expressionBy (term p d n left) (onward p d n left) l
 
 pub record TermIs (p : Pitch) (d : Scale) (s : List ℕ) (at left : ℕ) (r : Read) : Type 0 where
   pub good : Forward (length s) at r
   pub is : (n : ℕ) → length s < n + at → readOf s r ≡ term p d n left (startOf (drop at s))
 
 pub record ExpressionIs (p : Pitch) (d : Scale) (s : List ℕ) (at left : ℕ) (r : Read) : Type 0 where
-  pub outright : readOf s r ≡ expression p d (suc (length s)) left (drop at s)
+  pub outright : readOf s r ≡ expressionFrom p d (suc (length s)) left (drop at s)
   pub good : Forward (length s) at r
-  pub is : (n : ℕ) → length s < n + at → readOf s r ≡ expression p d n left (drop at s)
+  pub is : (n : ℕ) → length s < n + at → readOf s r ≡ expressionFrom p d n left (drop at s)

@@ -14,7 +14,7 @@ use Rattle.rules.specs.declared.Name.{Name}
 use Rattle.rules.specs.declared.Trap.{Trap}
 use Rattle.rules.specs.Traps.{Page, seenAt}
 use Rattle.rules.specs.Rows.{fewer}
-use Rattle.page.specs.Position.Landing.{on, done, tooMany, nextIf, landingNext, endIf, reachIf, landingDown, blanksOf}
+use Rattle.page.specs.Position.Landing.{on, pastLast, tooMany, nextIf, landingNext, endIf, reachIf, landingDown, blanksOf}
 
 module _ (p : Page) (pl : ℕ) (ts : List Trap) where
   pub next-there : (f : Option Name) → p .number < 1000000 → f ≡ seenAt pl 0 ts → on (record { number = p .number + 1; used = 0; last = p .last }) f ≡ landingNext p pl ts
@@ -34,7 +34,7 @@ module _ (p : Page) (pl : ℕ) (ts : List Trap) where
         ap (on (record { number = p .number; used = r; last = p .last })) i ∙ ap (λ (r : ℕ). reachIf true r p pl ts) e
         ∙ reach-is true (lt-ltb (p .used + n) pl (omega (arith, e)))
 
-    pub at-end : pl ≤ p .used + n → p .last ≡ true → done ≡ landingDown p pl n ts
+    pub at-end : pl ≤ p .used + n → p .last ≡ true → pastLast ≡ landingDown p pl n ts
     at-end h e = ap (λ t. endIf t p pl ts) (sym e) ∙ reach-is false (le-ltb (p .used + n) pl h)
 
     pub onward : pl ≤ p .used + n → p .last ≡ false → landingNext p pl ts ≡ landingDown p pl n ts

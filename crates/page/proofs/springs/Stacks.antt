@@ -17,13 +17,13 @@ use Rattle.rules.specs.Laws.Texts.{found-first, found-later}
 use Rattle.rules.specs.State.{State, Item, reading}
 use Rattle.rules.specs.StateSetters.{withStack}
 use Rattle.rules.specs.Rows.{linesOf, theEnd, pushIf, userText, springText}
-use Rattle.texts.specs.Table.Table.{textsOf, Lies}
+use Rattle.texts.specs.Table.Table.{textsOf, TextsInvariant}
 use Rattle.scan.specs.Arguments.Around.{cutAt, argumentsOf, Arguments}
 use Rattle.input_stack.specs.declared.frames.What.{What}
 use Rattle.input_stack.specs.declared.frames.What.the-variants as what
 use Rattle.input_stack.specs.declared.stack.Stack.{Stack}
-use Rattle.input_stack.specs.Stack.Frames.{Frame, frame, entry, framesOf, topEntry, Columns, PushedTo}
-use Rattle.input_stack.specs.Stack.Items.{itemsOf, stackOf, unread, GoodBy, Good}
+use Rattle.input_stack.specs.Stack.Frames.{Frame, frame, frameEntry, framesOf, topEntry, StackInvariant, PushedTo}
+use Rattle.input_stack.specs.Stack.Items.{itemsOf, stackOf, unread, GoodBy, GoodFrames}
 use Rattle.input_stack.specs.Stack.ItemLaws.{stack-length, top-known, pushed-items, pushed-good, unread-all}
 use Rattle.page.specs.declared.springs.Held.{Held}
 use Rattle.page.specs.declared.springs.Held.the-variants as held
@@ -37,8 +37,8 @@ use Rattle.page.specs.declared.position.Page.{Page}
 use Rattle.page.specs.Position.Landing.{Landing, on, pageOf}
 use Rattle.page.specs.Position.Landing as landing
 use Rattle.page.specs.Position.LandingLaws.{landed}
-use Rattle.page.specs.Springs.Held.{noEnds, heldFrames, heldOf, heldCount, lastCount, isText, PlainItem, Plain, limitBy, Fits, HeldTo}
-use Rattle.page.specs.Springs.Calls.{CalledTo, SprungTo, standing, landedFrom, LandsWithin, LandsNumbered, LandedTo, MovedTo}
+use Rattle.page.specs.Springs.Held.{noEnds, heldFrames, heldOf, heldCount, lastCount, isText, PlainItem, Plain, limitBy, StackFits, HeldTo}
+use Rattle.page.specs.Springs.Calls.{TextCallRefines, TrapRefines, stateOn, landedFrom, LandsWithin, LandsNumbered, LandingRefines, MoveRefines}
 
 -- A text that is found has the name that was looked for.
 pub found-name : (n : Name) (ts : List Text) (t : Text) → textOf n ts ≡ some t → t .name ≡ n
@@ -51,7 +51,7 @@ found-name n (u ∷ ts) t h = go (sameName n (u .name)) refl (found-name n ts t)
     go false e ih = ih (sym (found-later n u ts e) ∙ h)
 
 module _ (bytes : List ℕ) (s : Stack) (arena ends : List ℕ) where
-  pub held-none : Columns s arena ends → HeldTo held.Nothing bytes s arena ends s arena ends
+  pub held-none : StackInvariant s arena ends → HeldTo held.Nothing bytes s arena ends s arena ends
   held-none k = record { frames = refl; columns = k; depth = omega arith }
 
   pub held-item : (w : What) (r : Stack) (arena' ends' : List ℕ) → PushedTo s arena ends w bytes noEnds r arena' ends' → HeldTo (held.Item w) bytes s arena ends r arena' ends'
@@ -80,7 +80,7 @@ no-text (what.Others g) e = refl
 no-text (what.Acts r) e = refl
 no-text (what.Ejects p) e = refl
 
-held-good : (ts : List Text) (h : Held) (bytes : List ℕ) (fs : List Frame) → Plain h → Good ts fs → Good ts (heldFrames h bytes ++ fs)
+held-good : (ts : List Text) (h : Held) (bytes : List ℕ) (fs : List Frame) → Plain h → GoodFrames ts fs → GoodFrames ts (heldFrames h bytes ++ fs)
 held-good ts held.Nothing bytes fs e g = g
 held-good ts (held.Item w) bytes fs e g = (plain-good ts w bytes noEnds e, g)
 
@@ -104,21 +104,21 @@ limit-least : (b : Bool) → 16 ≤ limitBy b
 limit-least true = omega arith
 limit-least false = omega arith
 
-pub fits-few : (s : Stack) (ends : List ℕ) → s .depth ≤ 16 → Fits s ends
+pub fits-few : (s : Stack) (ends : List ℕ) → s .depth ≤ 16 → StackFits s ends
 fits-few s ps h = omega (arith, limit-least (isText (topEntry s ps .what)))
 
 module _ (h : Held) (bytes : List ℕ) (s : Stack) (arena ends : List ℕ) (r : Stack) (arena' ends' : List ℕ) (t : HeldTo h bytes s arena ends r arena' ends') where
   pub over-items : (ts : List Text) → stackOf ts r arena' ends' ≡ heldOf ts h bytes ++ stackOf ts s arena ends
   over-items ts = ap (itemsOf ts) (t .frames) ∙ held-items ts h bytes (framesOf s arena ends)
 
-  pub over-good : (ts : List Text) → Plain h → Good ts (framesOf s arena ends) → Good ts (framesOf r arena' ends')
-  over-good ts e g = subst (Good ts) (sym (t .frames)) (held-good ts h bytes (framesOf s arena ends) e g)
+  pub over-good : (ts : List Text) → Plain h → GoodFrames ts (framesOf s arena ends) → GoodFrames ts (framesOf r arena' ends')
+  over-good ts e g = subst (GoodFrames ts) (sym (t .frames)) (held-good ts h bytes (framesOf s arena ends) e g)
 
 pub over-fits : (h : Held) (bytes : List ℕ) (s : Stack) (arena ends : List ℕ) (r : Stack) (arena' ends' : List ℕ) → HeldTo h bytes s arena ends r arena' ends'
-    → Plain h → s .depth ≤ 16 → Fits r ends'
+    → Plain h → s .depth ≤ 16 → StackFits r ends'
 over-fits held.Nothing bytes s arena ends r arena' ends' t e d = fits-few r ends' (omega (arith, t .depth))
 over-fits (held.Item w) bytes s arena ends r arena' ends' t e d =
-    let k = top-known r arena' ends' (frame (entry w (length bytes)) bytes noEnds) (framesOf s arena ends) (t .frames) .0 in
+    let k = top-known r arena' ends' (frame (frameEntry w (length bytes)) bytes noEnds) (framesOf s arena ends) (t .frames) .0 in
     let l : topEntry r ends' .what ≡ w = ap (λ (f : Frame). f .entry .what) k in
     rw (l, no-text w e) (omega (arith, t .depth))
 
@@ -135,8 +135,8 @@ module _ (n : Name) (count : ℕ) (args given : List ℕ) (h : Held) (bytes : Li
   items-length ts i x e =
       omega (arith, length-append (heldOf ts h bytes) (stackOf ts s arena ends), held-length ts h bytes, stack-length ts s arena ends, ap theEnd e, end-count last)
 
-  pub not-called : s .depth ≤ 16 → Columns s arena ends → 16 < s .depth + heldCount h + 1 + lastCount last
-      → CalledTo n count args given h bytes last s arena ends (record { full = true; stack = s }) arena ends
+  pub not-called : s .depth ≤ 16 → StackInvariant s arena ends → 16 < s .depth + heldCount h + 1 + lastCount last
+      → TextCallRefines n count args given h bytes last s arena ends (record { full = true; stack = s }) arena ends
   not-called d k b = record {
     is = λ ts t e x l.
         let i = reading (t .name) (linesOf (t .kind) (t .bytes)) (argumentsOf args given count) in
@@ -149,7 +149,7 @@ module _ (n : Name) (count : ℕ) (args given : List ℕ) (h : Held) (bytes : Li
 
   module _ (u : Stack) (a₁ e₁ : List ℕ) (t : HeldTo h bytes s arena ends u a₁ e₁) (r : Stack) (a₂ e₂ : List ℕ) (p : PushedTo u a₁ e₁ (what.Reading n 0 count) args given r a₂ e₂) where
     pub was-called : Plain h → Arguments args given count → s .depth + heldCount h + 1 + lastCount last ≤ 16
-        → CalledTo n count args given h bytes last s arena ends (record { full = false; stack = r }) a₂ e₂
+        → TextCallRefines n count args given h bytes last s arena ends (record { full = false; stack = r }) a₂ e₂
     was-called pl ar b = record {
       is = λ ts v e x l.
           let i = reading (v .name) (linesOf (v .kind) (v .bytes)) (argumentsOf args given count) in
@@ -168,8 +168,8 @@ module _ (n : Name) (count : ℕ) (args given : List ℕ) (h : Held) (bytes : Li
 module _ (found : Option Name) (last : Bool) (h : Held) (bytes : List ℕ) (s : Stack) (arena ends fs ss : List ℕ) (n : ℕ) (arena' ends' : List ℕ) where
   -- nothing springs
   pub sprung-held : (r : Stack) → HeldTo h bytes s arena ends r arena' ends' → Plain h → s .depth ≤ 16
-      → ((st ks ls : List ℕ) → Lies st fs ss ks ls n → userText found (textsOf st fs ss ks ls n) ≡ none)
-      → SprungTo found last h bytes s arena ends fs ss n (record { full = false; stack = r }) arena' ends'
+      → ((st ks ls : List ℕ) → TextsInvariant st fs ss ks ls n → userText found (textsOf st fs ss ks ls n) ≡ none)
+      → TrapRefines found last h bytes s arena ends fs ss n (record { full = false; stack = r }) arena' ends'
   sprung-held r t e d nothing = record {
     is = λ st ks ls i x l.
         let ts = textsOf st fs ss ks ls n in
@@ -182,9 +182,9 @@ module _ (found : Option Name) (last : Bool) (h : Held) (bytes : List ℕ) (s : 
 
 -- a text springs
 pub sprung-called : (m : Name) (last : Bool) (args given : List ℕ) (h : Held) (bytes : List ℕ) (s : Stack) (arena ends fs ss : List ℕ) (n : ℕ) (r : Called) (arena' ends' : List ℕ)
-    → CalledTo m 0 args given h bytes last s arena ends r arena' ends'
-    → ((st ks ls : List ℕ) → Lies st fs ss ks ls n → (t : Text) × (textOf m (textsOf st fs ss ks ls n) ≡ some t))
-    → SprungTo (some m) last h bytes s arena ends fs ss n r arena' ends'
+    → TextCallRefines m 0 args given h bytes last s arena ends r arena' ends'
+    → ((st ks ls : List ℕ) → TextsInvariant st fs ss ks ls n → (t : Text) × (textOf m (textsOf st fs ss ks ls n) ≡ some t))
+    → TrapRefines (some m) last h bytes s arena ends fs ss n r arena' ends'
 unfolding cutAt
 sprung-called m last args given h bytes s arena ends fs ss n r arena' ends' c there = record {
   is = λ st ks ls i x l.
@@ -201,10 +201,10 @@ no-arguments l es e = record { ends-long = e; few = omega arith; order = λ k h.
 
 module _ (page : Page) (h : Held) (bytes : List ℕ) (s : Stack) (arena ends fs ss : List ℕ) (n : ℕ) where
   -- a row of a page, and the trap there
-  pub landed-on : (next : Page) (f : Option Name) (c : Called) (arena' ends' : List ℕ) → SprungTo f (next .last) h bytes s arena ends fs ss n c arena' ends'
-      → LandedTo (on (pageOf next) f) page h bytes s arena ends fs ss n (landedFrom c next) arena' ends'
+  pub landed-on : (next : Page) (f : Option Name) (c : Called) (arena' ends' : List ℕ) → TrapRefines f (next .last) h bytes s arena ends fs ss n c arena' ends'
+      → LandingRefines (on (pageOf next) f) page h bytes s arena ends fs ss n (landedFrom c next) arena' ends'
   landed-on next f c arena' ends' t = record {
-    is = λ st ks ls i ps pl x. t .is st ks ls i (standing (textsOf st fs ss ks ls n) ps pl (pageOf next) [] x) refl;
+    is = λ st ks ls i ps pl x. t .is st ks ls i (stateOn (textsOf st fs ss ks ls n) ps pl (pageOf next) [] x) refl;
     good = t .good;
     columns = t .columns;
     fits = t .fits;
@@ -212,26 +212,26 @@ module _ (page : Page) (h : Held) (bytes : List ℕ) (s : Stack) (arena ends fs 
     numbered = λ a b. b;
   }
 
-  module _ (k : Columns s arena ends) (d : s .depth ≤ 16) where
+  module _ (k : StackInvariant s arena ends) (d : s .depth ≤ 16) where
     -- the end is done
-    pub landed-done : LandedTo landing.done page h bytes s arena ends fs ss n (record { way = Done; page = page; stack = s }) arena ends
+    pub landed-done : LandingRefines landing.pastLast page h bytes s arena ends fs ss n (record { way = Done; page = page; stack = s }) arena ends
     landed-done = record { is = λ st ks ls i ps pl x. refl; good = λ st ks ls i g. g; columns = k; fits = fits-few s ends d; within = λ pl a b. a; numbered = λ a b. a }
 
     -- a page too many
-    pub landed-past : LandedTo landing.tooMany page h bytes s arena ends fs ss n (record { way = Refused 12; page = page; stack = s }) arena ends
+    pub landed-past : LandingRefines landing.tooMany page h bytes s arena ends fs ss n (record { way = Refused 12; page = page; stack = s }) arena ends
     landed-past = record { is = λ st ks ls i ps pl x. refl; good = λ st ks ls i g. g; columns = k; fits = fits-few s ends d; within = λ pl a b. a; numbered = λ a b. a }
 
 -- a move that leads where a landing says is the rules' move
 pub moved : (l : Landing) (move : List Item → State → State) (page : Page) (length : Rows) (planted : Planted) (h : Held) (bytes : List ℕ) (s : Stack) (arena ends fs ss : List ℕ) (n : ℕ) (r : Landed) (arena' ends' : List ℕ)
-    → LandedTo l page h bytes s arena ends fs ss n r arena' ends'
+    → LandingRefines l page h bytes s arena ends fs ss n r arena' ends'
     → ((held : List Item) (x : State) → x .page ≡ pageOf page → x .layout .page ≡ downOf length → x .tables .traps ≡ plantedOf planted → landed l held x ≡ move held x)
     → downOf (page .used) < downOf length → LandsWithin (downOf length) l → (page .number ≤ 1000000 → LandsNumbered l)
-    → MovedTo move page length planted h bytes s arena ends fs ss n r arena' ends'
+    → MoveRefines move page length planted h bytes s arena ends fs ss n r arena' ends'
 moved l move page length planted h bytes s arena ends fs ss n r arena' ends' t law u w v = record {
   is = λ st ks ls i x.
       let ts = textsOf st fs ss ks ls n in
       t .is st ks ls i (plantedOf planted) (downOf length) x
-      ∙ law (heldOf ts h bytes) (standing ts (plantedOf planted) (downOf length) (pageOf page) (stackOf ts s arena ends) x) refl refl refl;
+      ∙ law (heldOf ts h bytes) (stateOn ts (plantedOf planted) (downOf length) (pageOf page) (stackOf ts s arena ends) x) refl refl refl;
   good = t .good;
   columns = t .columns;
   fits = t .fits;

@@ -14,7 +14,7 @@ use Rattle.rules.specs.Traps.{seenAt, nearestTrap}
 use Rattle.rules.specs.Traps as rule
 use Rattle.rules.specs.Rows.{fewer}
 use Rattle.traps.specs.declared.table.Planted.{Planted}
-use Rattle.traps.specs.Table.Table.{Within, foundIs}
+use Rattle.traps.specs.Table.Table.{TrapsInvariant, foundIs}
 use Rattle.page.specs.declared.position.Page.{Page}
 use Rattle.page.specs.declared.position.Moved.{Moved}
 use Rattle.page.specs.declared.position.Moved.the-variants.{On, Done, TooMany}
@@ -24,20 +24,20 @@ abbrev pub pageOf : Page → rule.Page
 pageOf p = record { number = p .number; used = downOf (p .used); last = p .last }
 
 -- "pl 1 to 500 rows and above the rows already used on the page", and the table of traps is one
-pub record Sound (page : Page) (length : Rows) (planted : Planted) : Type 0 where
+pub record PositionInvariant (page : Page) (length : Rows) (planted : Planted) : Type 0 where
   pub above : downOf (page .used) < downOf length
   pub short : downOf length ≤ 500
-  pub few : Within planted
+  pub few : TrapsInvariant planted
 
 -- a row of a page with the name of the trap seen there, the end, or refusal 12
 pub data Landing : Type 0 where
   on : rule.Page → Option Name → Landing
-  done tooMany : Landing
+  pastLast tooMany : Landing
 
 -- what an answer stands for
 abbrev pub landingIs : Moved → Landing
 landingIs (On p f) = on (pageOf p) (foundIs f)
-landingIs Done = done
+landingIs Done = pastLast
 landingIs TooMany = tooMany
 
 -- "past 1,000,000 .. pages"
@@ -51,7 +51,7 @@ landingNext p pl ts = nextIf (ltb (p .number) 1000000) p pl ts
 
 -- "stops, done, at the first page end reached .. with no new page"
 abbrev pub endIf : (last : Bool) → rule.Page → Down → List Trap → Landing
-endIf true p pl ts = done
+endIf true p pl ts = pastLast
 endIf false p pl ts = landingNext p pl ts
 
 -- a row within the page, or the page end
@@ -64,8 +64,8 @@ abbrev pub landingDown : rule.Page → (pl rows : Down) → List Trap → Landin
 landingDown p pl n ts = reachIf (ltb (p .used + n) pl) (p .used + n) p pl ts
 
 -- the rows from here to the nearest trap or the page end
-abbrev pub below : rule.Page → Down → List Trap → Down
-below p pl ts = nearestTrap pl (p .used) pl ts - p .used
+abbrev pub rowsToTrap : rule.Page → Down → List Trap → Down
+rowsToTrap p pl ts = nearestTrap pl (p .used) pl ts - p .used
 
 -- the blank rows of an sp
 abbrev pub blanksOf : ℤ → (below : Down) → Down

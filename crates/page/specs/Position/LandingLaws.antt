@@ -12,13 +12,13 @@ use Rattle.rules.specs.State.{State, Item, close, refuse}
 use Rattle.rules.specs.StateSetters.{withPage}
 use Rattle.rules.specs.Rows.{Next, goes, userText, springText, spring, startIf, startPage, endPage, reach, down, rowsBelow, fewer, blank, skip}
 use Rattle.rules.specs.Laws.Traps.{nearest-above}
-use Rattle.page.specs.Position.Landing.{Landing, on, tooMany, nextIf, landingNext, endIf, reachIf, landingDown, below, blanksOf}
+use Rattle.page.specs.Position.Landing.{Landing, on, tooMany, nextIf, landingNext, endIf, reachIf, landingDown, rowsToTrap, blanksOf}
 use Rattle.page.specs.Position.Landing as landing
 
 -- what a landing does to a state: the trap's text goes onto the stack, over what is held
 abbrev pub landed : Landing → (held : List Item) → State → State
 landed (on p n) held s = springText (userText n (s .tables .texts)) held (withPage p s)
-landed landing.done held s = close done s
+landed landing.pastLast held s = close done s
 landed tooMany held s = refuse 12 s
 
 module _ (held : List Item) (s : State) where
@@ -56,7 +56,7 @@ space-by n zero s false h = absurd (omega arith)
 space-by n (suc b) s false h = refl
 
 -- an sp, where a row is left below
-pub space-lands : (z : ℤ) (s : State) → s .page .used < s .layout .page → spaced (blanksOf z (below (s .page) (s .layout .page) (s .tables .traps))) s ≡ skip z s
+pub space-lands : (z : ℤ) (s : State) → s .page .used < s .layout .page → spaced (blanksOf z (rowsToTrap (s .page) (s .layout .page) (s .tables .traps))) s ≡ skip z s
 unfolding skip
 space-lands (pos zero) s h = refl
 space-lands (pos (suc n)) s h = space-by n (rowsBelow s) s (ltb n (rowsBelow s)) (omega (arith, nearest-above (s .layout .page) (s .page .used) (s .layout .page) (s .tables .traps) h))

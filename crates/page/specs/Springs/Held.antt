@@ -9,7 +9,7 @@ use Rattle.rules.specs.State.{Item}
 use Rattle.input_stack.specs.declared.frames.What.{What}
 use Rattle.input_stack.specs.declared.frames.What.the-variants as what
 use Rattle.input_stack.specs.declared.stack.Stack.{Stack}
-use Rattle.input_stack.specs.Stack.Frames.{Frame, frame, entry, framesOf, topEntry, Columns}
+use Rattle.input_stack.specs.Stack.Frames.{Frame, frame, frameEntry, framesOf, topEntry, StackInvariant}
 use Rattle.input_stack.specs.Stack.Items.{itemBy}
 use Rattle.page.specs.declared.springs.Held as declared
 use Rattle.page.specs.declared.springs.Held.the-variants as held
@@ -21,7 +21,7 @@ noEnds = replicate 9 0
 -- the frame that is held, if there is one
 abbrev pub heldFrames : declared.Held → (bytes : List ℕ) → List Frame
 heldFrames held.Nothing bs = []
-heldFrames (held.Item w) bs = frame (entry w (length bs)) bs noEnds ∷ []
+heldFrames (held.Item w) bs = frame (frameEntry w (length bs)) bs noEnds ∷ []
 
 -- the item that is held, if there is one
 abbrev pub heldOf : List Text → declared.Held → (bytes : List ℕ) → List Item
@@ -68,17 +68,17 @@ limitBy true = 16
 limitBy false = 17
 
 -- "10: input stack past 16 items"
-abbrev pub Fits : Stack → (ends : List ℕ) → Type 0
-Fits s ps = s .depth ≤ limitBy (isText (topEntry s ps .what))
+abbrev pub StackFits : Stack → (ends : List ℕ) → Type 0
+StackFits s ps = s .depth ≤ limitBy (isText (topEntry s ps .what))
 
 -- a stack onto which work may put something, and bytes that may be held
-pub record Ready (s : Stack) (arena ends bytes : List ℕ) : Type 0 where
-  pub columns : Columns s arena ends
+pub record StackReady (s : Stack) (arena ends bytes : List ℕ) : Type 0 where
+  pub columns : StackInvariant s arena ends
   pub few : s .depth ≤ 16
   pub short : length bytes ≤ 512
 
 -- what is held goes on
 pub record HeldTo (h : declared.Held) (bytes : List ℕ) (s : Stack) (arena ends : List ℕ) (r : Stack) (arena' ends' : List ℕ) : Type 0 where
   pub frames : framesOf r arena' ends' ≡ heldFrames h bytes ++ framesOf s arena ends
-  pub columns : Columns r arena' ends'
+  pub columns : StackInvariant r arena' ends'
   pub depth : r .depth ≡ heldCount h + s .depth

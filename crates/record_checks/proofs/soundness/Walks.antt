@@ -14,7 +14,7 @@ use Rattle.rules.specs.Laws.Refusals.{both}
 use Rattle.input_stack.specs.declared.stack.Stack.{Stack}
 use Rattle.input_stack.specs.Stack.Frames.{entryAt, topEntry}
 use Rattle.page.specs.Springs.Held.{isText, limitBy}
-use Rattle.record_checks.specs.Soundness.Checks.{inOrder, areArguments, isFrame, areFrames, isDepth, isStack}
+use Rattle.record_checks.specs.Soundness.Checks.{endsInOrder, areArguments, isFrame, areFrames, isDepth, isStack}
 
 -- the places in a frame where its arguments end
 abbrev pub given : (ends : List ℕ) → (frame count : ℕ) → List ℕ
@@ -31,29 +31,29 @@ module _ (ps : List ℕ) (frame count : ℕ) (n : length ps ≡ 221) (f : frame 
 
 -- the place at i, with the value v
 module _ (from end : ℕ) (l : List ℕ) (i v : ℕ) (h : i < length l) (e : getD l i 0 ≡ v) where
-  order-cons : inOrder from end (drop i l) ≡ (leb from v && leb v end && inOrder v end (drop (i + 1) l))
-  unfolding inOrder
+  order-cons : endsInOrder from end (drop i l) ≡ (leb from v && leb v end && endsInOrder v end (drop (i + 1) l))
+  unfolding endsInOrder
   order-cons =
-      ap (inOrder from end) (drop-cons l i 0 h) ∙ ap (λ (x : ℕ). leb from x && leb x end && inOrder x end (drop (suc i) l)) e
-      ∙ ap (λ (j : ℕ). leb from v && leb v end && inOrder v end (drop j l)) (sym (add-one i))
+      ap (endsInOrder from end) (drop-cons l i 0 h) ∙ ap (λ (x : ℕ). leb from x && leb x end && endsInOrder x end (drop (suc i) l)) e
+      ∙ ap (λ (j : ℕ). leb from v && leb v end && endsInOrder v end (drop j l)) (sym (add-one i))
 
-  pub order-before : v < from → inOrder from end (drop i l) ≡ false
+  pub order-before : v < from → endsInOrder from end (drop i l) ≡ false
   order-before k = order-cons ∙ rw (lt-leb from v k)
 
-  pub order-past : from ≤ v → end < v → inOrder from end (drop i l) ≡ false
+  pub order-past : from ≤ v → end < v → endsInOrder from end (drop i l) ≡ false
   order-past j k = order-cons ∙ rw (le-leb from v j, lt-leb v end k)
 
-  pub order-on : from ≤ v → v ≤ end → inOrder from end (drop i l) ≡ inOrder v end (drop (i + 1) l)
+  pub order-on : from ≤ v → v ≤ end → endsInOrder from end (drop i l) ≡ endsInOrder v end (drop (i + 1) l)
   order-on j k = order-cons ∙ rw (le-leb from v j, le-leb v end k)
 
-pub order-end : (from end : ℕ) (l : List ℕ) (i : ℕ) → length l ≤ i → inOrder from end (drop i l) ≡ true
-unfolding inOrder
-order-end from end l i h = ap (inOrder from end) (drop-of-length-le l h)
+pub order-end : (from end : ℕ) (l : List ℕ) (i : ℕ) → length l ≤ i → endsInOrder from end (drop i l) ≡ true
+unfolding endsInOrder
+order-end from end l i h = ap (endsInOrder from end) (drop-of-length-le l h)
 
 pub arguments-many : (es : List ℕ) (n size : ℕ) → 9 < n → areArguments es n size ≡ false
 arguments-many es n size h = rw (lt-leb n 9 h)
 
-pub arguments-few : (es : List ℕ) (n size : ℕ) → n ≤ 9 → areArguments es n size ≡ inOrder 0 size (take n es)
+pub arguments-few : (es : List ℕ) (n size : ℕ) → n ≤ 9 → areArguments es n size ≡ endsInOrder 0 size (take n es)
 arguments-few es n size h = rw (le-leb n 9 h)
 
 -- the frames below a depth are the one under it, and those below that

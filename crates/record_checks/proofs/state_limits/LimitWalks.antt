@@ -21,7 +21,7 @@ use Rattle.page.specs.Springs.Held.{isText}
 use Rattle.record_checks.specs.StateLimits.LimitChecks.{arePlaces, oddByte, areBytes, isGathered, layeredTo, isLayered}
 
 -- the trap at i, whose row passed its test with v
-pub places-at : (l : List Trap) (n i : ℕ) (d : Trap) (v : Bool) → i < n → n ≤ length l → registers.isWithin (getD l i d .place .0) ≡ v
+pub places-at : (l : List Trap) (n i : ℕ) (d : Trap) (v : Bool) → i < n → n ≤ length l → registers.inBounds (getD l i d .place .0) ≡ v
     → arePlaces (drop i (take n l)) ≡ (v && arePlaces (drop (i + 1) (take n l)))
 unfolding arePlaces
 places-at l n i d v h k e = ap arePlaces (front-next l n i d h k) ∙ ap (λ (b : Bool). b && arePlaces (drop (i + 1) (take n l))) e
@@ -95,8 +95,8 @@ pub layered-most : (s : Stack) (ps : List ℕ) → isLayered s ps ≡ true → s
 layered-most s ps h = leb-true (s .depth) 17 (both (leb (s .depth) 17) (layeredTo false ps (s .depth)) h .0)
 
 -- a table of traps that passes its test has at most 16
-pub traps-most : (p : Planted) → traps.isTable p ≡ true → p .count ≤ 16
-traps-most p h = traps.table-sound p h .0
+pub traps-most : (p : Planted) → traps.isTrapTable p ≡ true → p .count ≤ 16
+traps-most p h = traps.traps-sound p h .0
 
 -- columns of names that pass theirs have at most 64
 pub names-most : (fs ss : List ℕ) (n : ℕ) → texts.NameColumns fs ss → texts.noNameTwice fs ss n ≡ true → Names fs ss n

@@ -11,10 +11,10 @@ use Rattle.measure.specs.declared.Rows.{Rows}
 use Rattle.measure.specs.Counts.{acrossOf, downOf}
 use Rattle.rules.specs.declared.Name.{Name}
 use Rattle.registers.specs.Checks.Checks as registers
-use Rattle.texts.specs.declared.table.Place.{Place}
-use Rattle.texts.specs.declared.table.Place.the-variants.{At, Not}
-use Rattle.texts.specs.Table.Places.{placeOf}
-use Rattle.texts.specs.Table.Table.{sum, namesOf}
+use Rattle.texts.specs.declared.table.TextPlace.{TextPlace}
+use Rattle.texts.specs.declared.table.TextPlace.the-variants.{At, Not}
+use Rattle.texts.specs.Table.Places.{textPlace}
+use Rattle.texts.specs.Table.Table.{totalLength, namesOf}
 use Rattle.texts.specs.Table.Checks as texts
 use Rattle.traps.specs.declared.table.Planted.{Planted}
 use Rattle.settings.specs.declared.lengths.Setting.{Setting}
@@ -76,26 +76,26 @@ abbrev pub isPlanted : Planted → Bool
 isPlanted p = leb (p .count) 16
 
 -- the settings, the page, the collected line and the traps
-unfoldable pub isSheet : Status → Bool
-isSheet s = isLayout (s .layout) && isPage (s .page) (s .layout .page) && isCollected (s .collected) && isPlanted (s .planted)
+unfoldable pub isPageState : Status → Bool
+isPageState s = isLayout (s .layout) && isPage (s .page) (s .layout .page) && isCollected (s .collected) && isPlanted (s .planted)
 
 -- whether each of some places is not before the one in front of it, and none is past the end
-unfoldable pub inOrder : (from end : ℕ) → List ℕ → Bool
-inOrder from end [] = true
-inOrder from end (p ∷ ps) = leb from p && leb p end && inOrder p end ps
+unfoldable pub endsInOrder : (from end : ℕ) → List ℕ → Bool
+endsInOrder from end [] = true
+endsInOrder from end (p ∷ ps) = leb from p && leb p end && endsInOrder p end ps
 
 -- "past nine are dropped": at most nine arguments, each within so many bytes and not before it begins
 abbrev pub areArguments : (ends : List ℕ) → (count size : ℕ) → Bool
-areArguments es n size = leb n 9 && inOrder 0 size (take n es)
+areArguments es n size = leb n 9 && endsInOrder 0 size (take n es)
 
 -- whether a name has a place
-abbrev pub isAt : Place → Bool
+abbrev pub isAt : TextPlace → Bool
 isAt (At i) = true
 isAt Not = false
 
 -- a text that is read is there, with its arguments; "the gap between input lines is 1, or 2"
 unfoldable pub isItem : List Name → What → (size : ℕ) → (ends : List ℕ) → Bool
-isItem ns (what.Reading n k c) size es = areArguments es c size && isAt (placeOf n ns)
+isItem ns (what.Reading n k c) size es = areArguments es c size && isAt (textPlace n ns)
 isItem ns what.Text size es = true
 isItem ns (what.Control q n) size es = true
 isItem ns what.Ignored size es = true
@@ -122,7 +122,7 @@ isStack ns s ps = isDepth s ps && areFrames ns ps (s .depth)
 
 -- "live text past 8,192 bytes", "65th name": the body of an open definition lies behind the texts, and a row is left for it
 abbrev pub isOpeningIf : (there : Bool) → Opening → (lengths : List ℕ) → (count store : ℕ) → Bool
-isOpeningIf true o ls n st = ltb n 64 && leb (o .length) 8192 && leb (sum (take n ls) + o .length) st
+isOpeningIf true o ls n st = ltb n 64 && leb (o .length) 8192 && leb (totalLength (take n ls) + o .length) st
 isOpeningIf false o ls n st = true
 
 abbrev pub isOpening : Opening → (lengths : List ℕ) → (count store : ℕ) → Bool
@@ -130,9 +130,9 @@ isOpening o ls n st = isOpeningIf (o .there) o ls n st
 
 -- "store not 8,192 long"; "65th name .. or live text past 8,192 bytes"; the open definition
 unfoldable pub areTexts : Status → (store : ℕ) → (lengths : List ℕ) → Bool
-areTexts s st ls = eqb st 8192 && texts.isTable st ls (s .texts) && isOpening (s .opening) ls (s .texts) st
+areTexts s st ls = eqb st 8192 && texts.isTextTable st ls (s .texts) && isOpening (s .opening) ls (s .texts) st
 
--- all limits of a record: those of the sheet, the texts in their store, "65th register", and the input stack
+-- all limits of a record: those of the page state, the texts in their store, "65th register", and the input stack
 unfoldable pub isSound : Status → (store : ℕ) → (ends textFirsts textSeconds lengths firsts seconds : List ℕ) → Bool
 isSound s st ps tf ts ls fs ss =
-    isSheet s && areTexts s st ls && registers.isTable fs ss (s .registers) && isStack (namesOf tf ts (s .texts)) (s .stack) ps
+    isPageState s && areTexts s st ls && registers.isRegisterTable fs ss (s .registers) && isStack (namesOf tf ts (s .texts)) (s .stack) ps

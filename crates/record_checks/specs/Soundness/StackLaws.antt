@@ -11,19 +11,19 @@ use borrow.Author.Tests.{leb-true, le-leb, eqb-true, eqb-false}
 use Rattle.rules.specs.declared.Name.{Name}
 use Rattle.rules.specs.Laws.Refusals.{both}
 use Rattle.rules.specs.Texts.{Text}
-use Rattle.texts.specs.declared.table.Place.{Place}
-use Rattle.texts.specs.declared.table.Place.the-variants.{At, Not}
-use Rattle.texts.specs.Table.Places.{placeOf}
-use Rattle.texts.specs.Table.Table.{namesOf, textsOf, Lies}
+use Rattle.texts.specs.declared.table.TextPlace.{TextPlace}
+use Rattle.texts.specs.declared.table.TextPlace.the-variants.{At, Not}
+use Rattle.texts.specs.Table.Places.{textPlace}
+use Rattle.texts.specs.Table.Table.{namesOf, textsOf, TextsInvariant}
 use Rattle.texts.proofs.table.Laws.{found-text, not-text}
 use Rattle.scan.specs.Arguments.Around.{beginOf, Arguments}
 use Rattle.input_stack.specs.declared.frames.What.{What}
 use Rattle.input_stack.specs.declared.frames.What.the-variants as what
 use Rattle.input_stack.specs.declared.stack.Stack.{Stack}
-use Rattle.input_stack.specs.Stack.Frames.{entryAt, topEntry, frameAt, framesTo, framesOf, Columns}
-use Rattle.input_stack.specs.Stack.Items.{There, GoodBy, GoodFrame, Good}
-use Rattle.page.specs.Springs.Held.{isText, limitBy, Fits}
-use Rattle.record_checks.specs.Soundness.Checks.{inOrder, areArguments, isAt, isItem, isFrame, areFrames, isDepth, isStack}
+use Rattle.input_stack.specs.Stack.Frames.{entryAt, topEntry, frameAt, framesTo, framesOf, StackInvariant}
+use Rattle.input_stack.specs.Stack.Items.{There, GoodBy, GoodFrame, GoodFrames}
+use Rattle.page.specs.Springs.Held.{isText, limitBy, StackFits}
+use Rattle.record_checks.specs.Soundness.Checks.{endsInOrder, areArguments, isAt, isItem, isFrame, areFrames, isDepth, isStack}
 
 -- both parts of a test hold
 pub and-true : (a b : Bool) → a ≡ true → b ≡ true → (a && b) ≡ true
@@ -35,26 +35,26 @@ beginFrom from es zero = from
 beginFrom from es (suc k) = getD es k 0
 
 -- Places that pass the test are in order, and none is past the end.
-order-sound : (from end : ℕ) (es : List ℕ) → inOrder from end es ≡ true
+order-sound : (from end : ℕ) (es : List ℕ) → endsInOrder from end es ≡ true
     → (k : ℕ) → k < length es → (beginFrom from es k ≤ getD es k 0) × (getD es k 0 ≤ end)
-unfolding inOrder
+unfolding endsInOrder
 order-sound from end [] h k i = absurd (omega arith)
 order-sound from end (e ∷ es) h zero i =
-    let t = both (leb from e && leb e end) (inOrder e end es) h in let u = both (leb from e) (leb e end) (t .0) in
+    let t = both (leb from e && leb e end) (endsInOrder e end es) h in let u = both (leb from e) (leb e end) (t .0) in
     (leb-true from e (u .0), leb-true e end (u .1))
 order-sound from end (e ∷ es) h (suc zero) i =
-    let t = both (leb from e && leb e end) (inOrder e end es) h in order-sound e end es (t .1) zero (omega arith)
+    let t = both (leb from e && leb e end) (endsInOrder e end es) h in order-sound e end es (t .1) zero (omega arith)
 order-sound from end (e ∷ es) h (suc (suc k)) i =
-    let t = both (leb from e && leb e end) (inOrder e end es) h in order-sound e end es (t .1) (suc k) (omega arith)
+    let t = both (leb from e && leb e end) (endsInOrder e end es) h in order-sound e end es (t .1) (suc k) (omega arith)
 
 -- Places that are in order, none past the end, pass it.
 order-complete : (from end : ℕ) (es : List ℕ) → ((k : ℕ) → k < length es → (beginFrom from es k ≤ getD es k 0) × (getD es k 0 ≤ end))
-    → inOrder from end es ≡ true
-unfolding inOrder
+    → endsInOrder from end es ≡ true
+unfolding endsInOrder
 order-complete from end [] h = refl
 order-complete from end (e ∷ es) h =
     let t = h zero (omega arith) in
-    and-true (leb from e && leb e end) (inOrder e end es)
+    and-true (leb from e && leb e end) (endsInOrder e end es)
     (and-true (leb from e) (leb e end) (le-leb from e (t .0)) (le-leb e end (t .1)))
     (order-complete e end es (later h))
   where
@@ -72,7 +72,7 @@ module _ (l es : List ℕ) (n : ℕ) (long : length es ≡ 9) where
   -- Arguments that pass the test lie within the bytes.
   pub arguments-sound : areArguments es n (length l) ≡ true → Arguments l es n
   arguments-sound h =
-      let t = both (leb n 9) (inOrder 0 (length l) (take n es)) h in let few = leb-true n 9 (t .0) in
+      let t = both (leb n 9) (endsInOrder 0 (length l) (take n es)) h in let few = leb-true n 9 (t .0) in
       let size : length (take n es) ≡ n = length-take-le n es (omega arith) in
       let o = order-sound 0 (length l) (take n es) (t .1) in
       record {
@@ -86,26 +86,26 @@ module _ (l es : List ℕ) (n : ℕ) (long : length es ≡ 9) where
   pub arguments-complete : Arguments l es n → areArguments es n (length l) ≡ true
   arguments-complete a =
       let size : length (take n es) ≡ n = length-take-le n es (omega arith) in
-      and-true (leb n 9) (inOrder 0 (length l) (take n es)) (le-leb n 9 (a .few))
+      and-true (leb n 9) (endsInOrder 0 (length l) (take n es)) (le-leb n 9 (a .few))
       (order-complete 0 (length l) (take n es) (λ k i. (
         omega (arith, a .order k (omega arith), begin-take n es k (omega arith), getD-take n es k 0 (omega arith)),
         omega (arith, a .inside k (omega arith), getD-take n es k 0 (omega arith)),
       )))
 
-module _ (st fs ss ks ls : List ℕ) (n : ℕ) (lies : Lies st fs ss ks ls n) where
+module _ (st fs ss ks ls : List ℕ) (n : ℕ) (lies : TextsInvariant st fs ss ks ls n) where
   -- A name that has a place has a text.
-  there-sound : (m : Name) → isAt (placeOf m (namesOf fs ss n)) ≡ true → There m (textsOf st fs ss ks ls n)
-  there-sound m h = go (placeOf m (namesOf fs ss n)) refl h
+  there-sound : (m : Name) → isAt (textPlace m (namesOf fs ss n)) ≡ true → There m (textsOf st fs ss ks ls n)
+  there-sound m h = go (textPlace m (namesOf fs ss n)) refl h
     where
-      go : (p : Place) → placeOf m (namesOf fs ss n) ≡ p → isAt p ≡ true → There m (textsOf st fs ss ks ls n)
+      go : (p : TextPlace) → textPlace m (namesOf fs ss n) ≡ p → isAt p ≡ true → There m (textsOf st fs ss ks ls n)
       go (At i) e h = (_, found-text st fs ss ks ls n lies m i e)
       go Not e h = absurd (false≢true h)
 
   -- A name that has a text has a place.
-  there-complete : (m : Name) → There m (textsOf st fs ss ks ls n) → isAt (placeOf m (namesOf fs ss n)) ≡ true
-  there-complete m t = go (placeOf m (namesOf fs ss n)) refl
+  there-complete : (m : Name) → There m (textsOf st fs ss ks ls n) → isAt (textPlace m (namesOf fs ss n)) ≡ true
+  there-complete m t = go (textPlace m (namesOf fs ss n)) refl
     where
-      go : (p : Place) → placeOf m (namesOf fs ss n) ≡ p → isAt p ≡ true
+      go : (p : TextPlace) → textPlace m (namesOf fs ss n) ≡ p → isAt p ≡ true
       go (At i) e = refl
       go Not e = let x = not-text st fs ss ks ls n lies m e in let y = t .1 in let z : _≡_ {A = ℕ} 0 1 = cc in absurd (omega arith)
 
@@ -115,7 +115,7 @@ module _ (st fs ss ks ls : List ℕ) (n : ℕ) (lies : Lies st fs ss ks ls n) wh
   item-sound : (w : What) (l es : List ℕ) → length es ≡ 9 → isItem (namesOf fs ss n) w (length l) es ≡ true → GoodBy texts w l es
   unfolding isItem
   item-sound (what.Reading m k c) l es long h =
-      let t = both (areArguments es c (length l)) (isAt (placeOf m (namesOf fs ss n))) h in
+      let t = both (areArguments es c (length l)) (isAt (textPlace m (namesOf fs ss n))) h in
       (arguments-sound l es c long (t .0), there-sound m (t .1))
   item-sound what.Text l es long h = tt
   item-sound (what.Control q m) l es long h = tt
@@ -127,7 +127,7 @@ module _ (st fs ss ks ls : List ℕ) (n : ℕ) (lies : Lies st fs ss ks ls n) wh
   item-complete : (w : What) (l es : List ℕ) → length es ≡ 9 → GoodBy texts w l es → isItem (namesOf fs ss n) w (length l) es ≡ true
   unfolding isItem
   item-complete (what.Reading m k c) l es long g =
-      and-true (areArguments es c (length l)) (isAt (placeOf m (namesOf fs ss n))) (arguments-complete l es c long (g .0)) (there-complete m (g .1))
+      and-true (areArguments es c (length l)) (isAt (textPlace m (namesOf fs ss n))) (arguments-complete l es c long (g .0)) (there-complete m (g .1))
   item-complete what.Text l es long g = refl
   item-complete (what.Control q m) l es long g = refl
   item-complete what.Ignored l es long g = refl
@@ -167,7 +167,7 @@ module _ (st fs ss ks ls : List ℕ) (n : ℕ) (lies : Lies st fs ss ks ls n) wh
 
     -- Frames that pass the test are within their bytes, and good.
     pub frames-sound : (d : ℕ) → d ≤ 17 → areFrames (namesOf fs ss n) ps d ≡ true
-        → ((i : ℕ) → i < d → entryAt ps i .size ≤ 512) × Good texts (framesTo bs ps d)
+        → ((i : ℕ) → i < d → entryAt ps i .size ≤ 512) × GoodFrames texts (framesTo bs ps d)
     unfolding areFrames framesTo
     frames-sound zero h t = (λ i k. absurd (omega arith), tt)
     frames-sound (suc d) h t =
@@ -176,7 +176,7 @@ module _ (st fs ss ks ls : List ℕ) (n : ℕ) (lies : Lies st fs ss ks ls n) wh
         (λ i k. sizes-under d i k (f .0) (r .0), (f .1, r .1))
 
     -- Frames that are pass it.
-    pub frames-complete : (d : ℕ) → d ≤ 17 → ((i : ℕ) → i < d → entryAt ps i .size ≤ 512) → Good texts (framesTo bs ps d)
+    pub frames-complete : (d : ℕ) → d ≤ 17 → ((i : ℕ) → i < d → entryAt ps i .size ≤ 512) → GoodFrames texts (framesTo bs ps d)
         → areFrames (namesOf fs ss n) ps d ≡ true
     unfolding areFrames framesTo
     frames-complete zero h z g = refl
@@ -188,7 +188,7 @@ module _ (st fs ss ks ls : List ℕ) (n : ℕ) (lies : Lies st fs ss ks ls n) wh
   module _ (s : Stack) (bs ps : List ℕ) where
     -- A stack that passes the test keeps to its limits.
     pub stack-sound : length bs ≡ 8704 → length ps ≡ 221 → isStack (namesOf fs ss n) s ps ≡ true
-        → Columns s bs ps × Good texts (framesOf s bs ps) × Fits s ps
+        → StackInvariant s bs ps × GoodFrames texts (framesOf s bs ps) × StackFits s ps
     unfolding isStack
     stack-sound b p t =
         let u = both (isDepth s ps) (areFrames (namesOf fs ss n) ps (s .depth)) t in
@@ -197,7 +197,7 @@ module _ (st fs ss ks ls : List ℕ) (n : ℕ) (lies : Lies st fs ss ks ls n) wh
         (record { few = few; long = b; ends-long = p; sizes = f .0 }, f .1, leb-true (s .depth) (limitBy (isText (topEntry s ps .what))) (v .1))
 
     -- One that keeps to them passes it.
-    pub stack-complete : Columns s bs ps → Good texts (framesOf s bs ps) → Fits s ps → isStack (namesOf fs ss n) s ps ≡ true
+    pub stack-complete : StackInvariant s bs ps → GoodFrames texts (framesOf s bs ps) → StackFits s ps → isStack (namesOf fs ss n) s ps ≡ true
     unfolding isStack
     stack-complete c g f =
         and-true (isDepth s ps) (areFrames (namesOf fs ss n) ps (s .depth))

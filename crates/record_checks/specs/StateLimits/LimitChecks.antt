@@ -10,7 +10,7 @@ use Rattle.rules.specs.declared.Name.{Name}
 use Rattle.rules.specs.declared.Trap.{Trap}
 use Rattle.rules.specs.Rows.{theEnd}
 use Rattle.registers.specs.Checks.Checks as registers
-use Rattle.texts.specs.Table.Places.{placeOf}
+use Rattle.texts.specs.Table.Places.{textPlace}
 use Rattle.texts.specs.Table.Table.{namesOf}
 use Rattle.texts.specs.Table.Checks as texts
 use Rattle.traps.specs.Table.Table.{plantedOf}
@@ -31,17 +31,17 @@ pub record LentTables (textFirsts textSeconds : List ℕ) (values steps : List �
 -- "6: .. result outside ±1,000,000,000": the row of a trap is the result of an expression
 unfoldable pub arePlaces : List Trap → Bool
 arePlaces [] = true
-arePlaces (t ∷ ts) = registers.isWithin (t .place .0) && arePlaces ts
+arePlaces (t ∷ ts) = registers.inBounds (t .place .0) && arePlaces ts
 
 -- "the old text counts as gone when the new definition starts", and "A macro exists once closed": no text has the name of an open definition
 abbrev pub isGone : (there : Bool) → Name → List Name → Bool
-isGone true n ns = not (isAt (placeOf n ns))
+isGone true n ns = not (isAt (textPlace n ns))
 isGone false n ns = true
 
 -- "6: .. literal, step or result outside ±1,000,000,000" of the registers; "the same N is replaced" and its range; one text for a name, and none for that of an open definition
 unfoldable pub areTables : Status → (textFirsts textSeconds : List ℕ) → (values steps : List ℤ) → Bool
 areTables s tf ts vs us =
-    registers.isBounded vs us (s .registers) && traps.isTable (s .planted) && arePlaces (plantedOf (s .planted))
+    registers.isBounded vs us (s .registers) && traps.isTrapTable (s .planted) && arePlaces (plantedOf (s .planted))
     && texts.noNameTwice tf ts (s .texts) && isGone (s .opening .there) (s .opening .name) (namesOf tf ts (s .texts))
 
 -- "ll 1 to 240 cells", and the value before

@@ -22,10 +22,10 @@ use Rattle.rules.specs.Laws.Texts.{Distinct}
 use Rattle.rules.specs.Rows.{theEnd}
 use Rattle.rules.specs.State.{Item, Definition, State, close}
 use Rattle.registers.specs.Checks.Checks as registers
-use Rattle.texts.specs.declared.table.Place.{Place}
-use Rattle.texts.specs.declared.table.Place.the-variants.{At, Not}
-use Rattle.texts.specs.Table.Places.{placeOf}
-use Rattle.texts.specs.Table.Table.{namesOf, textsOf, Lies}
+use Rattle.texts.specs.declared.table.TextPlace.{TextPlace}
+use Rattle.texts.specs.declared.table.TextPlace.the-variants.{At, Not}
+use Rattle.texts.specs.Table.Places.{textPlace}
+use Rattle.texts.specs.Table.Table.{namesOf, textsOf, TextsInvariant}
 use Rattle.texts.specs.Table.Checks as texts
 use Rattle.texts.proofs.table.Laws.{found-text, not-text}
 use Rattle.traps.specs.Table.Table.{plantedOf}
@@ -36,13 +36,13 @@ use Rattle.settings.specs.Lengths.Views.{settingOf}
 use Rattle.input_stack.specs.declared.frames.What.{What}
 use Rattle.input_stack.specs.declared.frames.What.the-variants as what
 use Rattle.input_stack.specs.declared.stack.Stack.{Stack}
-use Rattle.input_stack.specs.Stack.Frames.{entryAt, topEntry, topBytes, topEnds, framesTo, below}
+use Rattle.input_stack.specs.Stack.Frames.{entryAt, topEntry, topBytes, topEnds, framesTo, popped}
 use Rattle.input_stack.specs.Stack.Items.{itemBy, itemsOf, stackOf}
 use Rattle.input_stack.specs.Stack.ItemLaws.{stack-length, top-item, none-there}
 use Rattle.page.specs.Springs.Held.{isText, limitBy}
 use Rattle.state.specs.declared.Opening.{Opening}
 use Rattle.state.specs.declared.Status.{Status}
-use Rattle.state.specs.Whole.{Whole, Texts, textColumns, openedIf, stateIn, SoundWhole}
+use Rattle.state.specs.Whole.{WholeState, Texts, textColumns, openedIf, stateIn, StateInvariant}
 use Rattle.state.specs.Statuses.{wholeOf}
 use Rattle.limits.specs.Within.{Ranged, Gone, SourceByte, BoundedTrap, OverText, Layer, Layered, limitOf, Deep, NextLine, OpenOver, Answered, Within}
 use Rattle.record_checks.specs.Soundness.Checks.{isAt}
@@ -55,7 +55,7 @@ OpenedWhile true o k = OpenOver o none k
 OpenedWhile false o k = Unit
 
 -- THE LIMITS of a state of the rules (`limits`, Within), but for that of the closing answer
-pub record Kept (running : Bool) (s : State) : Type 0 where
+pub record LimitsKept (running : Bool) (s : State) : Type 0 where
   pub registers : BoundedTable (s .tables .registers)
   pub traps : Single (s .tables .traps)
   pub places : Each BoundedTrap (s .tables .traps)
@@ -74,13 +74,13 @@ places-sound : (l : List Trap) → arePlaces l ≡ true → Each BoundedTrap l
 unfolding arePlaces
 places-sound [] h = tt
 places-sound (t ∷ l) h =
-    let b = both (registers.isWithin (t .place .0)) (arePlaces l) h in (leb-true (natAbs (t .place .0)) 1000000000 (b .0), places-sound l (b .1))
+    let b = both (registers.inBounds (t .place .0)) (arePlaces l) h in (leb-true (natAbs (t .place .0)) 1000000000 (b .0), places-sound l (b .1))
 
 places-complete : (l : List Trap) → Each BoundedTrap l → arePlaces l ≡ true
 unfolding arePlaces
 places-complete [] h = refl
 places-complete (t ∷ l) h =
-    and-true (registers.isWithin (t .place .0)) (arePlaces l) (le-leb (natAbs (t .place .0)) 1000000000 (h .0)) (places-complete l (h .1))
+    and-true (registers.inBounds (t .place .0)) (arePlaces l) (le-leb (natAbs (t .place .0)) 1000000000 (h .0)) (places-complete l (h .1))
 
 -- gathered bytes
 
@@ -122,18 +122,18 @@ unfolding areSettings
 settings-complete y r n = and-true (isRanged (y .line)) (leb (y .centred) 1000000000) (ranged-complete (y .line) r) (le-leb (y .centred) 1000000000 n)
 
 -- the name of an open definition
-module _ (st fs ss ks ls : List ℕ) (n : ℕ) (lies : Lies st fs ss ks ls n) where
-  lost-sound : (m : Name) → not (isAt (placeOf m (namesOf fs ss n))) ≡ true → textOf m (textsOf st fs ss ks ls n) ≡ none
-  lost-sound m h = go (placeOf m (namesOf fs ss n)) refl h
+module _ (st fs ss ks ls : List ℕ) (n : ℕ) (lies : TextsInvariant st fs ss ks ls n) where
+  lost-sound : (m : Name) → not (isAt (textPlace m (namesOf fs ss n))) ≡ true → textOf m (textsOf st fs ss ks ls n) ≡ none
+  lost-sound m h = go (textPlace m (namesOf fs ss n)) refl h
     where
-      go : (p : Place) → placeOf m (namesOf fs ss n) ≡ p → not (isAt p) ≡ true → textOf m (textsOf st fs ss ks ls n) ≡ none
+      go : (p : TextPlace) → textPlace m (namesOf fs ss n) ≡ p → not (isAt p) ≡ true → textOf m (textsOf st fs ss ks ls n) ≡ none
       go (At i) e h = absurd (false≢true h)
       go Not e h = not-text st fs ss ks ls n lies m e
 
-  lost-complete : (m : Name) → textOf m (textsOf st fs ss ks ls n) ≡ none → not (isAt (placeOf m (namesOf fs ss n))) ≡ true
-  lost-complete m h = go (placeOf m (namesOf fs ss n)) refl
+  lost-complete : (m : Name) → textOf m (textsOf st fs ss ks ls n) ≡ none → not (isAt (textPlace m (namesOf fs ss n))) ≡ true
+  lost-complete m h = go (textPlace m (namesOf fs ss n)) refl
     where
-      go : (p : Place) → placeOf m (namesOf fs ss n) ≡ p → not (isAt p) ≡ true
+      go : (p : TextPlace) → textPlace m (namesOf fs ss n) ≡ p → not (isAt p) ≡ true
       go (At i) e = let x = found-text st fs ss ks ls n lies m i e in let z : _≡_ {A = ℕ} 0 1 = cc in absurd (omega arith)
       go Not e = refl
 
@@ -278,11 +278,11 @@ module _ (ts : List Text) (s : Stack) (bs ps : List ℕ) where
   abbrev top : What
   top = topEntry s ps .what
 
-  top-is : 0 < s .depth → stacked ≡ itemBy ts top (topBytes s bs ps) (topEnds s ps) ∷ stackOf ts (below s) bs ps
+  top-is : 0 < s .depth → stacked ≡ itemBy ts top (topBytes s bs ps) (topEnds s ps) ∷ stackOf ts (popped s) bs ps
   top-is h = top-item ts s bs ps top h refl
 
   limit-top : 0 < s .depth → limitOf stacked ≡ limitBy (isText top)
-  limit-top h = ap limitOf (top-is h) ∙ limit-is ts (topBytes s bs ps) (topEnds s ps) (stackOf ts (below s) bs ps) top
+  limit-top h = ap limitOf (top-is h) ∙ limit-is ts (topBytes s bs ps) (topEnds s ps) (stackOf ts (popped s) bs ps) top
 
   deep-sound : (e : Bool) → isDeep e s ps ≡ true → Deep e stacked
   deep-sound e h = go (eqb (s .depth) 0) refl
@@ -309,7 +309,7 @@ module _ (ts : List Text) (s : Stack) (bs ps : List ℕ) where
       go true q h = subst NextLine (sym (none-there ts s bs ps (eqb-true (s .depth) 0 q))) tt
       go false q h =
           let z = eqb-false (s .depth) 0 q in
-          subst NextLine (sym (top-is (omega arith))) (next-sound ts (topBytes s bs ps) (topEnds s ps) (stackOf ts (below s) bs ps) top h)
+          subst NextLine (sym (top-is (omega arith))) (next-sound ts (topBytes s bs ps) (topEnds s ps) (stackOf ts (popped s) bs ps) top h)
 
   lines-complete : NextLine stacked → isNext s ps ≡ true
   lines-complete h = go (eqb (s .depth) 0) refl
@@ -318,7 +318,7 @@ module _ (ts : List Text) (s : Stack) (bs ps : List ℕ) where
       go true q = refl
       go false q =
           let z = eqb-false (s .depth) 0 q in
-          next-complete ts (topBytes s bs ps) (topEnds s ps) (stackOf ts (below s) bs ps) top (subst NextLine (top-is (omega arith)) h)
+          next-complete ts (topBytes s bs ps) (topEnds s ps) (stackOf ts (popped s) bs ps) top (subst NextLine (top-is (omega arith)) h)
 
   opened-sound : (running there : Bool) (o : Opening) (t : Texts) → isOpenOver running there s ps ≡ true → OpenedWhile running (openedIf there o t) stacked
   opened-sound true true o t h = lines-sound h
@@ -332,16 +332,16 @@ module _ (ts : List Text) (s : Stack) (bs ps : List ℕ) where
 
 -- the whole of a status and the arrays, over a base state that has gathered n bytes of the array g
 module _ (s : Status) (cs bs ps st tf ts ks ls fs ss : List ℕ) (vs us : List ℤ) (running : Bool) (g : List ℕ) (n : ℕ) where
-  abbrev held : Whole
+  abbrev held : WholeState
   held = wholeOf s cs bs ps st tf ts ks ls fs ss vs us
 
   -- A record that passes the test keeps to the limits.
-  pub within-kept : (x : State) → x .input .gathered ≡ take n g → SoundWhole held → isWithin s running ps g n tf ts vs us ≡ true → Kept running (stateIn held x)
+  pub within-kept : (x : State) → x .input .gathered ≡ take n g → StateInvariant held → isWithin s running ps g n tf ts vs us ≡ true → LimitsKept running (stateIn held x)
   unfolding isWithin areTables isPile
   within-kept x e q h =
       let a = areTables s tf ts vs us in let b = areSettings (s .layout) in let c = isGathered g n in
       let t = both (a && b && c) (isPile s running ps) h in let u = both (a && b) c (t .0) in let v = both a b (u .0) in
-      let ra = registers.isBounded vs us (s .registers) in let tr = traps.isTable (s .planted) in let pl = arePlaces (plantedOf (s .planted)) in
+      let ra = registers.isBounded vs us (s .registers) in let tr = traps.isTrapTable (s .planted) in let pl = arePlaces (plantedOf (s .planted)) in
       let na = texts.noNameTwice tf ts (s .texts) in
       let w = both (ra && tr && pl && na) (isGone (s .opening .there) (s .opening .name) (namesOf tf ts (s .texts))) (v .0) in
       let k = both (ra && tr && pl) na (w .0) in let l = both (ra && tr) pl (k .0) in let m = both ra tr (l .0) in
@@ -350,7 +350,7 @@ module _ (s : Status) (cs bs ps st tf ts ks ls fs ss : List ℕ) (vs us : List �
       let y = settings-sound (s .layout) (v .1) in let z = textsOf st tf ts ks ls (s .texts) in
       record {
         registers = registers.bounded-sound fs ss vs us (s .registers) (m .0);
-        traps = traps.table-sound (s .planted) (m .1) .1;
+        traps = traps.traps-sound (s .planted) (m .1) .1;
         places = places-sound (plantedOf (s .planted)) (l .1);
         texts = texts.names-sound st tf ts ks ls (s .texts) (q .lies) (k .1);
         gone = gone-sound st tf ts ks ls (s .texts) (q .lies) (s .opening .there) (s .opening) (w .1);
@@ -363,11 +363,11 @@ module _ (s : Status) (cs bs ps st tf ts ks ls fs ss : List ℕ) (vs us : List �
       }
 
   -- A record that keeps to the limits passes it: refusal 1 never hits one whose state the rules lead to.
-  pub kept-within : (x : State) → x .input .gathered ≡ take n g → n ≤ 512 → SoundWhole held → Kept running (stateIn held x) → isWithin s running ps g n tf ts vs us ≡ true
+  pub kept-within : (x : State) → x .input .gathered ≡ take n g → n ≤ 512 → StateInvariant held → LimitsKept running (stateIn held x) → isWithin s running ps g n tf ts vs us ≡ true
   unfolding isWithin areTables isPile
   kept-within x e j q k =
       let a = areTables s tf ts vs us in let b = areSettings (s .layout) in let c = isGathered g n in
-      let ra = registers.isBounded vs us (s .registers) in let tr = traps.isTable (s .planted) in let pl = arePlaces (plantedOf (s .planted)) in
+      let ra = registers.isBounded vs us (s .registers) in let tr = traps.isTrapTable (s .planted) in let pl = arePlaces (plantedOf (s .planted)) in
       let na = texts.noNameTwice tf ts (s .texts) in let z = textsOf st tf ts ks ls (s .texts) in
       and-true (a && b && c) (isPile s running ps)
       (and-true (a && b) c
@@ -375,7 +375,7 @@ module _ (s : Status) (cs bs ps st tf ts ks ls fs ss : List ℕ) (vs us : List �
       (and-true (ra && tr && pl && na) (isGone (s .opening .there) (s .opening .name) (namesOf tf ts (s .texts)))
       (and-true (ra && tr && pl) na
       (and-true (ra && tr) pl
-      (and-true ra tr (registers.bounded-complete fs ss vs us (s .registers) (q .table) (k .registers)) (traps.table-complete (s .planted) (q .sheet .few) (k .traps)))
+      (and-true ra tr (registers.bounded-complete fs ss vs us (s .registers) (q .table) (k .registers)) (traps.traps-complete (s .planted) (q .pageState .few) (k .traps)))
       (places-complete (plantedOf (s .planted)) (k .places)))
       (texts.names-complete st tf ts ks ls (s .texts) (q .lies) (k .texts)))
       (gone-complete st tf ts ks ls (s .texts) (q .lies) (s .opening .there) (s .opening) (k .gone)))
@@ -383,13 +383,13 @@ module _ (s : Status) (cs bs ps st tf ts ks ls fs ss : List ℕ) (vs us : List �
       (and-true (leb n 512) (areBytes (take n g)) (le-leb n 512 j) (bytes-complete (take n g) (subst (Each SourceByte) e (k .gathered)))))
       (and-true (isLayered (s .stack) ps && isDeep (s .page .last) (s .stack) ps) (isOpenOver running (s .opening .there) (s .stack) ps)
       (and-true (isLayered (s .stack) ps) (isDeep (s .page .last) (s .stack) ps)
-      (and-true (leb (s .stack .depth) 17) (layeredTo false ps (s .stack .depth)) (le-leb (s .stack .depth) 17 (q .sheet .columns .few))
+      (and-true (leb (s .stack .depth) 17) (layeredTo false ps (s .stack .depth)) (le-leb (s .stack .depth) 17 (q .pageState .columns .few))
       (layered-complete z bs ps false (s .stack .depth) tt (k .stack)))
       (deep-complete z (s .stack) bs ps (s .page .last) (k .depth)))
       (opened-complete z (s .stack) bs ps running (s .opening .there) (s .opening) (textColumns st tf ts ks ls (s .texts)) (k .opened)))
 
 -- A state that is not closed keeps to the limits of the rules exactly if it keeps to these, while the session runs.
-pub open-within : (s : State) → s .closing ≡ none → Kept true s → Within s
+pub open-within : (s : State) → s .closing ≡ none → LimitsKept true s → Within s
 open-within s e k = record {
   registers = k .registers;
   traps = k .traps;
@@ -405,8 +405,8 @@ open-within s e k = record {
   closing = subst (λ (c : Option Closing). Answered c (s .input .line)) (sym e) tt;
 }
 
-pub open-kept : (s : State) → s .closing ≡ none → Within s → Kept true s
-open-kept s e w = record {
+pub open-limits-kept : (s : State) → s .closing ≡ none → Within s → LimitsKept true s
+open-limits-kept s e w = record {
   registers = w .registers;
   traps = w .traps;
   places = w .places;
@@ -425,7 +425,7 @@ closed-over none a k = tt
 closed-over (some d) a k = tt
 
 -- A state that was closed by an answer keeps to them exactly if it keeps to these, once it runs no more, and the answer is one of its line.
-pub closed-within : (a : Closing) (s : State) → Kept false s → Answered (some a) (s .input .line) → Within (close a s)
+pub closed-within : (a : Closing) (s : State) → LimitsKept false s → Answered (some a) (s .input .line) → Within (close a s)
 closed-within a s k b = record {
   registers = k .registers;
   traps = k .traps;
@@ -441,7 +441,7 @@ closed-within a s k b = record {
   closing = b;
 }
 
-pub closed-kept : (a : Closing) (s : State) → Within (close a s) → Kept false s × Answered (some a) (s .input .line)
+pub closed-kept : (a : Closing) (s : State) → Within (close a s) → LimitsKept false s × Answered (some a) (s .input .line)
 closed-kept a s w = (
   record {
     registers = w .registers;

@@ -18,7 +18,7 @@ use Rattle.source_line.specs.declared.Source.{Source}
 use Rattle.record.specs.declared.Waiting.{Waiting}
 use Rattle.record.specs.declared.Closing.{Closing}
 use Rattle.record_words.specs.declared.decoding.Counts.{Counts}
-use Rattle.record_words.specs.Decoding.Words.{nameWord, trapWords, layoutWords, pageWords, collectedWords, countsWords, openingWords, sourceWords, waitingWords, closingWords, plantedWords, wordsOf}
+use Rattle.record_words.specs.Decoding.Words.{nameToWord, trapWords, layoutWords, pageWords, collectedWords, countsWords, openingWords, sourceWords, waitingWords, closingWords, plantedWords, wordsOf}
 
 pub sets-append : (l : List ℤ) (i : ℕ) (xs ys : List ℤ) → sets l i (xs ++ ys) ≡ sets (sets l i xs) (i + length xs) ys
 sets-append l i [] ys = ap (λ (k : ℕ). sets l k ys) (sym (add-zero i))
@@ -28,7 +28,7 @@ sets-append l i (a ∷ xs) ys =
 
 trap-words-append : (ts us : List Trap) → trapWords (ts ++ us) ≡ trapWords ts ++ trapWords us
 trap-words-append [] us = refl
-trap-words-append (t ∷ ts) us = ap (λ (ws : List ℤ). t .place .0 ∷ nameWord (t .name) ∷ ws) (trap-words-append ts us)
+trap-words-append (t ∷ ts) us = ap (λ (ws : List ℤ). t .place .0 ∷ nameToWord (t .name) ∷ ws) (trap-words-append ts us)
 
 pub length-trap-words : (ts : List Trap) → length (trapWords ts) ≡ 2 * length ts
 length-trap-words [] = refl
@@ -36,7 +36,7 @@ length-trap-words (t ∷ ts) = omega (arith, length-trap-words ts)
 
 -- one more trap is written
 pub trap-step : (ws : List ℤ) (ts : List Trap) (i : ℕ) (d : Trap) → i < length ts
-    → set (set (sets ws 36 (trapWords (take i ts))) (36 + 2 * i) (getD ts i d .place .0)) (36 + 2 * i + 1) (nameWord (getD ts i d .name)) ≡ sets ws 36 (trapWords (take (i + 1) ts))
+    → set (set (sets ws 36 (trapWords (take i ts))) (36 + 2 * i) (getD ts i d .place .0)) (36 + 2 * i + 1) (nameToWord (getD ts i d .name)) ≡ sets ws 36 (trapWords (take (i + 1) ts))
 trap-step ws ts i d h =
     let t = getD ts i d in
     let before = sets ws 36 (trapWords (take i ts)) in
@@ -46,9 +46,9 @@ trap-step ws ts i d h =
     (ap (λ (k : ℕ). sets ws 36 (trapWords (take k ts))) (add-one i)
     ∙ ap (λ (l : List Trap). sets ws 36 (trapWords l)) (take-suc ts i d h)
     ∙ ap (sets ws 36) (trap-words-append (take i ts) (t ∷ []))
-    ∙ sets-append ws 36 (trapWords (take i ts)) (t .place .0 ∷ nameWord (t .name) ∷ [])
-    ∙ ap (λ (k : ℕ). sets before k (t .place .0 ∷ nameWord (t .name) ∷ [])) e
-    ∙ ap (λ (k : ℕ). set (set before (36 + 2 * i) (t .place .0)) k (nameWord (t .name))) (sym (add-one (36 + 2 * i))))
+    ∙ sets-append ws 36 (trapWords (take i ts)) (t .place .0 ∷ nameToWord (t .name) ∷ [])
+    ∙ ap (λ (k : ℕ). sets before k (t .place .0 ∷ nameToWord (t .name) ∷ [])) e
+    ∙ ap (λ (k : ℕ). set (set before (36 + 2 * i) (t .place .0)) k (nameToWord (t .name))) (sym (add-one (36 + 2 * i))))
 
 -- as many stores as there are words leave nothing of what was there
 all : (ws vs : List ℤ) → length ws ≡ 68 → length vs ≡ 68 → sets ws 0 vs ≡ vs

@@ -21,7 +21,7 @@ use Rattle.traps.specs.declared.table.Planted.{Planted}
 use Rattle.state.specs.declared.Opening.{Opening}
 use Rattle.source_line.specs.declared.Source.{Source}
 use Rattle.state.specs.declared.Status.{Status}
-use Rattle.record.specs.declared.Place.{Place}
+use Rattle.record.specs.declared.RecordCore.{RecordCore}
 use Rattle.record.specs.declared.Waiting.{Waiting}
 use Rattle.record.specs.declared.Closing.{Closing}
 use Rattle.record.specs.declared.Closing.the-variants as closing
@@ -37,8 +37,8 @@ abbrev pub flagWord : Bool → ℤ
 flagWord true = pos 1
 flagWord false = pos 0
 
-abbrev pub nameWord : Name → ℤ
-nameWord n = wordOf (n .first * 256 + n .second)
+abbrev pub nameToWord : Name → ℤ
+nameToWord n = wordOf (n .first * 256 + n .second)
 
 abbrev pub totalTag : Total → ℤ
 totalTag (total.Is c) = pos 1
@@ -83,7 +83,7 @@ countsWords n = wordOf (n .depth) ∷ wordOf (n .texts) ∷ wordOf (n .registers
 
 -- words 23 to 25
 abbrev pub openingWords : Opening → List ℤ
-openingWords o = flagWord (o .there) ∷ nameWord (o .name) ∷ wordOf (o .length) ∷ []
+openingWords o = flagWord (o .there) ∷ nameToWord (o .name) ∷ wordOf (o .length) ∷ []
 
 -- words 26 to 29
 abbrev pub sourceWords : Source → List ℤ
@@ -100,7 +100,7 @@ closingWords k = closingTag k ∷ closingNumber k ∷ closingLine k ∷ []
 -- a trap's place and its name
 abbrev pub trapWords : List Trap → List ℤ
 trapWords [] = []
-trapWords (t ∷ ts) = t .place .0 ∷ nameWord (t .name) ∷ trapWords ts
+trapWords (t ∷ ts) = t .place .0 ∷ nameToWord (t .name) ∷ trapWords ts
 
 -- word 35, and words 36 to 67
 abbrev pub plantedWords : Planted → List ℤ
@@ -136,11 +136,11 @@ abbrev pub settingAt : List ℤ → ℕ → Setting
 settingAt ws i = record { now = cellsAt ws i; former = cellsAt ws (i + 1) }
 
 -- a name from its number, at most 65535
-abbrev pub nameOf : ℕ → Name
-nameOf n = record { first = n / 256; second = n % 256 }
+abbrev pub nameFrom : ℕ → Name
+nameFrom n = record { first = n / 256; second = n % 256 }
 
 abbrev pub nameAt : List ℤ → ℕ → Name
-nameAt ws i = nameOf (min (countAt ws i) 65535)
+nameAt ws i = nameFrom (min (countAt ws i) 65535)
 
 abbrev pub totalBy : Bool → Cells → Total
 totalBy true c = total.Is c
@@ -170,8 +170,8 @@ countsIn ws = record { depth = countAt ws 20; texts = countAt ws 21; registers =
 abbrev pub openingIn : List ℤ → Opening
 openingIn ws = record { there = isSet (wordAt ws 23); name = nameAt ws 24; length = countAt ws 25 }
 
-abbrev pub sourceIn : List ℤ → Source
-sourceIn ws = record { line = countAt ws 26; length = countAt ws 27; ended = isSet (wordAt ws 28); stored = min (countAt ws 29) 65535 }
+abbrev pub sourceFromWords : List ℤ → Source
+sourceFromWords ws = record { line = countAt ws 26; length = countAt ws 27; ended = isSet (wordAt ws 28); stored = min (countAt ws 29) 65535 }
 
 abbrev pub waitingIn : List ℤ → Waiting
 waitingIn ws = record { at = countAt ws 30; end = countAt ws 31 }
@@ -202,36 +202,36 @@ abbrev pub Short : ℕ → Type 0
 Short n = n ≤ 2147483647
 
 -- a name of two bytes
-pub record Named (n : Name) : Type 0 where
+pub record TwoByteName (n : Name) : Type 0 where
   pub first : n .first ≤ 255
   pub second : n .second ≤ 255
 
-abbrev pub numberOf : Closing → ℕ
-numberOf closing.Open = 0
-numberOf closing.Done = 0
-numberOf (closing.Refused n l) = n
+abbrev pub refusalNumber : Closing → ℕ
+refusalNumber closing.Open = 0
+refusalNumber closing.Done = 0
+refusalNumber (closing.Refused n l) = n
 
-abbrev pub blank : Trap
-blank = record { place = record { 0 = pos 0 }; name = record { first = 0; second = 0 } }
+abbrev pub blankTrap : Trap
+blankTrap = record { place = record { 0 = pos 0 }; name = record { first = 0; second = 0 } }
 
 -- the names of traps
 abbrev pub AllNamed : List Trap → Type 0
-AllNamed ts = (i : ℕ) → i < length ts → Named (getD ts i blank .name)
+AllNamed ts = (i : ℕ) → i < length ts → TwoByteName (getD ts i blankTrap .name)
 
 -- the words of all parts, and what their types say
-pub record Written (l : Layout) (p : Page) (c : Collected) (n : Counts) (o : Opening) (s : Source) (w : Waiting) (k : Closing) (t : Planted) (ws : List ℤ) : Type 0 where
+pub record WordsWritten (l : Layout) (p : Page) (c : Collected) (n : Counts) (o : Opening) (s : Source) (w : Waiting) (k : Closing) (t : Planted) (ws : List ℤ) : Type 0 where
   pub are : ws ≡ wordsOf l p c n o s w k t
-  pub opening-named : Named (o .name)
+  pub opening-named : TwoByteName (o .name)
   pub stored-short : s .stored ≤ 65535
-  pub number-short : numberOf k ≤ 255
+  pub number-short : refusalNumber k ≤ 255
   pub traps-long : length (t .traps) ≡ 16
   pub traps-named : AllNamed (t .traps)
 
 -- ALL OF A PLACE
 
 -- the place of words
-abbrev pub placeIn : List ℤ → Place
-placeIn ws = record {
+abbrev pub coreFromWords : List ℤ → RecordCore
+coreFromWords ws = record {
   status = record {
     layout = layoutIn ws;
     page = pageIn ws;
@@ -242,7 +242,7 @@ placeIn ws = record {
     opening = openingIn ws;
     registers = countsIn ws .registers;
   };
-  source = sourceIn ws;
+  source = sourceFromWords ws;
   waiting = waitingIn ws;
   closing = closingIn ws;
 }
@@ -252,12 +252,12 @@ abbrev pub countsOf : Status → Counts
 countsOf s = record { depth = s .stack .depth; texts = s .texts; registers = s .registers }
 
 -- the words of a place
-abbrev pub wordsAt : Place → List ℤ
+abbrev pub wordsAt : RecordCore → List ℤ
 wordsAt p = wordsOf (p .status .layout) (p .status .page) (p .status .collected) (countsOf (p .status)) (p .status .opening) (p .source) (p .waiting) (p .closing) (p .status .planted)
 
 -- a place is written; and what the types of its parts say
-pub record PlaceWritten (p : Place) (ws : List ℤ) : Type 0 where
+pub record PlaceWritten (p : RecordCore) (ws : List ℤ) : Type 0 where
   pub are : ws ≡ wordsAt p
-  pub opening-named : Named (p .status .opening .name)
+  pub opening-named : TwoByteName (p .status .opening .name)
   pub traps-long : length (p .status .planted .traps) ≡ 16
   pub traps-named : AllNamed (p .status .planted .traps)

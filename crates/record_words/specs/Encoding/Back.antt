@@ -22,12 +22,12 @@ use Rattle.record.specs.declared.Waiting.{Waiting}
 use Rattle.record.specs.declared.Closing.{Closing}
 use Rattle.record.specs.declared.Closing.the-variants as closing
 use Rattle.record_words.specs.declared.decoding.Counts.{Counts}
-use Rattle.record_words.specs.Decoding.Words.{Short, Named, numberOf, AllNamed, nameWord, totalTag, totalValue, flagWord, trapWords, closingTag, closingNumber, closingLine, layoutWords, pageWords, collectedWords, countsWords, openingWords, sourceWords, waitingWords, closingWords, wordOf, wordsOf, isSet, nameOf, nameAt, totalBy, trapsFrom, closingBy, layoutIn, pageIn, collectedIn, countsIn, openingIn, sourceIn, waitingIn, closingIn, plantedIn}
+use Rattle.record_words.specs.Decoding.Words.{Short, TwoByteName, refusalNumber, AllNamed, nameToWord, totalTag, totalValue, flagWord, trapWords, closingTag, closingNumber, closingLine, layoutWords, pageWords, collectedWords, countsWords, openingWords, sourceWords, waitingWords, closingWords, wordOf, wordsOf, isSet, nameFrom, nameAt, totalBy, trapsFrom, closingBy, layoutIn, pageIn, collectedIn, countsIn, openingIn, sourceFromWords, waitingIn, closingIn, plantedIn}
 
-abbrev pub lineOf : Closing → ℕ
-lineOf closing.Open = 0
-lineOf closing.Done = 0
-lineOf (closing.Refused n l) = l
+abbrev pub refusalLine : Closing → ℕ
+refusalLine closing.Open = 0
+refusalLine closing.Done = 0
+refusalLine (closing.Refused n l) = l
 
 flag-back : (b : Bool) → isSet (flagWord b) ≡ b
 flag-back true = refl
@@ -52,12 +52,12 @@ first-back a b h = omega arith
 second-back : (a b : ℕ) → b ≤ 255 → (a * 256 + b) % 256 ≡ b
 second-back a b h = omega arith
 
-name-back : (n : Name) → Named n → nameOf (min (min (n .first * 256 + n .second) 2147483647) 65535) ≡ n
+name-back : (n : Name) → TwoByteName n → nameFrom (min (min (n .first * 256 + n .second) 2147483647) 65535) ≡ n
 name-back n h =
     let small : n .first * 256 + n .second ≤ 65535 = omega (arith, h .first, h .second) in
     rw (half-back (n .first * 256 + n .second) small, first-back (n .first) (n .second) (h .second), second-back (n .first) (n .second) (h .second))
 
-answer-back : (k : Closing) → numberOf k ≤ 255 → Short (lineOf k)
+answer-back : (k : Closing) → refusalNumber k ≤ 255 → Short (refusalLine k)
     → closingBy (isSet (closingTag k)) (natOf (closingTag k)) (min (natOf (closingNumber k)) 255) (natOf (closingLine k)) ≡ k
 answer-back closing.Open h m = refl
 answer-back closing.Done h m = refl
@@ -67,14 +67,14 @@ answer-back (closing.Refused n l) h m = rw (byte-back n h, count-back l m)
 traps-back : (ws : List ℤ) (ts : List Trap) (i : ℕ) → length ws ≡ i → AllNamed ts → trapsFrom (length ts) i (ws ++ trapWords ts) ≡ ts
 traps-back ws [] i e h = refl
 traps-back ws (t ∷ ts) i e h =
-    let here : List ℤ = t .place .0 ∷ nameWord (t .name) ∷ [] in
+    let here : List ℤ = t .place .0 ∷ nameToWord (t .name) ∷ [] in
     let all : (ws ++ here) ++ trapWords ts ≡ ws ++ trapWords (t ∷ ts) = append-assoc ws here (trapWords ts) in
-    let one : (ws ++ (t .place .0 ∷ [])) ++ (nameWord (t .name) ∷ trapWords ts) ≡ ws ++ trapWords (t ∷ ts) = append-assoc ws (t .place .0 ∷ []) (nameWord (t .name) ∷ trapWords ts) in
+    let one : (ws ++ (t .place .0 ∷ [])) ++ (nameToWord (t .name) ∷ trapWords ts) ≡ ws ++ trapWords (t ∷ ts) = append-assoc ws (t .place .0 ∷ []) (nameToWord (t .name) ∷ trapWords ts) in
     let next : length (ws ++ (t .place .0 ∷ [])) ≡ i + 1 = omega (arith, length-append ws (t .place .0 ∷ [])) in
     let far : length (ws ++ here) ≡ i + 2 = omega (arith, length-append ws here) in
-    let place : getD (ws ++ trapWords (t ∷ ts)) i (pos 0) ≡ t .place .0 = getD-at ws (t .place .0) (nameWord (t .name) ∷ trapWords ts) (pos 0) i e in
-    let word : getD (ws ++ trapWords (t ∷ ts)) (i + 1) (pos 0) ≡ nameWord (t .name) = ap (λ (l : List ℤ). getD l (i + 1) (pos 0)) (sym one) ∙ getD-at (ws ++ (t .place .0 ∷ [])) (nameWord (t .name)) (trapWords ts) (pos 0) (i + 1) next in
-    let name : nameAt (ws ++ trapWords (t ∷ ts)) (i + 1) ≡ t .name = ap (λ (z : ℤ). nameOf (min (natOf z) 65535)) word ∙ name-back (t .name) (h 0 (omega arith)) in
+    let place : getD (ws ++ trapWords (t ∷ ts)) i (pos 0) ≡ t .place .0 = getD-at ws (t .place .0) (nameToWord (t .name) ∷ trapWords ts) (pos 0) i e in
+    let word : getD (ws ++ trapWords (t ∷ ts)) (i + 1) (pos 0) ≡ nameToWord (t .name) = ap (λ (l : List ℤ). getD l (i + 1) (pos 0)) (sym one) ∙ getD-at (ws ++ (t .place .0 ∷ [])) (nameToWord (t .name)) (trapWords ts) (pos 0) (i + 1) next in
+    let name : nameAt (ws ++ trapWords (t ∷ ts)) (i + 1) ≡ t .name = ap (λ (z : ℤ). nameFrom (min (natOf z) 65535)) word ∙ name-back (t .name) (h 0 (omega arith)) in
     let rest : trapsFrom (length ts) (i + 2) (ws ++ trapWords (t ∷ ts)) ≡ ts = ap (trapsFrom (length ts) (i + 2)) (sym all) ∙ traps-back (ws ++ here) ts (i + 2) far (λ j k. h (suc j) (omega arith)) in
     rw (name, place, rest)
 
@@ -94,16 +94,16 @@ module _ (l : Layout) (p : Page) (c : Collected) (n : Counts) (o : Opening) (s :
   pub opening-there-back : openingIn (wordsOf l p c n o s w k t) .there ≡ o .there
   opening-there-back = flag-back (o .there)
 
-  pub opening-back : Named (o .name) → Short (o .length) → openingIn (wordsOf l p c n o s w k t) ≡ o
+  pub opening-back : TwoByteName (o .name) → Short (o .length) → openingIn (wordsOf l p c n o s w k t) ≡ o
   opening-back h m = rw (flag-back (o .there), name-back (o .name) h, count-back (o .length) m)
 
-  pub source-back : Short (s .line) → Short (s .length) → s .stored ≤ 65535 → sourceIn (wordsOf l p c n o s w k t) ≡ s
+  pub source-back : Short (s .line) → Short (s .length) → s .stored ≤ 65535 → sourceFromWords (wordsOf l p c n o s w k t) ≡ s
   source-back h m q = rw (flag-back (s .ended), count-back (s .line) h, count-back (s .length) m, half-back (s .stored) q)
 
   pub waiting-back : Short (w .at) → Short (w .end) → waitingIn (wordsOf l p c n o s w k t) ≡ w
   waiting-back h m = rw (count-back (w .at) h, count-back (w .end) m)
 
-  pub closing-back : numberOf k ≤ 255 → Short (lineOf k) → closingIn (wordsOf l p c n o s w k t) ≡ k
+  pub closing-back : refusalNumber k ≤ 255 → Short (refusalLine k) → closingIn (wordsOf l p c n o s w k t) ≡ k
   closing-back h m = answer-back k h m
 
   pub planted-back : Short (t .count) → length (t .traps) ≡ 16 → AllNamed (t .traps) → plantedIn (wordsOf l p c n o s w k t) ≡ t

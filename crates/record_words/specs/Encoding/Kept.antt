@@ -1,4 +1,4 @@
--- A record as words and arrays: a legal one, written and read back, stands for the same state and is legal. Assumes nothing.
+-- A record as words and arrays: a valid one, written and read back, stands for the same state and is valid. Assumes nothing.
 use Prim.Native.Nat.{ℕ, _+_, _≤_}
 use mathlib.Core.Path.{_≡_, refl, sym, ap, subst, _∙_}
 use mathlib.Core.Bool.{Bool, true, false}
@@ -19,23 +19,23 @@ use Rattle.state.specs.Whole.{Texts, stateIn, openedIf, OpensIn}
 use Rattle.record.specs.declared.Closing.{Closing}
 use Rattle.record.specs.declared.Closing.the-variants.{Open, Done, Refused}
 use Rattle.record.specs.declared.Record.{Record}
-use Rattle.record.specs.Turns.{recordOf, placeOf, putAt}
-use Rattle.record.specs.View.{sourced, closedAs, stateOf, waitingOf, wholeIn, lastLine, Legal}
+use Rattle.record.specs.Turns.{recordOf, coreOf, putAt}
+use Rattle.record.specs.View.{sourced, closedAs, stateOf, waitingOf, wholeIn, mostLines, ValidRecord}
 use Rattle.record_words.specs.declared.decoding.Counts.{Counts}
-use Rattle.record_words.specs.Decoding.Words.{placeIn, countsOf, wordsAt, layoutIn, pageIn, collectedIn, countsIn, openingIn, sourceIn, waitingIn, closingIn, plantedIn, Named, AllNamed, numberOf, Short}
-use Rattle.record_words.specs.Encoding.Back.{lineOf, layout-back, page-back, collected-back, counts-back, opening-back, opening-there-back, source-back, waiting-back, closing-back, planted-back}
+use Rattle.record_words.specs.Decoding.Words.{coreFromWords, countsOf, wordsAt, layoutIn, pageIn, collectedIn, countsIn, openingIn, sourceFromWords, waitingIn, closingIn, plantedIn, TwoByteName, AllNamed, refusalNumber, Short}
+use Rattle.record_words.specs.Encoding.Back.{refusalLine, layout-back, page-back, collected-back, counts-back, opening-back, opening-there-back, source-back, waiting-back, closing-back, planted-back}
 
 -- the record of words and arrays
 abbrev pub recordIn : List ℤ → (g cs row bs ps tf ts ks ls fs ss : List ℕ) → (vs us : List ℤ) → Record
-recordIn ws g cs row bs ps tf ts ks ls fs ss vs us = recordOf (placeIn ws) g cs row bs ps tf ts ks ls fs ss vs us
+recordIn ws g cs row bs ps tf ts ks ls fs ss vs us = recordOf (coreFromWords ws) g cs row bs ps tf ts ks ls fs ss vs us
 
 -- the words of a record
 abbrev pub wordsIn : Record → List ℤ
-wordsIn r = wordsAt (placeOf (r .status) (r .source) (r .waiting) (r .closing))
+wordsIn r = wordsAt (coreOf (r .status) (r .source) (r .waiting) (r .closing))
 
 -- a record, written and read back
-abbrev pub again : Record → Record
-again r = recordIn (wordsIn r) (r .gathered) (r .cells) (r .row) (r .arena) (r .ends) (r .«text_firsts») (r .«text_seconds») (r .kinds) (r .lengths) (r .firsts) (r .seconds) (r .values) (r .steps)
+abbrev pub readBack : Record → Record
+readBack r = recordIn (wordsIn r) (r .gathered) (r .cells) (r .row) (r .arena) (r .ends) (r .«text_firsts») (r .«text_seconds») (r .kinds) (r .lengths) (r .firsts) (r .seconds) (r .values) (r .steps)
 
 -- an opening that is the same, or as little there
 pub record Alike (o o' : Opening) : Type 0 where
@@ -59,21 +59,21 @@ module _ (o o' : Opening) (t : Texts) (a : Alike o o') where
 
 -- the record with another opening
 abbrev withOpening : Opening → Record → Record
-withOpening o r = putAt (placeOf (record { layout = r .status .layout; page = r .status .page; collected = r .status .collected; planted = r .status .planted; stack = r .status .stack; texts = r .status .texts; opening = o; registers = r .status .registers }) (r .source) (r .waiting) (r .closing)) r
+withOpening o r = putAt (coreOf (record { layout = r .status .layout; page = r .status .page; collected = r .status .collected; planted = r .status .planted; stack = r .status .stack; texts = r .status .texts; opening = o; registers = r .status .registers }) (r .source) (r .waiting) (r .closing)) r
 
--- What is asked of a record besides that it is legal: what the types of its parts say.
+-- What is asked of a record besides that it is valid: what the types of its parts say.
 pub record Typed (r : Record) : Type 0 where
-  pub opening-named : Named (r .status .opening .name)
+  pub opening-named : TwoByteName (r .status .opening .name)
   pub traps-long : length (r .status .planted .traps) ≡ 16
   pub traps-named : AllNamed (r .status .planted .traps)
 
 -- What holds of a record that is written and read back.
-pub record Kept (r : Record) (st : List ℕ) : Type 0 where
-  pub state : stateOf (again r) st ≡ stateOf r st
-  pub waiting : waitingOf (again r) ≡ waitingOf r
-  pub places : again r .waiting ≡ r .waiting
-  pub closing : again r .closing ≡ r .closing
-  pub legal : Legal (again r) st
+pub record RecordKept (r : Record) (st : List ℕ) : Type 0 where
+  pub state : stateOf (readBack r) st ≡ stateOf r st
+  pub waiting : waitingOf (readBack r) ≡ waitingOf r
+  pub places : readBack r .waiting ≡ r .waiting
+  pub closing : readBack r .closing ≡ r .closing
+  pub valid : ValidRecord (readBack r) st
 
 -- what the limits of a state say of its closing answer and its settings
 centred-of : (k : Closing) (s : State) → Within (closedAs k s) → s .layout .centred ≤ 1000000000
@@ -81,22 +81,22 @@ centred-of Open s w = w .centred
 centred-of Done s w = w .centred
 centred-of (Refused n m) s w = w .centred
 
-number-of : (k : Closing) (s : State) → Within (closedAs k s) → numberOf k ≤ 255
+number-of : (k : Closing) (s : State) → Within (closedAs k s) → refusalNumber k ≤ 255
 number-of Open s w = omega arith
 number-of Done s w = omega arith
 number-of (Refused n m) s w = omega (arith, w .closing .0 .most)
 
-line-of : (k : Closing) (s : State) → Within (closedAs k s) → lineOf k ≤ s .input .line
+line-of : (k : Closing) (s : State) → Within (closedAs k s) → refusalLine k ≤ s .input .line
 line-of Open s w = omega arith
 line-of Done s w = omega arith
 line-of (Refused n m) s w = omega (arith, w .closing .1)
 
-line-limit : (k : Closing) → lastLine k ≤ 1000001
+line-limit : (k : Closing) → mostLines k ≤ 1000001
 line-limit Open = omega arith
 line-limit Done = omega arith
 line-limit (Refused n m) = omega arith
 
-module _ (r : Record) (st : List ℕ) (l : Legal r st) (t : Typed r) where
+module _ (r : Record) (st : List ℕ) (l : ValidRecord r st) (t : Typed r) where
   abbrev here : State
   here = stateIn (wholeIn r st) (sourced (r .source) (r .gathered))
 
@@ -127,17 +127,17 @@ module _ (r : Record) (st : List ℕ) (l : Legal r st) (t : Typed r) where
 
   read-page : pageIn (wordsIn r) ≡ r .status .page
   read-page = page-back y (r .status .page) (r .status .collected) (countsOf (r .status)) o (r .source) (r .waiting) (r .closing) (r .status .planted)
-      (omega (arith, l .formed .sound .sheet .numbered))
+      (omega (arith, l .formed .sound .pageState .numbered))
 
   read-collected : collectedIn (wordsIn r) ≡ r .status .collected
   read-collected = collected-back y (r .status .page) (r .status .collected) (countsOf (r .status)) o (r .source) (r .waiting) (r .closing) (r .status .planted)
-      (omega (arith, l .formed .sound .sheet .line .few)) (omega (arith, l .formed .sound .sheet .next))
+      (omega (arith, l .formed .sound .pageState .line .few)) (omega (arith, l .formed .sound .pageState .next))
 
   read-counts : countsIn (wordsIn r) ≡ countsOf (r .status)
   read-counts = counts-back y (r .status .page) (r .status .collected) (countsOf (r .status)) o (r .source) (r .waiting) (r .closing) (r .status .planted)
-      (omega (arith, l .formed .sound .sheet .columns .few)) (omega (arith, l .formed .sound .lies .names .few)) (omega (arith, l .formed .sound .table .names .few))
+      (omega (arith, l .formed .sound .pageState .columns .few)) (omega (arith, l .formed .sound .lies .names .few)) (omega (arith, l .formed .sound .table .names .few))
 
-  read-source : sourceIn (wordsIn r) ≡ r .source
+  read-source : sourceFromWords (wordsIn r) ≡ r .source
   read-source = source-back y (r .status .page) (r .status .collected) (countsOf (r .status)) o (r .source) (r .waiting) (r .closing) (r .status .planted)
       (omega (arith, line-short)) (omega (arith, l .formed .short)) (omega (arith, l .formed .counted))
 
@@ -151,19 +151,19 @@ module _ (r : Record) (st : List ℕ) (l : Legal r st) (t : Typed r) where
 
   read-planted : plantedIn (wordsIn r) ≡ r .status .planted
   read-planted = planted-back y (r .status .page) (r .status .collected) (countsOf (r .status)) o (r .source) (r .waiting) (r .closing) (r .status .planted)
-      (omega (arith, l .formed .sound .sheet .few)) (t .traps-long) (t .traps-named)
+      (omega (arith, l .formed .sound .pageState .few)) (t .traps-long) (t .traps-named)
 
   -- the record with these parts, and the opening that is read back
   abbrev made : Layout → Page → Collected → Planted → Counts → Source → Waiting → Closing → Record
-  made y p c h n s w k = putAt (placeOf (record { layout = y; page = p; collected = c; planted = h; stack = record { depth = n .depth }; texts = n .texts; opening = openingIn (wordsIn r); registers = n .registers }) s w k) r
+  made y p c h n s w k = putAt (coreOf (record { layout = y; page = p; collected = c; planted = h; stack = record { depth = n .depth }; texts = n .texts; opening = openingIn (wordsIn r); registers = n .registers }) s w k) r
 
-  same : again r ≡ withOpening (openingIn (wordsIn r)) r
+  same : readBack r ≡ withOpening (openingIn (wordsIn r)) r
   same =
-      ap (λ (x : Layout). made x (pageIn (wordsIn r)) (collectedIn (wordsIn r)) (plantedIn (wordsIn r)) (countsIn (wordsIn r)) (sourceIn (wordsIn r)) (waitingIn (wordsIn r)) (closingIn (wordsIn r))) read-layout
-      ∙ ap (λ (x : Page). made y x (collectedIn (wordsIn r)) (plantedIn (wordsIn r)) (countsIn (wordsIn r)) (sourceIn (wordsIn r)) (waitingIn (wordsIn r)) (closingIn (wordsIn r))) read-page
-      ∙ ap (λ (x : Collected). made y (r .status .page) x (plantedIn (wordsIn r)) (countsIn (wordsIn r)) (sourceIn (wordsIn r)) (waitingIn (wordsIn r)) (closingIn (wordsIn r))) read-collected
-      ∙ ap (λ (x : Planted). made y (r .status .page) (r .status .collected) x (countsIn (wordsIn r)) (sourceIn (wordsIn r)) (waitingIn (wordsIn r)) (closingIn (wordsIn r))) read-planted
-      ∙ ap (λ (x : Counts). made y (r .status .page) (r .status .collected) (r .status .planted) x (sourceIn (wordsIn r)) (waitingIn (wordsIn r)) (closingIn (wordsIn r))) read-counts
+      ap (λ (x : Layout). made x (pageIn (wordsIn r)) (collectedIn (wordsIn r)) (plantedIn (wordsIn r)) (countsIn (wordsIn r)) (sourceFromWords (wordsIn r)) (waitingIn (wordsIn r)) (closingIn (wordsIn r))) read-layout
+      ∙ ap (λ (x : Page). made y x (collectedIn (wordsIn r)) (plantedIn (wordsIn r)) (countsIn (wordsIn r)) (sourceFromWords (wordsIn r)) (waitingIn (wordsIn r)) (closingIn (wordsIn r))) read-page
+      ∙ ap (λ (x : Collected). made y (r .status .page) x (plantedIn (wordsIn r)) (countsIn (wordsIn r)) (sourceFromWords (wordsIn r)) (waitingIn (wordsIn r)) (closingIn (wordsIn r))) read-collected
+      ∙ ap (λ (x : Planted). made y (r .status .page) (r .status .collected) x (countsIn (wordsIn r)) (sourceFromWords (wordsIn r)) (waitingIn (wordsIn r)) (closingIn (wordsIn r))) read-planted
+      ∙ ap (λ (x : Counts). made y (r .status .page) (r .status .collected) (r .status .planted) x (sourceFromWords (wordsIn r)) (waitingIn (wordsIn r)) (closingIn (wordsIn r))) read-counts
       ∙ ap (λ (x : Source). made y (r .status .page) (r .status .collected) (r .status .planted) (countsOf (r .status)) x (waitingIn (wordsIn r)) (closingIn (wordsIn r))) read-source
       ∙ ap (λ (x : Waiting). made y (r .status .page) (r .status .collected) (r .status .planted) (countsOf (r .status)) (r .source) x (closingIn (wordsIn r))) read-waiting
       ∙ ap (made y (r .status .page) (r .status .collected) (r .status .planted) (countsOf (r .status)) (r .source) (r .waiting)) read-closing
@@ -171,11 +171,11 @@ module _ (r : Record) (st : List ℕ) (l : Legal r st) (t : Typed r) where
   state-alike : stateOf (withOpening (openingIn (wordsIn r)) r) st ≡ stateOf r st
   state-alike = rw (opened-alike o (openingIn (wordsIn r)) (wholeIn r st .texts) alike)
 
-  legal-alike : Legal (withOpening (openingIn (wordsIn r)) r) st
-  legal-alike = record {
+  valid-alike : ValidRecord (withOpening (openingIn (wordsIn r)) r) st
+  valid-alike = record {
     formed = record {
       sound = record {
-        sheet = l .formed .sound .sheet;
+        pageState = l .formed .sound .pageState;
         lies = l .formed .sound .lies;
         store = l .formed .sound .store;
         good = l .formed .sound .good;
@@ -194,18 +194,18 @@ module _ (r : Record) (st : List ℕ) (l : Legal r st) (t : Typed r) where
     within = subst Within (sym state-alike) (l .within);
   }
 
-  -- A LEGAL RECORD IS KEPT by its words, its stack and its arrays.
-  pub kept : Kept r st
-  kept = record {
+  -- A VALID RECORD IS KEPT by its words, its stack and its arrays.
+  pub record-kept : RecordKept r st
+  record-kept = record {
     state = ap (λ (x : Record). stateOf x st) same ∙ state-alike;
     waiting = ap waitingOf same;
     places = read-waiting;
     closing = read-closing;
-    legal = subst (λ (x : Record). Legal x st) (sym same) legal-alike;
+    valid = subst (λ (x : Record). ValidRecord x st) (sym same) valid-alike;
   }
 
   -- It is the same record, if the length of its opening fits a word; what was read from words has such a one.
-  pub kept-same : Short (o .length) → again r ≡ r
+  pub kept-same : Short (o .length) → readBack r ≡ r
   kept-same h =
       same
       ∙ ap (λ (x : Opening). withOpening x r)

@@ -7,15 +7,15 @@ use native.Mathlib.Omega.{arith}
 use lib.ListN.{length, drop, set}
 use lib.Seq.{drop-cons}
 use lib.IntN.{ℤ, pos}
-use Rattle.record.specs.declared.Place.{Place}
-use Rattle.record.specs.Turns.{placeOf}
-use Rattle.record_words.specs.Decoding.Words.{Short, wordOf, wordAt, countAt, placeIn}
+use Rattle.record.specs.declared.RecordCore.{RecordCore}
+use Rattle.record.specs.Turns.{coreOf}
+use Rattle.record_words.specs.Decoding.Words.{Short, wordOf, wordAt, countAt, coreFromWords}
 
 -- a word that is no 0 is there
-pub there : (ws : List ℤ) (i : ℕ) → 0 < countAt ws i → i < length ws
-there [] i h = absurd (omega arith)
-there (w ∷ ws) zero h = omega arith
-there (w ∷ ws) (suc i) h = omega (arith, there ws i h)
+pub word-there : (ws : List ℤ) (i : ℕ) → 0 < countAt ws i → i < length ws
+word-there [] i h = absurd (omega arith)
+word-there (w ∷ ws) zero h = omega arith
+word-there (w ∷ ws) (suc i) h = omega (arith, word-there ws i h)
 
 -- words from a place on, the first so many of them one by one
 abbrev front : (count from : ℕ) → List ℤ → List ℤ
@@ -29,12 +29,12 @@ front-is (suc n) i ws h =
     ∙ ap (λ (k : ℕ). wordAt ws i ∷ drop k ws) (add-one i) ∙ sym (drop-cons ws i (pos 0) (omega arith))
 
 -- a place whose source line has so many bytes
-abbrev pub withLength : ℕ → Place → Place
-withLength n p = placeOf (p .status) (record { line = p .source .line; length = n; ended = p .source .ended; stored = p .source .stored }) (p .waiting) (p .closing)
+abbrev pub withSourceLength : ℕ → RecordCore → RecordCore
+withSourceLength n p = coreOf (p .status) (record { line = p .source .line; length = n; ended = p .source .ended; stored = p .source .stored }) (p .waiting) (p .closing)
 
 -- The place of the words after the change.
-pub length-written : (ws : List ℤ) (n : ℕ) → 27 < length ws → Short n → placeIn (set ws 27 (wordOf n)) ≡ withLength n (placeIn ws)
+pub length-written : (ws : List ℤ) (n : ℕ) → 27 < length ws → Short n → coreFromWords (set ws 27 (wordOf n)) ≡ withSourceLength n (coreFromWords ws)
 length-written ws n h k =
     let e : min n 2147483647 ≡ n = omega arith in
-    subst (λ (v : List ℤ). placeIn (set v 27 (wordOf n)) ≡ withLength (min n 2147483647) (placeIn v)) (front-is 28 0 ws (omega arith)) refl
-    ∙ ap (λ (m : ℕ). withLength m (placeIn ws)) e
+    subst (λ (v : List ℤ). coreFromWords (set v 27 (wordOf n)) ≡ withSourceLength (min n 2147483647) (coreFromWords v)) (front-is 28 0 ws (omega arith)) refl
+    ∙ ap (λ (m : ℕ). withSourceLength m (coreFromWords ws)) e

@@ -16,7 +16,7 @@ use Rattle.rules.specs.Names.{twoBytes, earlier}
 use Rattle.registers.specs.declared.table.Order.{Order}
 use Rattle.registers.specs.Table.Columns.{zipWith, asPair, namesOf, Names}
 use Rattle.registers.specs.Table.Places.{orderOf, orderAt}
-use Rattle.registers.specs.Checks.Checks.{NameColumns, NumberColumns, isEarlier, inOrder, isTable, isWithin, allWithin, isBounded}
+use Rattle.registers.specs.Checks.Checks.{NameColumns, NumberColumns, isEarlier, inOrder, isRegisterTable, inBounds, allWithin, isBounded}
 use Rattle.rules.specs.Columns.{zip-at, zip-length}
 use Rattle.registers.proofs.table.Laws.{namesOf-at, row-order}
 
@@ -78,19 +78,19 @@ rows-order fs ss n h i j k m r v e q =
 pub names-of : (fs ss : List ℕ) (n : ℕ) → NameColumns fs ss → n ≤ 64 → Names fs ss n
 names-of fs ss n h k = record { firsts-long = h .firsts-long; seconds-long = h .seconds-long; few = k }
 
-pub table-many : (fs ss : List ℕ) (n : ℕ) → 64 < n → isTable fs ss n ≡ false
+pub table-many : (fs ss : List ℕ) (n : ℕ) → 64 < n → isRegisterTable fs ss n ≡ false
 table-many fs ss n h = rw (lt-leb n 64 h)
 
-pub table-few : (fs ss : List ℕ) (n : ℕ) → n ≤ 64 → isTable fs ss n ≡ inOrder (namesOf fs ss n)
+pub table-few : (fs ss : List ℕ) (n : ℕ) → n ≤ 64 → isRegisterTable fs ss n ≡ inOrder (namesOf fs ss n)
 table-few fs ss n h = rw (le-leb n 64 h)
 
 -- numbers within the bounds, by the two tests of the code
 
-pub below-outside : (z : ℤ) → ltZ z (negsuc 999999999) ≡ true → false ≡ isWithin z
+pub below-outside : (z : ℤ) → ltZ z (negsuc 999999999) ≡ true → false ≡ inBounds z
 below-outside (pos n) t = let e : _≡_ {A = ℕ} 0 1 = cc in absurd (omega arith)
 below-outside (negsuc n) t = sym (lt-leb (suc n) 1000000000 (omega (arith, ltb-true 999999999 n t)))
 
-pub above-outside : (z : ℤ) → ltZ (pos 1000000000) z ≡ true → false ≡ isWithin z
+pub above-outside : (z : ℤ) → ltZ (pos 1000000000) z ≡ true → false ≡ inBounds z
 above-outside (pos n) t = sym (lt-leb n 1000000000 (ltb-true 1000000000 n t))
 above-outside (negsuc n) t = let e : _≡_ {A = ℕ} 0 1 = cc in absurd (omega arith)
 
@@ -98,7 +98,7 @@ above-outside (negsuc n) t = let e : _≡_ {A = ℕ} 0 1 = cc in absurd (omega a
 abbrev pub pairsOf : (values steps : List ℤ) → (count : ℕ) → List (ℤ × ℤ)
 pairsOf vs ts n = take n (zipWith asPair vs ts)
 
-within-cons : (x : ℤ × ℤ) (l : List (ℤ × ℤ)) → allWithin (x ∷ l) ≡ (isWithin (x .0) && isWithin (x .1) && allWithin l)
+within-cons : (x : ℤ × ℤ) (l : List (ℤ × ℤ)) → allWithin (x ∷ l) ≡ (inBounds (x .0) && inBounds (x .1) && allWithin l)
 unfolding allWithin
 within-cons x l = refl
 
@@ -113,21 +113,21 @@ module _ (vs ts : List ℤ) (n : ℕ) (h : NumberColumns vs ts) (k : n ≤ 64) w
   pairs-at i j = getD-take n (zipWith asPair vs ts) i (pos 0, pos 0) j ∙ zip-at asPair vs ts i (pos 0) (pos 0) columns-same
 
   -- the test of the rows from i on, by the row at i
-  within-at : (i : ℕ) → i < n → allWithin (drop i (pairsOf vs ts n)) ≡ (isWithin (getD vs i (pos 0)) && isWithin (getD ts i (pos 0)) && allWithin (drop (i + 1) (pairsOf vs ts n)))
+  within-at : (i : ℕ) → i < n → allWithin (drop i (pairsOf vs ts n)) ≡ (inBounds (getD vs i (pos 0)) && inBounds (getD ts i (pos 0)) && allWithin (drop (i + 1) (pairsOf vs ts n)))
   within-at i j =
       ap allWithin (drop-cons (pairsOf vs ts n) i (pos 0, pos 0) (omega (arith, pairs-length)))
       ∙ within-cons (getD (pairsOf vs ts n) i (pos 0, pos 0)) (drop (suc i) (pairsOf vs ts n))
-      ∙ ap (λ (x : ℤ × ℤ). isWithin (x .0) && isWithin (x .1) && allWithin (drop (suc i) (pairsOf vs ts n))) (pairs-at i j)
-      ∙ ap (λ m. isWithin (getD vs i (pos 0)) && isWithin (getD ts i (pos 0)) && allWithin (drop m (pairsOf vs ts n))) (sym (add-one i))
+      ∙ ap (λ (x : ℤ × ℤ). inBounds (x .0) && inBounds (x .1) && allWithin (drop (suc i) (pairsOf vs ts n))) (pairs-at i j)
+      ∙ ap (λ m. inBounds (getD vs i (pos 0)) && inBounds (getD ts i (pos 0)) && allWithin (drop m (pairsOf vs ts n))) (sym (add-one i))
 
-  pub within-on : (i : ℕ) → i < n → isWithin (getD vs i (pos 0)) ≡ true → isWithin (getD ts i (pos 0)) ≡ true
+  pub within-on : (i : ℕ) → i < n → inBounds (getD vs i (pos 0)) ≡ true → inBounds (getD ts i (pos 0)) ≡ true
       → allWithin (drop i (pairsOf vs ts n)) ≡ allWithin (drop (i + 1) (pairsOf vs ts n))
   within-on i j a b = within-at i j ∙ (rw (a, b))
 
-  pub value-stop : (i : ℕ) → i < n → isWithin (getD vs i (pos 0)) ≡ false → allWithin (drop i (pairsOf vs ts n)) ≡ false
+  pub value-stop : (i : ℕ) → i < n → inBounds (getD vs i (pos 0)) ≡ false → allWithin (drop i (pairsOf vs ts n)) ≡ false
   value-stop i j a = within-at i j ∙ (rw a)
 
-  pub step-stop : (i : ℕ) → i < n → isWithin (getD vs i (pos 0)) ≡ true → isWithin (getD ts i (pos 0)) ≡ false → allWithin (drop i (pairsOf vs ts n)) ≡ false
+  pub step-stop : (i : ℕ) → i < n → inBounds (getD vs i (pos 0)) ≡ true → inBounds (getD ts i (pos 0)) ≡ false → allWithin (drop i (pairsOf vs ts n)) ≡ false
   step-stop i j a b = within-at i j ∙ (rw (a, b))
 
   pub within-end : (i : ℕ) → n ≤ i → allWithin (drop i (pairsOf vs ts n)) ≡ true

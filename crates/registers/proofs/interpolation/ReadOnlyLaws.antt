@@ -15,11 +15,11 @@ use Rattle.rules.specs.declared.Turn.the-variants.{Still, Up, Down}
 use Rattle.rules.specs.Bytes.{firstWhere}
 use Rattle.rules.specs.Names.{oneByte, twoBytes, sameName}
 use Rattle.rules.specs.Refusals.{value, bad}
-use Rattle.rules.specs.Registers.{Seen, Reference, lookup, shown, referBy, stepRegister}
+use Rattle.rules.specs.Registers.{Seen, Reference, registerOf, shown, referBy, stepRegister}
 use Rattle.registers.specs.declared.interpolation.Shown.{Shown}
 use Rattle.registers.specs.declared.interpolation.Referred.the-variants.{Is, Bad, ReadOnly}
 use Rattle.registers.specs.declared.table.Stepped.the-variants as stepped
-use Rattle.registers.specs.Table.Columns.{tableOf, Table}
+use Rattle.registers.specs.Table.Columns.{tableOf, RegistersInvariant}
 use Rattle.registers.specs.Table.Answers.{StepTo}
 use Rattle.registers.specs.Interpolation.ReadOnly.{valueShown, seenOf, ReferTo}
 
@@ -44,7 +44,7 @@ pub is-rows : _≡_ {A = Option (Seen → ℤ)} (some (λ s. s .rows)) (shown (t
 unfolding shown firstWhere
 is-rows = refl
 
-pub is-length : _≡_ {A = Option (Seen → ℤ)} (some (λ s. s .length)) (shown (twoBytes 46 108))
+pub is-length : _≡_ {A = Option (Seen → ℤ)} (some (λ s. s .lineLength)) (shown (twoBytes 46 108))
 unfolding shown firstWhere
 is-length = refl
 
@@ -69,7 +69,7 @@ module _ (s : Seen) (n : Name) (rs : List Register) (v : ℤ) (e : some v ≡ va
   unfolding stepRegister
   read-still = go (shown n) e
     where
-      go : (o : Option (Seen → ℤ)) → some v ≡ valueShown o s → _≡_ {A = Reference} (value (v, rs)) (referBy Still o (lookup n rs) s rs)
+      go : (o : Option (Seen → ℤ)) → some v ≡ valueShown o s → _≡_ {A = Reference} (value (v, rs)) (referBy Still o (registerOf n rs) s rs)
       go none q = cc
       go (some f) q = let p : v ≡ f s = cc in rw p
 
@@ -77,7 +77,7 @@ module _ (s : Seen) (n : Name) (rs : List Register) (v : ℤ) (e : some v ≡ va
   unfolding stepRegister
   read-up = go (shown n) e
     where
-      go : (o : Option (Seen → ℤ)) → some v ≡ valueShown o s → _≡_ {A = Reference} (bad 7) (referBy Up o (lookup n rs) s rs)
+      go : (o : Option (Seen → ℤ)) → some v ≡ valueShown o s → _≡_ {A = Reference} (bad 7) (referBy Up o (registerOf n rs) s rs)
       go none q = cc
       go (some f) q = refl
 
@@ -85,22 +85,22 @@ module _ (s : Seen) (n : Name) (rs : List Register) (v : ℤ) (e : some v ≡ va
   unfolding stepRegister
   read-down = go (shown n) e
     where
-      go : (o : Option (Seen → ℤ)) → some v ≡ valueShown o s → _≡_ {A = Reference} (bad 7) (referBy Down o (lookup n rs) s rs)
+      go : (o : Option (Seen → ℤ)) → some v ≡ valueShown o s → _≡_ {A = Reference} (bad 7) (referBy Down o (registerOf n rs) s rs)
       go none q = cc
       go (some f) q = refl
 
 pub read-other : (s : Seen) (t : Turn) (n : Name) (rs : List Register) (x : Reference) → none ≡ valueShown (shown n) s
-    → x ≡ referBy t none (lookup n rs) s rs → x ≡ stepRegister s t n rs
+    → x ≡ referBy t none (registerOf n rs) s rs → x ≡ stepRegister s t n rs
 unfolding stepRegister
 read-other s t n rs x e h = go (shown n) e
   where
-    go : (o : Option (Seen → ℤ)) → none ≡ valueShown o s → x ≡ referBy t o (lookup n rs) s rs
+    go : (o : Option (Seen → ℤ)) → none ≡ valueShown o s → x ≡ referBy t o (registerOf n rs) s rs
     go none q = h
     go (some f) q = let z : _≡_ {A = ℕ} 0 1 = cc in absurd (omega arith)
 
 -- the ways to refer to a register
 
-module _ (fs ss : List ℕ) (vs ts : List ℤ) (n : ℕ) (h : Table fs ss vs ts n) (x : Shown) (m : Name) where
+module _ (fs ss : List ℕ) (vs ts : List ℤ) (n : ℕ) (h : RegistersInvariant fs ss vs ts n) (x : Shown) (m : Name) where
   module _ (v : ℤ) (e : some v ≡ valueShown (shown m) (seenOf x)) where
     pub refer-still : ReferTo fs ss vs ts n x Still m (Is v) vs
     refer-still = record { is = read-still (seenOf x) m (tableOf fs ss vs ts n) v e; table = h; kept = tt }

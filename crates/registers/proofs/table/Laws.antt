@@ -19,16 +19,16 @@ use Rattle.rules.specs.Names.{twoBytes, sameName, earlier, same, later}
 use Rattle.rules.specs.Laws.Names.{same-self, same-one}
 use Rattle.rules.specs.Refusals.{value, bad, _>>=_}
 use Rattle.rules.specs.Bytes.{firstWhere}
-use Rattle.rules.specs.Registers.{register, lookup, put, setValue, Seen, Reference, referBy}
+use Rattle.rules.specs.Registers.{register, registerOf, put, setValue, Seen, Reference, referBy}
 use Rattle.rules.specs.Laws.Registers.{Before, Means, means, names, Ordered, Sorted, not-found, put-new, put-sorted}
 use Rattle.rules.specs.Columns.{zip-at, zip-length, zip-set}
 use Rattle.registers.specs.declared.table.Order.{Order}
-use Rattle.registers.specs.declared.table.Place.{Place}
-use Rattle.registers.specs.declared.table.Place.the-variants.{At, Not}
-use Rattle.registers.specs.declared.table.Stored.the-variants.{Set, Full}
+use Rattle.registers.specs.declared.table.RegisterPlace.{RegisterPlace}
+use Rattle.registers.specs.declared.table.RegisterPlace.the-variants.{At, Not}
+use Rattle.registers.specs.declared.table.RegisterCount.the-variants.{Set, Full}
 use Rattle.registers.specs.declared.table.Stepped.the-variants.{Is, Bad}
-use Rattle.registers.specs.Table.Columns.{zipWith, asRegister, asPair, namesOf, tableOf, Names, Table}
-use Rattle.registers.specs.Table.Places.{orderOf, orderAt, place, next}
+use Rattle.registers.specs.Table.Columns.{zipWith, asRegister, asPair, namesOf, tableOf, Names, RegistersInvariant}
+use Rattle.registers.specs.Table.Places.{orderOf, orderAt, registerPlace, nextRegisterPlace}
 use Rattle.registers.specs.Table.Moves.{inserted}
 use Rattle.registers.specs.Table.Answers.{SetTo, StepTo, turnedOf}
 
@@ -112,62 +112,62 @@ module _ {A : Type 0} where
 -- places
 
 -- a place, so many rows further down
-abbrev pub further : ℕ → Place → Place
+abbrev pub further : ℕ → RegisterPlace → RegisterPlace
 further i (At k) = At (i + k)
 further i (Not k) = Not (i + k)
 
-further-next : (i : ℕ) (p : Place) → further i (next p) ≡ further (i + 1) p
+further-next : (i : ℕ) (p : RegisterPlace) → further i (nextRegisterPlace p) ≡ further (i + 1) p
 further-next i (At k) = ap At (omega arith)
 further-next i (Not k) = ap Not (omega arith)
 
-pub further-0 : (p : Place) → further 0 p ≡ p
+pub further-0 : (p : RegisterPlace) → further 0 p ≡ p
 further-0 (At k) = ap At (omega arith)
 further-0 (Not k) = ap Not (omega arith)
 
 -- how the search goes on at a row, by its order
 module _ (n : Name) (l : List Name) (i : ℕ) (d : Name) (h : i < length l) where
-  pub place-earlier : rules.order n (getD l i d) ≡ earlier → further i (place n (drop i l)) ≡ Not i
-  unfolding place
-  place-earlier e = rw (drop-cons l i d, place, e) (ap Not (omega arith))
+  pub place-earlier : rules.order n (getD l i d) ≡ earlier → further i (registerPlace n (drop i l)) ≡ Not i
+  unfolding registerPlace
+  place-earlier e = rw (drop-cons l i d, registerPlace, e) (ap Not (omega arith))
 
-  pub place-same : rules.order n (getD l i d) ≡ same → further i (place n (drop i l)) ≡ At i
-  unfolding place
-  place-same e = rw (drop-cons l i d, place, e) (ap At (omega arith))
+  pub place-same : rules.order n (getD l i d) ≡ same → further i (registerPlace n (drop i l)) ≡ At i
+  unfolding registerPlace
+  place-same e = rw (drop-cons l i d, registerPlace, e) (ap At (omega arith))
 
-  pub place-later : rules.order n (getD l i d) ≡ later → further i (place n (drop i l)) ≡ further (i + 1) (place n (drop (i + 1) l))
-  unfolding place
-  place-later e = rw (drop-cons l i d, place, e) (further-next i (place n (drop (suc i) l)) ∙ ap (λ j. further (i + 1) (place n (drop j l))) (sym (add-one i)))
+  pub place-later : rules.order n (getD l i d) ≡ later → further i (registerPlace n (drop i l)) ≡ further (i + 1) (registerPlace n (drop (i + 1) l))
+  unfolding registerPlace
+  place-later e = rw (drop-cons l i d, registerPlace, e) (further-next i (registerPlace n (drop (suc i) l)) ∙ ap (λ j. further (i + 1) (registerPlace n (drop j l))) (sym (add-one i)))
 
-pub place-end : (n : Name) (l : List Name) (i : ℕ) → length l ≤ i → further i (place n (drop i l)) ≡ Not i
-unfolding place
+pub place-end : (n : Name) (l : List Name) (i : ℕ) → length l ≤ i → further i (registerPlace n (drop i l)) ≡ Not i
+unfolding registerPlace
 place-end n l i h = rw (drop-of-length-le l h) (ap Not (omega arith))
 
 -- a name that has a place stands there; one that has none belongs among the others or after them
-abbrev pub Stands : Name → List Name → Place → Type 0
+abbrev pub Stands : Name → List Name → RegisterPlace → Type 0
 Stands n l (At i) = (i < length l) × (getD l i (twoBytes 0 0) ≡ n)
 Stands n l (Not i) = i ≤ length l
 
-stands-next : (n m : Name) (l : List Name) (p : Place) → Stands n l p → Stands n (m ∷ l) (next p)
+stands-next : (n m : Name) (l : List Name) (p : RegisterPlace) → Stands n l p → Stands n (m ∷ l) (nextRegisterPlace p)
 stands-next n m l (At i) h = (omega arith, h .1)
 stands-next n m l (Not i) h = omega arith
 
-pub stands : (n : Name) (l : List Name) → Stands n l (place n l)
-unfolding place
+pub stands : (n : Name) (l : List Name) → Stands n l (registerPlace n l)
+unfolding registerPlace
 stands n [] = omega arith
-stands n (m ∷ l) = go (rules.order n m) (means n m) (stands-next n m l (place n l) (stands n l))
+stands n (m ∷ l) = go (rules.order n m) (means n m) (stands-next n m l (registerPlace n l) (stands n l))
   where
-    go : (o : rules.Order) → Means o n m → Stands n (m ∷ l) (next (place n l))
-        → Stands n (m ∷ l) (elim o [ earlier ↦ Not 0 | same ↦ At 0 | later ↦ next (place n l) ])
+    go : (o : rules.Order) → Means o n m → Stands n (m ∷ l) (nextRegisterPlace (registerPlace n l))
+        → Stands n (m ∷ l) (elim o [ earlier ↦ Not 0 | same ↦ At 0 | later ↦ nextRegisterPlace (registerPlace n l) ])
     go earlier h i = omega arith
     go same h i = (omega arith, sym h)
     go later h i = i
 
 -- the register in a row, if a name has a place
-abbrev pub rowOf : Place → List Register → Option Register
+abbrev pub rowOf : RegisterPlace → List Register → Option Register
 rowOf (At i) rs = some (getD rs i (register (twoBytes 0 0) (pos 0) (pos 0)))
 rowOf (Not i) rs = none
 
-row-next : (p : Place) (x : Register) (rs : List Register) → rowOf (next p) (x ∷ rs) ≡ rowOf p rs
+row-next : (p : RegisterPlace) (x : Register) (rs : List Register) → rowOf (nextRegisterPlace p) (x ∷ rs) ≡ rowOf p rs
 row-next (At i) x rs = refl
 row-next (Not i) x rs = refl
 
@@ -179,38 +179,38 @@ after-distinct n m b = go (sameName n m) refl
     go false e = refl
 
 -- in a table in order, a name is looked up at its place
-pub lookup-place : (n : Name) (rs : List Register) → Sorted rs → lookup n rs ≡ rowOf (place n (names rs)) rs
-unfolding lookup firstWhere place
+pub lookup-place : (n : Name) (rs : List Register) → Sorted rs → registerOf n rs ≡ rowOf (registerPlace n (names rs)) rs
+unfolding registerOf firstWhere registerPlace
 lookup-place n [] s = refl
 lookup-place n (x ∷ xs) s = go (rules.order n (x .name)) refl (means n (x .name)) (lookup-place n xs (s .1))
   where
-    go : (o : rules.Order) → rules.order n (x .name) ≡ o → Means o n (x .name) → lookup n xs ≡ rowOf (place n (names xs)) xs
-        → lookup n (x ∷ xs) ≡ rowOf (elim o [ earlier ↦ Not 0 | same ↦ At 0 | later ↦ next (place n (names xs)) ]) (x ∷ xs)
+    go : (o : rules.Order) → rules.order n (x .name) ≡ o → Means o n (x .name) → registerOf n xs ≡ rowOf (registerPlace n (names xs)) xs
+        → registerOf n (x ∷ xs) ≡ rowOf (elim o [ earlier ↦ Not 0 | same ↦ At 0 | later ↦ nextRegisterPlace (registerPlace n (names xs)) ]) (x ∷ xs)
     go earlier e h ih = not-found n (x ∷ xs) e s
-    go same e h ih = rw (lookup, firstWhere, subst (λ m. sameName n m ≡ true) h (same-self n))
-    go later e h ih = rw (lookup, firstWhere, after-distinct n (x .name) h) (ih ∙ sym (row-next (place n (names xs)) x xs))
+    go same e h ih = rw (registerOf, firstWhere, subst (λ m. sameName n m ≡ true) h (same-self n))
+    go later e h ih = rw (registerOf, firstWhere, after-distinct n (x .name) h) (ih ∙ sym (row-next (registerPlace n (names xs)) x xs))
 
 -- what is put in a row, or before it
-abbrev pub putAt : Place → Register → List Register → List Register
+abbrev pub putAt : RegisterPlace → Register → List Register → List Register
 putAt (At i) r rs = set rs i r
 putAt (Not i) r rs = take i rs ++ r ∷ drop i rs
 
-put-next : (p : Place) (r x : Register) (rs : List Register) → putAt (next p) r (x ∷ rs) ≡ x ∷ putAt p r rs
+put-next : (p : RegisterPlace) (r x : Register) (rs : List Register) → putAt (nextRegisterPlace p) r (x ∷ rs) ≡ x ∷ putAt p r rs
 put-next (At i) r x rs = refl
 put-next (Not i) r x rs = refl
 
 -- a register is put at the place of its name
-pub put-place : (r : Register) (rs : List Register) → put r rs ≡ putAt (place (r .name) (names rs)) r rs
-unfolding put place
+pub put-place : (r : Register) (rs : List Register) → put r rs ≡ putAt (registerPlace (r .name) (names rs)) r rs
+unfolding put registerPlace
 put-place r [] = refl
 put-place r (x ∷ xs) = go (rules.order (r .name) (x .name)) (put-place r xs)
   where
-    go : (o : rules.Order) → put r xs ≡ putAt (place (r .name) (names xs)) r xs
+    go : (o : rules.Order) → put r xs ≡ putAt (registerPlace (r .name) (names xs)) r xs
         → elim o [ earlier ↦ r ∷ x ∷ xs | same ↦ r ∷ xs | later ↦ x ∷ put r xs ]
-        ≡ putAt (elim o [ earlier ↦ Not 0 | same ↦ At 0 | later ↦ next (place (r .name) (names xs)) ]) r (x ∷ xs)
+        ≡ putAt (elim o [ earlier ↦ Not 0 | same ↦ At 0 | later ↦ nextRegisterPlace (registerPlace (r .name) (names xs)) ]) r (x ∷ xs)
     go earlier ih = refl
     go same ih = refl
-    go later ih = ap (λ l. x ∷ l) ih ∙ sym (put-next (place (r .name) (names xs)) r x xs)
+    go later ih = ap (λ l. x ∷ l) ih ∙ sym (put-next (registerPlace (r .name) (names xs)) r x xs)
 
 -- the names of a table are its column of names
 pub names-zip : (n : ℕ) (ns : List Name) (xs : List (ℤ × ℤ)) → length ns ≡ length xs → names (take n (zipWith asRegister ns xs)) ≡ take n ns
@@ -264,7 +264,7 @@ same-long : (fs ss : List ℕ) (vs ts : List ℤ) → Long fs ss vs ts → lengt
 same-long fs ss vs ts l = omega (arith, zip-length twoBytes fs ss (omega arith), zip-length asPair vs ts (omega arith))
 
 -- columns whose registers stand in order are a table
-table-of : (fs ss : List ℕ) (vs ts : List ℤ) (n : ℕ) → Long fs ss vs ts → n ≤ 64 → Sorted (tableOf fs ss vs ts n) → Table fs ss vs ts n
+table-of : (fs ss : List ℕ) (vs ts : List ℤ) (n : ℕ) → Long fs ss vs ts → n ≤ 64 → Sorted (tableOf fs ss vs ts n) → RegistersInvariant fs ss vs ts n
 table-of fs ss vs ts n l k o =
     record {
       names = record { firsts-long = l .0; seconds-long = l .1; few = k };
@@ -282,7 +282,7 @@ set-refused : (m : Name) (v s : ℤ) (rs : List Register) → 64 < length (put (
 unfolding setValue
 set-refused m v s rs k = rw (setValue, lt-leb (length (put (register m v s) rs)) 64 k)
 
-module _ (fs ss : List ℕ) (vs ts : List ℤ) (n : ℕ) (h : Table fs ss vs ts n) where
+module _ (fs ss : List ℕ) (vs ts : List ℤ) (n : ℕ) (h : RegistersInvariant fs ss vs ts n) where
   rows-same : length (zipWith twoBytes fs ss) ≡ length (zipWith asPair vs ts)
   rows-same = same-long fs ss vs ts (omega arith)
 
@@ -307,26 +307,26 @@ module _ (fs ss : List ℕ) (vs ts : List ℤ) (n : ℕ) (h : Table fs ss vs ts 
       ∙ rw (zip-at twoBytes fs ss i 0 0 (omega arith), zip-at asPair vs ts i (pos 0) (pos 0) (omega arith))
 
   module _ (m : Name) (i : ℕ) where
-    stands-at : place m (namesOf fs ss n) ≡ At i → (i < length (namesOf fs ss n)) × (getD (namesOf fs ss n) i (twoBytes 0 0) ≡ m)
+    stands-at : registerPlace m (namesOf fs ss n) ≡ At i → (i < length (namesOf fs ss n)) × (getD (namesOf fs ss n) i (twoBytes 0 0) ≡ m)
     stands-at e = subst (Stands m (namesOf fs ss n)) e (stands m (namesOf fs ss n))
 
     -- a name that is found stands in a row of the table, and its register is looked up there
-    pub found-row : place m (namesOf fs ss n) ≡ At i → i < n
+    pub found-row : registerPlace m (namesOf fs ss n) ≡ At i → i < n
     found-row e = omega (arith, stands-at e .0, namesOf-length fs ss n (h .names))
 
-    pub found-name : place m (namesOf fs ss n) ≡ At i → twoBytes (getD fs i 0) (getD ss i 0) ≡ m
+    pub found-name : registerPlace m (namesOf fs ss n) ≡ At i → twoBytes (getD fs i 0) (getD ss i 0) ≡ m
     found-name e = sym (namesOf-at fs ss n (h .names) i (found-row e)) ∙ stands-at e .1
 
-    pub found-lookup : place m (namesOf fs ss n) ≡ At i → lookup m (tableOf fs ss vs ts n) ≡ some (register m (getD vs i (pos 0)) (getD ts i (pos 0)))
+    pub found-lookup : registerPlace m (namesOf fs ss n) ≡ At i → registerOf m (tableOf fs ss vs ts n) ≡ some (register m (getD vs i (pos 0)) (getD ts i (pos 0)))
     found-lookup e =
         lookup-place m (tableOf fs ss vs ts n) table-sorted
         ∙ rw (table-names, e) (ap some (table-at i (found-row e) ∙ ap (λ x. register x (getD vs i (pos 0)) (getD ts i (pos 0))) (found-name e)))
 
     -- the register of a name that is not found is none
-    pub not-lookup : place m (namesOf fs ss n) ≡ Not i → lookup m (tableOf fs ss vs ts n) ≡ none
+    pub not-lookup : registerPlace m (namesOf fs ss n) ≡ Not i → registerOf m (tableOf fs ss vs ts n) ≡ none
     not-lookup e = lookup-place m (tableOf fs ss vs ts n) table-sorted ∙ rw (table-names, e)
 
-    pub not-row : place m (namesOf fs ss n) ≡ Not i → i ≤ n
+    pub not-row : registerPlace m (namesOf fs ss n) ≡ Not i → i ≤ n
     not-row e = omega (arith, subst (Stands m (namesOf fs ss n)) e (stands m (namesOf fs ss n)), namesOf-length fs ss n (h .names))
 
 -- a reference to a name that is not predefined, by its turn
@@ -353,19 +353,19 @@ refer-none Down rs shown = refl
 
 -- the ways to set a register, and to refer to one
 
-module _ (fs ss : List ℕ) (vs ts : List ℤ) (n : ℕ) (h : Table fs ss vs ts n) (m : Name) (i : ℕ) where
-  set-row : (v s : ℤ) → place m (namesOf fs ss n) ≡ At i → put (register m v s) (tableOf fs ss vs ts n) ≡ tableOf fs ss (set vs i v) (set ts i s) n
+module _ (fs ss : List ℕ) (vs ts : List ℤ) (n : ℕ) (h : RegistersInvariant fs ss vs ts n) (m : Name) (i : ℕ) where
+  set-row : (v s : ℤ) → registerPlace m (namesOf fs ss n) ≡ At i → put (register m v s) (tableOf fs ss vs ts n) ≡ tableOf fs ss (set vs i v) (set ts i s) n
   set-row v s e =
       put-place (register m v s) (tableOf fs ss vs ts n) ∙ rw (table-names fs ss vs ts n h, e)
       (sym (rw (set-getD fs i 0, set-getD ss i 0, found-name fs ss vs ts n h m i e)
       at (table-set fs ss vs ts n i (getD fs i 0) (getD ss i 0) v s (found-row fs ss vs ts n h m i e))))
 
-  set-table : (v s : ℤ) → Table fs ss (set vs i v) (set ts i s) n
+  set-table : (v s : ℤ) → RegistersInvariant fs ss (set vs i v) (set ts i s) n
   set-table v s =
       record { names = h .names; values-long = length-set vs i v ∙ h .values-long; steps-long = length-set ts i s ∙ h .steps-long; sorted = h .sorted }
 
   -- a register of the name is replaced
-  pub set-old : (v s : ℤ) → place m (namesOf fs ss n) ≡ At i → SetTo fs ss vs ts n m v s (Set n) fs ss (set vs i v) (set ts i s)
+  pub set-old : (v s : ℤ) → registerPlace m (namesOf fs ss n) ≡ At i → SetTo fs ss vs ts n m v s (Set n) fs ss (set vs i v) (set ts i s)
   set-old v s e =
       record {
         is = set-judged m v s (tableOf fs ss vs ts n) (tableOf fs ss (set vs i v) (set ts i s) n) (set-row v s e)
@@ -375,7 +375,7 @@ module _ (fs ss : List ℕ) (vs ts : List ℤ) (n : ℕ) (h : Table fs ss vs ts 
       }
 
   -- a new one is put in its place
-  pub set-new : (v s : ℤ) → place m (namesOf fs ss n) ≡ Not i → n < 64
+  pub set-new : (v s : ℤ) → registerPlace m (namesOf fs ss n) ≡ Not i → n < 64
       → SetTo fs ss vs ts n m v s (Set (n + 1)) (inserted fs i (n - i) (m .first)) (inserted ss i (n - i) (m .second)) (inserted vs i (n - i) v) (inserted ts i (n - i) s)
   set-new v s e k =
       let fs' = inserted fs i (n - i) (m .first) in let ss' = inserted ss i (n - i) (m .second) in
@@ -383,7 +383,7 @@ module _ (fs ss : List ℕ) (vs ts : List ℤ) (n : ℕ) (h : Table fs ss vs ts 
       let same : put (register m v s) old ≡ tableOf fs' ss' vs' ts' (n + 1) =
       put-place (register m v s) old ∙ rw (table-names fs ss vs ts n h, e)
       (sym (table-inserted fs ss vs ts n i (m .first) (m .second) v s (not-row fs ss vs ts n h m i e) (omega (arith, rows-long fs ss vs ts n h)))) in
-      let t : Table fs' ss' vs' ts' (n + 1) =
+      let t : RegistersInvariant fs' ss' vs' ts' (n + 1) =
       table-of fs' ss' vs' ts' (n + 1) (
         insert-length fs i (n - i) (m .first) ∙ h .names .firsts-long,
         insert-length ss i (n - i) (m .second) ∙ h .names .seconds-long,
@@ -398,7 +398,7 @@ module _ (fs ss : List ℕ) (vs ts : List ℤ) (n : ℕ) (h : Table fs ss vs ts 
       }
 
   -- "11: a 65th register"
-  pub set-full : (v s : ℤ) → place m (namesOf fs ss n) ≡ Not i → 64 ≤ n → SetTo fs ss vs ts n m v s Full fs ss vs ts
+  pub set-full : (v s : ℤ) → registerPlace m (namesOf fs ss n) ≡ Not i → 64 ≤ n → SetTo fs ss vs ts n m v s Full fs ss vs ts
   set-full v s e k =
       record {
         is = set-refused m v s (tableOf fs ss vs ts n)
@@ -407,14 +407,14 @@ module _ (fs ss : List ℕ) (vs ts : List ℤ) (n : ℕ) (h : Table fs ss vs ts 
         kept = (refl, refl, refl, refl);
       }
 
-  step-row : (v : ℤ) → place m (namesOf fs ss n) ≡ At i → put (register m v (getD ts i (pos 0))) (tableOf fs ss vs ts n) ≡ tableOf fs ss (set vs i v) ts n
+  step-row : (v : ℤ) → registerPlace m (namesOf fs ss n) ≡ At i → put (register m v (getD ts i (pos 0))) (tableOf fs ss vs ts n) ≡ tableOf fs ss (set vs i v) ts n
   step-row v e = rw (set-getD ts i (pos 0)) at (set-row v (getD ts i (pos 0)) e)
 
-  step-table : (v : ℤ) → Table fs ss (set vs i v) ts n
+  step-table : (v : ℤ) → RegistersInvariant fs ss (set vs i v) ts n
   step-table v = record { names = h .names; values-long = length-set vs i v ∙ h .values-long; steps-long = h .steps-long; sorted = h .sorted }
 
   -- a register that is there steps to its new value, if it has one
-  pub step-is : (t : Turn) (v : ℤ) → place m (namesOf fs ss n) ≡ At i → value v ≡ turnedOf t (getD vs i (pos 0)) (getD ts i (pos 0))
+  pub step-is : (t : Turn) (v : ℤ) → registerPlace m (namesOf fs ss n) ≡ At i → value v ≡ turnedOf t (getD vs i (pos 0)) (getD ts i (pos 0))
       → StepTo fs ss vs ts n t m (Is v) (set vs i v)
   step-is t v e q =
       record {
@@ -426,7 +426,7 @@ module _ (fs ss : List ℕ) (vs ts : List ℤ) (n : ℕ) (h : Table fs ss vs ts 
       }
 
   -- "6: .. step .. outside ±1,000,000,000"
-  pub step-bad : (t : Turn) → place m (namesOf fs ss n) ≡ At i → bad 6 ≡ turnedOf t (getD vs i (pos 0)) (getD ts i (pos 0)) → StepTo fs ss vs ts n t m Bad vs
+  pub step-bad : (t : Turn) → registerPlace m (namesOf fs ss n) ≡ At i → bad 6 ≡ turnedOf t (getD vs i (pos 0)) (getD ts i (pos 0)) → StepTo fs ss vs ts n t m Bad vs
   step-bad t e q =
       record {
         is = λ shown. rw (found-lookup fs ss vs ts n h m i e) (refer-bad t m (getD vs i (pos 0)) (getD ts i (pos 0)) (tableOf fs ss vs ts n) shown q);
@@ -435,5 +435,5 @@ module _ (fs ss : List ℕ) (vs ts : List ℤ) (n : ℕ) (h : Table fs ss vs ts 
       }
 
   -- "Undefined ones give 0 .., and a step does not make one"
-  pub step-none : (t : Turn) → place m (namesOf fs ss n) ≡ Not i → StepTo fs ss vs ts n t m (Is (pos 0)) vs
+  pub step-none : (t : Turn) → registerPlace m (namesOf fs ss n) ≡ Not i → StepTo fs ss vs ts n t m (Is (pos 0)) vs
   step-none t e = record { is = λ shown. rw (not-lookup fs ss vs ts n h m i e) (refer-none t (tableOf fs ss vs ts n) shown); table = h; kept = tt }

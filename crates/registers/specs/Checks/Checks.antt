@@ -12,7 +12,7 @@ use Rattle.rules.specs.declared.Name.{Name}
 use Rattle.rules.specs.Names.{Order, earlier, same, later, order, twoBytes}
 use Rattle.rules.specs.Laws.Refusals.{both}
 use Rattle.rules.specs.Laws.Registers.{Ahead, Ordered, BoundedTable}
-use Rattle.registers.specs.Table.Columns.{zipWith, asPair, asRegister, namesOf, tableOf, Table}
+use Rattle.registers.specs.Table.Columns.{zipWith, asPair, asRegister, namesOf, tableOf, RegistersInvariant}
 
 -- the columns of names have all their rows
 pub record NameColumns (firsts seconds : List ℕ) : Type 0 where
@@ -40,8 +40,8 @@ inOrder [] = true
 inOrder (n ∷ l) = isAhead n l && inOrder l
 
 -- "The registers stand in name order", at most 64
-abbrev pub isTable : (firsts seconds : List ℕ) → (count : ℕ) → Bool
-isTable fs ss n = leb n 64 && inOrder (namesOf fs ss n)
+abbrev pub isRegisterTable : (firsts seconds : List ℕ) → (count : ℕ) → Bool
+isRegisterTable fs ss n = leb n 64 && inOrder (namesOf fs ss n)
 
 -- both parts of a test hold
 and-true : (a b : Bool) → a ≡ true → b ≡ true → (a && b) ≡ true
@@ -74,8 +74,8 @@ order-complete (n ∷ l) h = and-true (isAhead n l) (inOrder l) (ahead-complete 
 
 module _ (fs ss : List ℕ) (vs ts : List ℤ) (n : ℕ) where
   -- Columns that pass the test are a table.
-  pub table-sound : NameColumns fs ss → NumberColumns vs ts → isTable fs ss n ≡ true → Table fs ss vs ts n
-  table-sound a b h =
+  pub registers-sound : NameColumns fs ss → NumberColumns vs ts → isRegisterTable fs ss n ≡ true → RegistersInvariant fs ss vs ts n
+  registers-sound a b h =
       let t = both (leb n 64) (inOrder (namesOf fs ss n)) h in
       record {
         names = record { firsts-long = a .firsts-long; seconds-long = a .seconds-long; few = leb-true n 64 (t .0) };
@@ -85,17 +85,17 @@ module _ (fs ss : List ℕ) (vs ts : List ℤ) (n : ℕ) where
       }
 
   -- A table passes it.
-  pub table-complete : Table fs ss vs ts n → isTable fs ss n ≡ true
-  table-complete t = and-true (leb n 64) (inOrder (namesOf fs ss n)) (le-leb n 64 (t .names .few)) (order-complete (namesOf fs ss n) (t .sorted))
+  pub registers-complete : RegistersInvariant fs ss vs ts n → isRegisterTable fs ss n ≡ true
+  registers-complete t = and-true (leb n 64) (inOrder (namesOf fs ss n)) (le-leb n 64 (t .names .few)) (order-complete (namesOf fs ss n) (t .sorted))
 
 -- whether a number is within ±1,000,000,000
-abbrev pub isWithin : ℤ → Bool
-isWithin z = leb (natAbs z) 1000000000
+abbrev pub inBounds : ℤ → Bool
+inBounds z = leb (natAbs z) 1000000000
 
 -- whether each value and each step is
 unfoldable pub allWithin : List (ℤ × ℤ) → Bool
 allWithin [] = true
-allWithin (x ∷ l) = isWithin (x .0) && isWithin (x .1) && allWithin l
+allWithin (x ∷ l) = inBounds (x .0) && inBounds (x .1) && allWithin l
 
 -- the first rows of two columns of at most 64 rows hold numbers within ±1,000,000,000
 abbrev pub isBounded : (values steps : List ℤ) → (count : ℕ) → Bool
@@ -107,8 +107,8 @@ within-sound zero ns xs h = tt
 within-sound (suc n) [] xs h = tt
 within-sound (suc n) (m ∷ ns) [] h = tt
 within-sound (suc n) (m ∷ ns) (x ∷ xs) h =
-    let b = both (isWithin (x .0) && isWithin (x .1)) (allWithin (take n xs)) h in
-    let c = both (isWithin (x .0)) (isWithin (x .1)) (b .0) in
+    let b = both (inBounds (x .0) && inBounds (x .1)) (allWithin (take n xs)) h in
+    let c = both (inBounds (x .0)) (inBounds (x .1)) (b .0) in
     ((leb-true (natAbs (x .0)) 1000000000 (c .0), leb-true (natAbs (x .1)) 1000000000 (c .1)), within-sound n ns xs (b .1))
 
 within-complete : (n : ℕ) (ns : List Name) (xs : List (ℤ × ℤ)) → length ns ≡ length xs → BoundedTable (take n (zipWith asRegister ns xs)) → allWithin (take n xs) ≡ true
@@ -117,8 +117,8 @@ within-complete zero ns xs e h = refl
 within-complete (suc n) ns [] e h = refl
 within-complete (suc n) [] (x ∷ xs) e h = absurd (omega arith)
 within-complete (suc n) (m ∷ ns) (x ∷ xs) e h =
-    and-true (isWithin (x .0) && isWithin (x .1)) (allWithin (take n xs))
-    (and-true (isWithin (x .0)) (isWithin (x .1)) (le-leb (natAbs (x .0)) 1000000000 (h .0 .0)) (le-leb (natAbs (x .1)) 1000000000 (h .0 .1)))
+    and-true (inBounds (x .0) && inBounds (x .1)) (allWithin (take n xs))
+    (and-true (inBounds (x .0)) (inBounds (x .1)) (le-leb (natAbs (x .0)) 1000000000 (h .0 .0)) (le-leb (natAbs (x .1)) 1000000000 (h .0 .1)))
     (within-complete n ns xs (omega arith) (h .1))
 
 zip-long : {A B C : Type 0} (f : A → B → C) (xs : List A) (ys : List B) → length xs ≡ length ys → length (zipWith f xs ys) ≡ length xs
@@ -133,7 +133,7 @@ module _ (fs ss : List ℕ) (vs ts : List ℤ) (n : ℕ) where
   bounded-sound h = within-sound n (zipWith twoBytes fs ss) (zipWith asPair vs ts) (both (leb n 64) (allWithin (take n (zipWith asPair vs ts))) h .1)
 
   -- The columns of a table whose registers are within their bounds pass it.
-  pub bounded-complete : Table fs ss vs ts n → BoundedTable (tableOf fs ss vs ts n) → isBounded vs ts n ≡ true
+  pub bounded-complete : RegistersInvariant fs ss vs ts n → BoundedTable (tableOf fs ss vs ts n) → isBounded vs ts n ≡ true
   bounded-complete t b =
       and-true (leb n 64) (allWithin (take n (zipWith asPair vs ts))) (le-leb n 64 (t .names .few))
       (within-complete n (zipWith twoBytes fs ss) (zipWith asPair vs ts) (omega (arith, zip-long twoBytes fs ss (omega arith), zip-long asPair vs ts (omega arith))) b)

@@ -16,20 +16,20 @@ use Rattle.registers.specs.declared.interpolation.Shows.{Shows}
 use Rattle.registers.specs.declared.interpolation.Shows.the-variants.{Value, Nothing}
 use Rattle.registers.specs.declared.interpolation.Referred.{Referred}
 use Rattle.registers.specs.declared.interpolation.Referred.the-variants.{Is, Bad, ReadOnly}
-use Rattle.registers.specs.Table.Columns.{tableOf, Table}
+use Rattle.registers.specs.Table.Columns.{tableOf, RegistersInvariant}
 
 -- what a read-only register shows, for the answer that names it
 abbrev pub readOnlyOf : Which → Option (Seen → ℤ)
 readOnlyOf Page = some (λ s. s .page)
 readOnlyOf Rows = some (λ s. s .rows)
-readOnlyOf Length = some (λ s. s .length)
+readOnlyOf Length = some (λ s. s .lineLength)
 readOnlyOf Indent = some (λ s. s .indent)
 readOnlyOf PageLength = some (λ s. s .pageLength)
 readOnlyOf Other = none
 
 -- the values in force
 abbrev pub seenOf : Shown → Seen
-seenOf s = record { page = s .page; rows = s .rows; length = s .length; indent = s .indent; pageLength = s .«page_length» }
+seenOf s = record { page = s .page; rows = s .rows; lineLength = s .length; indent = s .indent; pageLength = s .«page_length» }
 
 abbrev pub valueShown : Option (Seen → ℤ) → Seen → Option ℤ
 valueShown none s = none
@@ -46,13 +46,13 @@ referredOf Bad table = bad 6
 referredOf ReadOnly table = bad 7
 
 -- the column is as it was, if the reference was refused
-abbrev pub KeptRefused : Referred → (vs vs' : List ℤ) → Type 0
-KeptRefused (Is v) vs vs' = Unit
-KeptRefused Bad vs vs' = vs' ≡ vs
-KeptRefused ReadOnly vs vs' = vs' ≡ vs
+abbrev pub ValuesKeptRefused : Referred → (vs vs' : List ℤ) → Type 0
+ValuesKeptRefused (Is v) vs vs' = Unit
+ValuesKeptRefused Bad vs vs' = vs' ≡ vs
+ValuesKeptRefused ReadOnly vs vs' = vs' ≡ vs
 
 -- a reference is made as the rules say, the table stays one, and nothing changes where it is refused
 pub record ReferTo (fs ss : List ℕ) (vs ts : List ℤ) (count : ℕ) (shown : Shown) (turn : Turn) (name : Name) (r : Referred) (vs' : List ℤ) : Type 0 where
   pub is : referredOf r (tableOf fs ss vs' ts count) ≡ stepRegister (seenOf shown) turn name (tableOf fs ss vs ts count)
-  pub table : Table fs ss vs' ts count
-  pub kept : KeptRefused r vs vs'
+  pub table : RegistersInvariant fs ss vs' ts count
+  pub kept : ValuesKeptRefused r vs vs'

@@ -10,44 +10,44 @@ use Rattle.rules.specs.declared.Turn.{Turn}
 use Rattle.rules.specs.declared.Turn.the-variants.{Still, Up, Down}
 use Rattle.rules.specs.Refusals.{Judged, value, bad}
 use Rattle.rules.specs.Numbers.{within}
-use Rattle.rules.specs.Registers.{lookup, setValue, Seen, Reference, referBy}
-use Rattle.registers.specs.declared.table.Found.{Found}
-use Rattle.registers.specs.declared.table.Found.the-variants.{There, Nothing}
-use Rattle.registers.specs.declared.table.Stored.{Stored}
-use Rattle.registers.specs.declared.table.Stored.the-variants.{Set, Full}
+use Rattle.rules.specs.Registers.{registerOf, setValue, Seen, Reference, referBy}
+use Rattle.registers.specs.declared.table.FoundRegister.{FoundRegister}
+use Rattle.registers.specs.declared.table.FoundRegister.the-variants.{There, Nothing}
+use Rattle.registers.specs.declared.table.RegisterCount.{RegisterCount}
+use Rattle.registers.specs.declared.table.RegisterCount.the-variants.{Set, Full}
 use Rattle.registers.specs.declared.table.Stepped.{Stepped}
 use Rattle.registers.specs.declared.table.Stepped.the-variants.{Is, Bad}
-use Rattle.registers.specs.Table.Columns.{tableOf, Table}
+use Rattle.registers.specs.Table.Columns.{tableOf, RegistersInvariant}
 
-abbrev pub foundOf : Found → Option Register
-foundOf (There r) = some r
-foundOf Nothing = none
+abbrev pub registerFound : FoundRegister → Option Register
+registerFound (There r) = some r
+registerFound Nothing = none
 
 -- "11: a 65th register"
-abbrev pub storedOf : Stored → (ℕ → List Register) → Judged (List Register)
-storedOf (Set n) table = value (table n)
-storedOf Full table = bad 11
+abbrev pub registersStored : RegisterCount → (ℕ → List Register) → Judged (List Register)
+registersStored (Set n) table = value (table n)
+registersStored Full table = bad 11
 
 -- how many there are then, of so many before
-abbrev pub countOf : Stored → ℕ → ℕ
-countOf (Set n) count = n
-countOf Full count = count
+abbrev pub registerCountAfter : RegisterCount → ℕ → ℕ
+registerCountAfter (Set n) count = n
+registerCountAfter Full count = count
 
 -- the columns are as they were, if there was no place
-abbrev pub KeptFull : Stored → (fs ss : List ℕ) → (vs ts : List ℤ) → (fs' ss' : List ℕ) → (vs' ts' : List ℤ) → Type 0
-KeptFull (Set n) fs ss vs ts fs' ss' vs' ts' = Unit
-KeptFull Full fs ss vs ts fs' ss' vs' ts' = (fs' ≡ fs) × (ss' ≡ ss) × (vs' ≡ vs) × (ts' ≡ ts)
+abbrev pub RegistersKeptFull : RegisterCount → (fs ss : List ℕ) → (vs ts : List ℤ) → (fs' ss' : List ℕ) → (vs' ts' : List ℤ) → Type 0
+RegistersKeptFull (Set n) fs ss vs ts fs' ss' vs' ts' = Unit
+RegistersKeptFull Full fs ss vs ts fs' ss' vs' ts' = (fs' ≡ fs) × (ss' ≡ ss) × (vs' ≡ vs) × (ts' ≡ ts)
 
 -- a register is set as the rules say, the table stays one, and nothing changes where there is no place
-pub record SetTo (fs ss : List ℕ) (vs ts : List ℤ) (count : ℕ) (name : Name) (v s : ℤ) (r : Stored) (fs' ss' : List ℕ) (vs' ts' : List ℤ) : Type 0 where
-  pub is : storedOf r (tableOf fs' ss' vs' ts') ≡ setValue name v s (tableOf fs ss vs ts count)
-  pub table : Table fs' ss' vs' ts' (countOf r count)
-  pub kept : KeptFull r fs ss vs ts fs' ss' vs' ts'
+pub record SetTo (fs ss : List ℕ) (vs ts : List ℤ) (count : ℕ) (name : Name) (v s : ℤ) (r : RegisterCount) (fs' ss' : List ℕ) (vs' ts' : List ℤ) : Type 0 where
+  pub is : registersStored r (tableOf fs' ss' vs' ts') ≡ setValue name v s (tableOf fs ss vs ts count)
+  pub table : RegistersInvariant fs' ss' vs' ts' (registerCountAfter r count)
+  pub kept : RegistersKeptFull r fs ss vs ts fs' ss' vs' ts'
 
 -- "6: .. step .. outside ±1,000,000,000"
-abbrev pub numberOf : Stepped → Judged ℤ
-numberOf (Is v) = value v
-numberOf Bad = bad 6
+abbrev pub steppedNumber : Stepped → Judged ℤ
+steppedNumber (Is v) = value v
+steppedNumber Bad = bad 6
 
 -- the value to which a register turns, as `referBy` has it
 abbrev pub turnedOf : Turn → (value step : ℤ) → Judged ℤ
@@ -67,6 +67,6 @@ KeptBad Bad vs vs' = vs' ≡ vs
 
 -- a reference is made as the rules say of a name that is not predefined, the table stays one, and nothing changes where it is refused
 pub record StepTo (fs ss : List ℕ) (vs ts : List ℤ) (count : ℕ) (turn : Turn) (name : Name) (r : Stepped) (vs' : List ℤ) : Type 0 where
-  pub is : (shown : Seen) → referenceOf r (tableOf fs ss vs' ts count) ≡ referBy turn none (lookup name (tableOf fs ss vs ts count)) shown (tableOf fs ss vs ts count)
-  pub table : Table fs ss vs' ts count
+  pub is : (shown : Seen) → referenceOf r (tableOf fs ss vs' ts count) ≡ referBy turn none (registerOf name (tableOf fs ss vs ts count)) shown (tableOf fs ss vs ts count)
+  pub table : RegistersInvariant fs ss vs' ts count
   pub kept : KeptBad r vs vs'

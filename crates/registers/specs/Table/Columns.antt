@@ -23,7 +23,7 @@ abbrev pub tableOf : (firsts seconds : List ℕ) → (values steps : List ℤ) �
 tableOf fs ss vs ts n = take n (zipWith asRegister (zipWith twoBytes fs ss) (zipWith asPair vs ts))
 
 -- "The registers stand in name order", in columns of 64 rows
-pub record Table (firsts seconds : List ℕ) (values steps : List ℤ) (count : ℕ) : Type 0 where
+pub record RegistersInvariant (firsts seconds : List ℕ) (values steps : List ℤ) (count : ℕ) : Type 0 where
   pub names : Names firsts seconds count
   pub values-long : length values ≡ 64
   pub steps-long : length steps ≡ 64

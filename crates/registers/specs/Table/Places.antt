@@ -7,8 +7,8 @@ use Rattle.rules.specs.Names as rules
 use Rattle.rules.specs.Names.{twoBytes, earlier, same, later}
 use Rattle.registers.specs.declared.table.Order.{Order}
 use Rattle.registers.specs.declared.table.Order.the-variants.{Earlier, Same, Later}
-use Rattle.registers.specs.declared.table.Place.{Place}
-use Rattle.registers.specs.declared.table.Place.the-variants.{At, Not}
+use Rattle.registers.specs.declared.table.RegisterPlace.{RegisterPlace}
+use Rattle.registers.specs.declared.table.RegisterPlace.the-variants.{At, Not}
 
 -- the rules' order that an answer stands for
 abbrev pub orderOf : Order → rules.Order
@@ -21,11 +21,11 @@ abbrev pub orderAt : (firsts seconds : List ℕ) → ℕ → Name → rules.Orde
 orderAt fs ss i n = rules.order n (twoBytes (getD fs i 0) (getD ss i 0))
 
 -- a place, one row further down
-abbrev pub next : Place → Place
-next (At i) = At (suc i)
-next (Not i) = Not (suc i)
+abbrev pub nextRegisterPlace : RegisterPlace → RegisterPlace
+nextRegisterPlace (At i) = At (suc i)
+nextRegisterPlace (Not i) = Not (suc i)
 
 -- the place of a name among names, or where it belongs: before the first that it stands before
-unfoldable pub place : Name → List Name → Place
-place n [] = Not 0
-place n (m ∷ l) = elim (rules.order n m) [ earlier ↦ Not 0 | same ↦ At 0 | later ↦ next (place n l) ]
+unfoldable pub registerPlace : Name → List Name → RegisterPlace
+registerPlace n [] = Not 0
+registerPlace n (m ∷ l) = elim (rules.order n m) [ earlier ↦ Not 0 | same ↦ At 0 | later ↦ nextRegisterPlace (registerPlace n l) ]

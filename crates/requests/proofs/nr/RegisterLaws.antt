@@ -17,20 +17,20 @@ use Rattle.rules.specs.Names.{Named, one, nameOf}
 use Rattle.rules.specs.Names as names
 use Rattle.rules.specs.Refusals.{Judged, value, bad, _>>=_}
 use Rattle.rules.specs.Numbers.{units, signed}
-use Rattle.rules.specs.Registers.{lookup, predefined, valueOr0, stepOr0, setValue}
+use Rattle.rules.specs.Registers.{registerOf, predefined, valueOr0, stepOr0, setValue}
 use Rattle.rules.specs.State.{State}
 use Rattle.rules.specs.StateSetters.{withRegisters}
 use Rattle.rules.specs.Acts.{onName, newValue, newStep, writeIf, writeRegister}
-use Rattle.registers.specs.declared.table.Stored.{Stored}
-use Rattle.registers.specs.declared.table.Stored.the-variants.{Set, Full}
-use Rattle.registers.specs.Table.Columns.{tableOf, Table}
-use Rattle.registers.specs.Table.Answers.{SetTo, storedOf}
+use Rattle.registers.specs.declared.table.RegisterCount.{RegisterCount}
+use Rattle.registers.specs.declared.table.RegisterCount.the-variants.{Set, Full}
+use Rattle.registers.specs.Table.Columns.{tableOf, RegistersInvariant}
+use Rattle.registers.specs.Table.Answers.{SetTo, registersStored}
 use Rattle.settings.specs.declared.layout.Printer.{Printer}
 use Rattle.settings.specs.Layout.Layouts.{printerOf}
 use Rattle.requests.specs.declared.nr.Numbers.{Numbers}
 use Rattle.requests.specs.declared.nr.Assigned.{Assigned}
 use Rattle.requests.specs.declared.nr.Assigned.the-variants.{Count, Refused}
-use Rattle.requests.specs.Nr.Registers.{NumbersOf, valueBy, numbersBy, AssignsAs, writes, assigns}
+use Rattle.requests.specs.Nr.Registers.{NumbersOf, valueBy, numbersBy, AssignRefines, assignsTo, assigns}
 
 -- the sum of two i32 fits an i64
 pub sum-fits : (a b : ℤ) → SFits w32 a → SFits w32 b → SFits w64 (a +ℤ b)
@@ -65,34 +65,34 @@ module _ (p : printers.Printer) (v l : List ℕ) (old s : ℤ) where
   pub new-bad : bad 6 ≡ valueBy p v old → bad 6 ≡ numbersBy p v l old s
   new-bad e = ap (λ (k : Judged ℤ). k >>= λ t. newStep p l s >>= λ u. value (t, u)) e
 
-module _ (fs ss : List ℕ) (vs ts : List ℤ) (c : ℕ) (t : Table fs ss vs ts c) where
+module _ (fs ss : List ℕ) (vs ts : List ℤ) (c : ℕ) (t : RegistersInvariant fs ss vs ts c) where
   -- nothing is done, or refused
   pub same : (act : State → Judged State) → ((x : State) → value (withRegisters (tableOf fs ss vs ts c) x) ≡ act (withRegisters (tableOf fs ss vs ts c) x))
-      → AssignsAs fs ss vs ts c act (Count c) fs ss vs ts
+      → AssignRefines fs ss vs ts c act (Count c) fs ss vs ts
   same act h = record { is = h; table = t; kept = tt }
 
   pub refuses : (act : State → Judged State) (k : ℕ) → ((x : State) → bad k ≡ act (withRegisters (tableOf fs ss vs ts c) x))
-      → AssignsAs fs ss vs ts c act (Refused k) fs ss vs ts
+      → AssignRefines fs ss vs ts c act (Refused k) fs ss vs ts
   refuses act k h = record { is = h; table = t; kept = (refl, refl, refl, refl) }
 
 -- nr of a name
 module _ (q : Printer) (v l : List ℕ) (n : Name) where
-  pub no-value : length v ≡ 0 → (s : State) → value s ≡ writes q v l n s
+  pub no-value : length v ≡ 0 → (s : State) → value s ≡ assignsTo q v l n s
   no-value h s = go v h
     where
-      go : (u : List ℕ) → length u ≡ 0 → value s ≡ writes q u l n s
+      go : (u : List ℕ) → length u ≡ 0 → value s ≡ assignsTo q u l n s
       go [] k = refl
       go (b ∷ u) k = absurd (omega arith)
 
   -- with a value
-  written : 0 < length v → (s : State) → writeIf (printerOf q) (predefined n) v l s n ≡ writes q v l n s
+  written : 0 < length v → (s : State) → writeIf (printerOf q) (predefined n) v l s n ≡ assignsTo q v l n s
   written h s = go v h
     where
-      go : (u : List ℕ) → 0 < length u → writeIf (printerOf q) (predefined n) u l s n ≡ writes q u l n s
+      go : (u : List ℕ) → 0 < length u → writeIf (printerOf q) (predefined n) u l s n ≡ assignsTo q u l n s
       go [] k = absurd (omega arith)
       go (b ∷ u) k = refl
 
-  pub read-only : 0 < length v → true ≡ predefined n → (s : State) → bad 7 ≡ writes q v l n s
+  pub read-only : 0 < length v → true ≡ predefined n → (s : State) → bad 7 ≡ assignsTo q v l n s
   read-only h e s = ap (λ (b : Bool). writeIf (printerOf q) b v l s n) e ∙ written h s
 
   module _ (h : 0 < length v) (e : false ≡ predefined n) (o : Numbers) where
@@ -117,46 +117,46 @@ module _ (q : Printer) (v l : List ℕ) (n : Name) where
         go (bad k) = refl
         go (value y) = then y (newStep (printerOf q) l step)
 
-    by-numbers : (s : State) → NumbersOf (lookup n (s .tables .registers)) o
-        → numbersBy (printerOf q) v l (o .value) (o .step) >>= onward s ≡ writes q v l n s
+    by-numbers : (s : State) → NumbersOf (registerOf n (s .tables .registers)) o
+        → numbersBy (printerOf q) v l (o .value) (o .step) >>= onward s ≡ assignsTo q v l n s
     by-numbers s f =
         ap (λ (a : ℤ). numbersBy (printerOf q) v l a (o .step) >>= onward s) (f .value)
-        ∙ ap (λ (b : ℤ). numbersBy (printerOf q) v l (valueOr0 (lookup n (s .tables .registers))) b >>= onward s) (f .step)
-        ∙ parted (units (printerOf q .pitch) v) (valueOr0 (lookup n (s .tables .registers))) (stepOr0 (lookup n (s .tables .registers))) s
+        ∙ ap (λ (b : ℤ). numbersBy (printerOf q) v l (valueOr0 (registerOf n (s .tables .registers))) b >>= onward s) (f .step)
+        ∙ parted (units (printerOf q .pitch) v) (valueOr0 (registerOf n (s .tables .registers))) (stepOr0 (registerOf n (s .tables .registers))) s
         ∙ ap (λ (b : Bool). writeIf (printerOf q) b v l s n) e
         ∙ written h s
 
-    module _ (fs ss : List ℕ) (vs ts : List ℤ) (c : ℕ) (t : Table fs ss vs ts c) (f : NumbersOf (lookup n (tableOf fs ss vs ts c)) o) where
-      pub malformed : bad 6 ≡ numbersBy (printerOf q) v l (o .value) (o .step) → AssignsAs fs ss vs ts c (writes q v l n) (Refused 6) fs ss vs ts
+    module _ (fs ss : List ℕ) (vs ts : List ℤ) (c : ℕ) (t : RegistersInvariant fs ss vs ts c) (f : NumbersOf (registerOf n (tableOf fs ss vs ts c)) o) where
+      pub malformed : bad 6 ≡ numbersBy (printerOf q) v l (o .value) (o .step) → AssignRefines fs ss vs ts c (assignsTo q v l n) (Refused 6) fs ss vs ts
       malformed g =
-          refuses fs ss vs ts c t (writes q v l n) 6
+          refuses fs ss vs ts c t (assignsTo q v l n) 6
           (λ x. let s = withRegisters (tableOf fs ss vs ts c) x in ap (λ (j : Judged (ℤ × ℤ)). j >>= onward s) g ∙ by-numbers s f)
 
       module _ (y z : ℤ) (g : value (y, z) ≡ numbersBy (printerOf q) v l (o .value) (o .step)) (fs' ss' : List ℕ) (vs' ts' : List ℤ) where
-        set-is : (r : Stored) → SetTo fs ss vs ts c n y z r fs' ss' vs' ts' → (x : State)
-            → (storedOf r (tableOf fs' ss' vs' ts') >>= λ rs. value (withRegisters rs x)) ≡ writes q v l n (withRegisters (tableOf fs ss vs ts c) x)
+        set-is : (r : RegisterCount) → SetTo fs ss vs ts c n y z r fs' ss' vs' ts' → (x : State)
+            → (registersStored r (tableOf fs' ss' vs' ts') >>= λ rs. value (withRegisters rs x)) ≡ assignsTo q v l n (withRegisters (tableOf fs ss vs ts c) x)
         set-is r k x =
             let s = withRegisters (tableOf fs ss vs ts c) x in
             ap (λ (j : Judged (List Register)). j >>= λ rs. value (withRegisters rs x)) (k .is)
             ∙ ap (λ (j : Judged (ℤ × ℤ)). j >>= onward s) g ∙ by-numbers s f
 
-        pub stored : (m : ℕ) → SetTo fs ss vs ts c n y z (Set m) fs' ss' vs' ts' → AssignsAs fs ss vs ts c (writes q v l n) (Count m) fs' ss' vs' ts'
+        pub stored : (m : ℕ) → SetTo fs ss vs ts c n y z (Set m) fs' ss' vs' ts' → AssignRefines fs ss vs ts c (assignsTo q v l n) (Count m) fs' ss' vs' ts'
         stored m k = record { is = set-is (Set m) k; table = k .table; kept = tt }
 
-        pub full : SetTo fs ss vs ts c n y z Full fs' ss' vs' ts' → AssignsAs fs ss vs ts c (writes q v l n) (Refused 11) fs' ss' vs' ts'
+        pub full : SetTo fs ss vs ts c n y z Full fs' ss' vs' ts' → AssignRefines fs ss vs ts c (assignsTo q v l n) (Refused 11) fs' ss' vs' ts'
         full k = record { is = set-is Full k; table = k .table; kept = k .kept }
 
 -- nr by its name
 module _ (q : Printer) (m v l : List ℕ) where
   pub by-name : (fs ss : List ℕ) (vs ts : List ℤ) (c : ℕ) (r : Assigned) (fs' ss' : List ℕ) (vs' ts' : List ℤ) (n : Name) → one n ≡ nameOf m
-      → AssignsAs fs ss vs ts c (writes q v l n) r fs' ss' vs' ts' → AssignsAs fs ss vs ts c (assigns q m v l) r fs' ss' vs' ts'
+      → AssignRefines fs ss vs ts c (assignsTo q v l n) r fs' ss' vs' ts' → AssignRefines fs ss vs ts c (assigns q m v l) r fs' ss' vs' ts'
   by-name fs ss vs ts c r fs' ss' vs' ts' n e a = record {
     is = λ x. let s = withRegisters (tableOf fs ss vs ts c) x in a .is x ∙ ap (λ (k : Named). onName k s (writeRegister (printerOf q) v l s)) e;
     table = a .table;
     kept = a .kept;
   }
 
-  pub unnamed : names.none ≡ nameOf m → (s : State) → value s ≡ assigns q m v l s
+  pub unnamed : names.noName ≡ nameOf m → (s : State) → value s ≡ assigns q m v l s
   unnamed e s = ap (λ (k : Named). onName k s (writeRegister (printerOf q) v l s)) e
 
   pub too-long : names.tooLong ≡ nameOf m → (s : State) → bad 7 ≡ assigns q m v l s

@@ -14,10 +14,10 @@ use Rattle.rules.specs.Numbers.{units, signed}
 use Rattle.rules.specs.Registers.{valueOr0, stepOr0}
 use Rattle.rules.specs.State.{State}
 use Rattle.rules.specs.StateSetters.{withRegisters}
-use Rattle.rules.specs.Acts.{argument, onName, newValue, newStep, writeRegister, change}
-use Rattle.registers.specs.Table.Columns.{tableOf, Table}
+use Rattle.rules.specs.Acts.{argumentAt, onName, newValue, newStep, writeRegister, change}
+use Rattle.registers.specs.Table.Columns.{tableOf, RegistersInvariant}
 use Rattle.settings.specs.declared.layout.Printer.{Printer}
-use Rattle.settings.specs.Layout.Layouts.{printerOf, SoundPrinter}
+use Rattle.settings.specs.Layout.Layouts.{printerOf, PrinterInvariant}
 use Rattle.requests.specs.declared.nr.Numbers.{Numbers}
 use Rattle.requests.specs.declared.nr.NewNumbers.{NewNumbers}
 use Rattle.requests.specs.declared.nr.NewNumbers.the-variants as new
@@ -25,9 +25,9 @@ use Rattle.requests.specs.declared.nr.Assigned.{Assigned}
 use Rattle.requests.specs.declared.nr.Assigned.the-variants.{Count, Refused}
 
 -- what nr finds: a table, and a sound printer
-pub record Ready (fs ss : List ℕ) (vs ts : List ℤ) (count : ℕ) (q : Printer) : Type 0 where
-  pub table : Table fs ss vs ts count
-  pub printer : SoundPrinter q
+pub record AssignReady (fs ss : List ℕ) (vs ts : List ℤ) (count : ℕ) (q : Printer) : Type 0 where
+  pub table : RegistersInvariant fs ss vs ts count
+  pub printer : PrinterInvariant q
 
 -- the value and the step of a register
 pub record NumbersOf (o : Option Register) (r : Numbers) : Type 0 where
@@ -56,30 +56,30 @@ assignedOf (Count n) table x = value (withRegisters (table n) x)
 assignedOf (Refused k) table x = bad k
 
 -- how many there are then, of so many before
-abbrev pub countIn : Assigned → ℕ → ℕ
-countIn (Count n) c = n
-countIn (Refused k) c = c
+abbrev pub countAssigned : Assigned → ℕ → ℕ
+countAssigned (Count n) c = n
+countAssigned (Refused k) c = c
 
 -- a refusal leaves the columns as they were
-abbrev pub KeptRefused : Assigned → (fs ss : List ℕ) → (vs ts : List ℤ) → (fs' ss' : List ℕ) → (vs' ts' : List ℤ) → Type 0
-KeptRefused (Count n) fs ss vs ts fs' ss' vs' ts' = Unit
-KeptRefused (Refused k) fs ss vs ts fs' ss' vs' ts' = (fs' ≡ fs) × (ss' ≡ ss) × (vs' ≡ vs) × (ts' ≡ ts)
+abbrev pub RegistersKeptRefused : Assigned → (fs ss : List ℕ) → (vs ts : List ℤ) → (fs' ss' : List ℕ) → (vs' ts' : List ℤ) → Type 0
+RegistersKeptRefused (Count n) fs ss vs ts fs' ss' vs' ts' = Unit
+RegistersKeptRefused (Refused k) fs ss vs ts fs' ss' vs' ts' = (fs' ≡ fs) × (ss' ≡ ss) × (vs' ≡ vs) × (ts' ≡ ts)
 
 -- in any state these registers become what the rules say; the columns stay a table, and a refusal leaves them
-pub record AssignsAs (fs ss : List ℕ) (vs ts : List ℤ) (count : ℕ) (act : State → Judged State) (r : Assigned) (fs' ss' : List ℕ) (vs' ts' : List ℤ) : Type 0 where
+pub record AssignRefines (fs ss : List ℕ) (vs ts : List ℤ) (count : ℕ) (act : State → Judged State) (r : Assigned) (fs' ss' : List ℕ) (vs' ts' : List ℤ) : Type 0 where
   pub is : (x : State) → assignedOf r (tableOf fs' ss' vs' ts') x ≡ act (withRegisters (tableOf fs ss vs ts count) x)
-  pub table : Table fs' ss' vs' ts' (countIn r count)
-  pub kept : KeptRefused r fs ss vs ts fs' ss' vs' ts'
+  pub table : RegistersInvariant fs' ss' vs' ts' (countAssigned r count)
+  pub kept : RegistersKeptRefused r fs ss vs ts fs' ss' vs' ts'
 
 -- nr of a name
-abbrev pub writes : Printer → (new step : List ℕ) → Name → State → Judged State
-writes q v l n s = writeRegister (printerOf q) v l s n
+abbrev pub assignsTo : Printer → (new step : List ℕ) → Name → State → Judged State
+assignsTo q v l n s = writeRegister (printerOf q) v l s n
 
 -- nr
 abbrev pub assigns : Printer → (name new step : List ℕ) → State → Judged State
 assigns q m v l s = onName (nameOf m) s (writeRegister (printerOf q) v l s)
 
 -- That is the rules' nr.
-pub assigns-nr : (q : Printer) (l : List ℕ) (s : State) → assigns q (argument 0 l) (argument 1 l) (argument 2 l) s ≡ change (printerOf q) Nr l s
+pub assigns-nr : (q : Printer) (l : List ℕ) (s : State) → assigns q (argumentAt 0 l) (argumentAt 1 l) (argumentAt 2 l) s ≡ change (printerOf q) Nr l s
 unfolding change
 assigns-nr q l s = refl

@@ -7,17 +7,17 @@ use Rattle.rules.specs.Printers as printers
 use Rattle.rules.specs.Refusals.{Judged, value, bad}
 use Rattle.rules.specs.State.{State}
 use Rattle.rules.specs.StateSetters.{withTraps}
-use Rattle.rules.specs.Acts.{argument, plantTrap, change}
+use Rattle.rules.specs.Acts.{argumentAt, plantTrap, change}
 use Rattle.traps.specs.declared.table.Planted.{Planted}
-use Rattle.traps.specs.Table.Table.{Within, plantedOf}
+use Rattle.traps.specs.Table.Table.{TrapsInvariant, plantedOf}
 use Rattle.settings.specs.declared.layout.Printer.{Printer}
-use Rattle.settings.specs.Layout.Layouts.{printerOf, SoundPrinter}
+use Rattle.settings.specs.Layout.Layouts.{printerOf, PrinterInvariant}
 use Rattle.requests.specs.declared.wh.Plants.{Plants}
 
 -- what wh finds: a table within its limits, and a sound printer
-pub record Ready (p : Planted) (q : Printer) : Type 0 where
-  pub within : Within p
-  pub printer : SoundPrinter q
+pub record PlantReady (p : Planted) (q : Printer) : Type 0 where
+  pub within : TrapsInvariant p
+  pub printer : PrinterInvariant q
 
 -- a refusal by its number, 0 for none, with this table
 abbrev pub plantsBy : (refused : ℕ) → Planted → State → Judged State
@@ -29,16 +29,16 @@ abbrev pub plantsOf : Plants → State → Judged State
 plantsOf r x = plantsBy (r .refused) (r .planted) x
 
 -- in any state this table becomes what the rules say; it keeps to its limits, and a refusal leaves it
-pub record PlantsAs (p : Planted) (act : State → Judged State) (r : Plants) : Type 0 where
+pub record PlantRefines (p : Planted) (act : State → Judged State) (r : Plants) : Type 0 where
   pub is : (x : State) → plantsOf r x ≡ act (withTraps (plantedOf p) x)
-  pub within : Within (r .planted)
+  pub within : TrapsInvariant (r .planted)
   pub kept : 0 < r .refused → r .planted ≡ p
 
 -- wh
 abbrev pub PlantedTo : (row name : List ℕ) → Planted → Printer → Plants → Type 0
-PlantedTo l m p q r = PlantsAs p (λ s. plantTrap (printerOf q) l m s) r
+PlantedTo l m p q r = PlantRefines p (λ s. plantTrap (printerOf q) l m s) r
 
 -- That is the rules' wh.
-pub plants-wh : (p : printers.Printer) (l : List ℕ) (s : State) → plantTrap p (argument 0 l) (argument 1 l) s ≡ change p Wh l s
+pub plants-wh : (p : printers.Printer) (l : List ℕ) (s : State) → plantTrap p (argumentAt 0 l) (argumentAt 1 l) s ≡ change p Wh l s
 unfolding change
 plants-wh p l s = refl

@@ -11,8 +11,8 @@ use Rattle.rockavine_c.proofs.rockavine_call_parts.Tie as tie
 place-requires : tie.Need-place-requires
 place-requires c κs = search needs
 
-is-legal-requires : tie.Need-is-legal-requires
-is-legal-requires c κs =
+is-valid-requires : tie.Need-is-valid-requires
+is-valid-requires c κs =
     rw (c .before .before .before .before .before .before .before .before .before .before .before .before .before .before .place .ensures .0) (c .before .before .before .before .before .before .before .before .before .before .before .before .before .before .before .before .before .before .before .pre)
 
 same-length : tie.Need-same-length
@@ -22,7 +22,7 @@ returns : tie.Need-returns
 returns c =
     let a = c .before .before .before .before .before .before .before .before .before .before .before .before .before .before .before .before .before .before .before .before .before .args in
     let l = c .before .before .before .before .before .before .before .before .before .before .before .before .before .before .before .before .place in
-    from-turned (now (a .words)) (now (a .gathered)) (now (a .cells)) (now (a .row)) (now (a .arena)) (now (a .ends)) (now (a .text-firsts)) (now (a .text-seconds)) (now (a .kinds)) (now (a .lengths)) (now (a .firsts)) (now (a .seconds)) (now (a .values)) (now (a .steps)) (now (a .store)) (now (a .block)) (a .last) (now (a .out)) (l .result) (l .ensures .0) (c .before .is-legal .ensures .no (not-true _ (c .if1 .taken)))
+    from-turned (now (a .words)) (now (a .gathered)) (now (a .cells)) (now (a .row)) (now (a .arena)) (now (a .ends)) (now (a .text-firsts)) (now (a .text-seconds)) (now (a .kinds)) (now (a .lengths)) (now (a .firsts)) (now (a .seconds)) (now (a .values)) (now (a .steps)) (now (a .store)) (now (a .block)) (a .last) (now (a .out)) (l .result) (l .ensures .0) (c .before .is-valid .ensures .no (not-true _ (c .if1 .taken)))
 
 is-last-requires : tie.Need-is-last-requires
 is-last-requires c κs = search needs
@@ -34,7 +34,7 @@ take-block-requires : tie.Need-take-block-requires
 take-block-requires c κs =
     let a = c .before .before .before .before .before .before .before .before .before .before .before .before .before .before .before .before .before .before .before .before .before .before .before .before .before .before .before .before .args in
     let l = c .before .before .before .before .before .before .before .before .before .before .before .before .before .before .before .before .before .before .before .before .before .before .before .place in
-    may-append (now (a .words)) (now (a .gathered)) (now (a .cells)) (now (a .row)) (now (a .arena)) (now (a .ends)) (now (a .text-firsts)) (now (a .text-seconds)) (now (a .kinds)) (now (a .lengths)) (now (a .firsts)) (now (a .seconds)) (now (a .values)) (now (a .steps)) (now (a .store)) (now (a .block)) (a .last) (now (a .out)) (l .result) (l .ensures .0) (c .before .before .before .before .is-last .result) (c .before .before .before .before .is-last .ensures) (c .before .before .before .before .before .before .before .before .is-legal .ensures .yes (not-false _ (c .before .before .before .before .before .before .before .if1 .left))) (c .before .before .before .is-inside .ensures .yes (c .before .before .if2 .taken))
+    may-append (now (a .words)) (now (a .gathered)) (now (a .cells)) (now (a .row)) (now (a .arena)) (now (a .ends)) (now (a .text-firsts)) (now (a .text-seconds)) (now (a .kinds)) (now (a .lengths)) (now (a .firsts)) (now (a .seconds)) (now (a .values)) (now (a .steps)) (now (a .store)) (now (a .block)) (a .last) (now (a .out)) (l .result) (l .ensures .0) (c .before .before .before .before .is-last .result) (c .before .before .before .before .is-last .ensures) (c .before .before .before .before .before .before .before .before .is-valid .ensures .yes (not-false _ (c .before .before .before .before .before .before .before .if1 .left))) (c .before .before .before .is-inside .ensures .yes (c .before .before .if2 .taken))
 
 same-length-2 : tie.Need-same-length-2
 same-length-2 c = search needs
@@ -43,14 +43,14 @@ returns-2 : tie.Need-returns-2
 returns-2 c =
     let a = c .before .before .before .before .before .before .before .before .before .before .before .before .before .before .before .before .before .before .before .before .before .before .before .before .before .before .before .before .before .args in
     let l = c .before .before .before .before .before .before .before .before .before .before .before .before .before .before .before .before .before .before .before .before .before .before .before .before .place in
-    from-inside (now (a .words)) (now (a .gathered)) (now (a .cells)) (now (a .row)) (now (a .arena)) (now (a .ends)) (now (a .text-firsts)) (now (a .text-seconds)) (now (a .kinds)) (now (a .lengths)) (now (a .firsts)) (now (a .seconds)) (now (a .values)) (now (a .steps)) (now (a .store)) (now (a .block)) (a .last) (now (a .out)) (l .result) (l .ensures .0) (c .before .before .before .before .before .is-last .result) (c .before .before .before .before .before .is-last .ensures) (c .before .before .before .before .before .before .before .before .before .is-legal .ensures .yes (not-false _ (c .before .before .before .before .before .before .before .before .if1 .left))) (c .before .before .before .before .is-inside .ensures .yes (c .before .before .before .if2 .taken)) _ _ (c .take-block .ensures)
+    from-inside (now (a .words)) (now (a .gathered)) (now (a .cells)) (now (a .row)) (now (a .arena)) (now (a .ends)) (now (a .text-firsts)) (now (a .text-seconds)) (now (a .kinds)) (now (a .lengths)) (now (a .firsts)) (now (a .seconds)) (now (a .values)) (now (a .steps)) (now (a .store)) (now (a .block)) (a .last) (now (a .out)) (l .result) (l .ensures .0) (c .before .before .before .before .before .is-last .result) (c .before .before .before .before .before .is-last .ensures) (c .before .before .before .before .before .before .before .before .before .is-valid .ensures .yes (not-false _ (c .before .before .before .before .before .before .before .before .if1 .left))) (c .before .before .before .before .is-inside .ensures .yes (c .before .before .before .if2 .taken)) _ _ (c .take-block .ensures)
 
 is-last-requires-2 : tie.Need-is-last-requires-2
 is-last-requires-2 c κs = search needs
 
 serve-requires : tie.Need-serve-requires
 serve-requires c κs =
-    c .before .before .before .before .before .before .before .before .before .before .before .before .before .before .before .before .before .before .before .before .before .before .is-legal .ensures .yes (not-false _ (c .before .before .before .before .before .before .before .before .before .before .before .before .before .before .before .before .before .before .before .before .before .if1 .left))
+    c .before .before .before .before .before .before .before .before .before .before .before .before .before .before .before .before .before .before .before .before .before .before .is-valid .ensures .yes (not-false _ (c .before .before .before .before .before .before .before .before .before .before .before .before .before .before .before .before .before .before .before .before .before .if1 .left))
 
 number-of-requires : tie.Need-number-of-requires
 number-of-requires c κs = search needs
@@ -75,14 +75,14 @@ returns-3 c =
     let a = c .before .before .before .before .before .before .before .before .before .before .before .before .before .before .before .before .before .before .before .before .before .before .before .before .before .before .before .before .before .before .before .before .before .before .before .before .before .before .before .before .before .before .before .before .before .before .before .before .before .before .before .before .before .args in
     let y = c .before .before .before .before .before .before .before .before .before .before .serve in
     let l = c .before .before .before .before .before .before .before .before .before .before .before .before .before .before .before .before .before .before .before .before .before .before .before .before .before .before .before .before .before .before .before .before .before .before .before .before .before .before .before .before .before .before .before .before .before .before .before .before .place in
-    from-served (now (a .words)) (now (a .gathered)) (now (a .cells)) (now (a .row)) (now (a .arena)) (now (a .ends)) (now (a .text-firsts)) (now (a .text-seconds)) (now (a .kinds)) (now (a .lengths)) (now (a .firsts)) (now (a .seconds)) (now (a .values)) (now (a .steps)) (now (a .store)) (now (a .block)) (a .last) (now (a .out)) (l .result) (l .ensures .0) (c .before .before .before .before .before .before .before .before .before .before .before .before .before .before .before .before .before .before .before .before .before .before .before .before .before .before .is-last2 .result) (c .before .before .before .before .before .before .before .before .before .before .before .before .before .before .before .before .before .before .before .before .before .before .before .before .before .before .is-last2 .ensures) (y .result) _ _ _ _ _ _ _ _ _ _ _ _ _ _ _ _ _ _ (c .code-of .ensures) (c .before .before .before .before .number-of .ensures) (c .before .before .before .line-of .ensures) (c .before .before .before .before .before .before .before .before .before .before .before .before .before .before .before .before .before .before .before .before .before .before .before .before .before .before .before .before .before .before .before .before .before .is-legal .ensures .yes (not-false _ (c .before .before .before .before .before .before .before .before .before .before .before .before .before .before .before .before .before .before .before .before .before .before .before .before .before .before .before .before .before .before .before .before .if1 .left))) (y .ensures) (l .ensures .1) _ (c .before .write-place .ensures)
+    from-served (now (a .words)) (now (a .gathered)) (now (a .cells)) (now (a .row)) (now (a .arena)) (now (a .ends)) (now (a .text-firsts)) (now (a .text-seconds)) (now (a .kinds)) (now (a .lengths)) (now (a .firsts)) (now (a .seconds)) (now (a .values)) (now (a .steps)) (now (a .store)) (now (a .block)) (a .last) (now (a .out)) (l .result) (l .ensures .0) (c .before .before .before .before .before .before .before .before .before .before .before .before .before .before .before .before .before .before .before .before .before .before .before .before .before .before .is-last2 .result) (c .before .before .before .before .before .before .before .before .before .before .before .before .before .before .before .before .before .before .before .before .before .before .before .before .before .before .is-last2 .ensures) (y .result) _ _ _ _ _ _ _ _ _ _ _ _ _ _ _ _ _ _ (c .code-of .ensures) (c .before .before .before .before .number-of .ensures) (c .before .before .before .line-of .ensures) (c .before .before .before .before .before .before .before .before .before .before .before .before .before .before .before .before .before .before .before .before .before .before .before .before .before .before .before .before .before .before .before .before .before .is-valid .ensures .yes (not-false _ (c .before .before .before .before .before .before .before .before .before .before .before .before .before .before .before .before .before .before .before .before .before .before .before .before .before .before .before .before .before .before .before .before .if1 .left))) (y .ensures) (l .ensures .1) _ (c .before .write-place .ensures)
 
 pub rockavine-call-parts-spec : {M : Type 1} → statement M
 rockavine-call-parts-spec =
     tie.close
     (tie.spec
     place-requires
-    is-legal-requires
+    is-valid-requires
     same-length
     returns
     is-last-requires

@@ -13,17 +13,17 @@ codeOf answer.Done = 2
 codeOf (answer.Refused n l) = 3
 
 -- its number and source line, if it is a refusal
-abbrev pub numberOf : Answer → ℕ
-numberOf answer.NeedsInput = 0
-numberOf answer.NeedsRoom = 0
-numberOf answer.Done = 0
-numberOf (answer.Refused n l) = n
+abbrev pub answerNumber : Answer → ℕ
+answerNumber answer.NeedsInput = 0
+answerNumber answer.NeedsRoom = 0
+answerNumber answer.Done = 0
+answerNumber (answer.Refused n l) = n
 
-abbrev pub lineOf : Answer → ℕ
-lineOf answer.NeedsInput = 0
-lineOf answer.NeedsRoom = 0
-lineOf answer.Done = 0
-lineOf (answer.Refused n l) = l
+abbrev pub answerLine : Answer → ℕ
+answerLine answer.NeedsInput = 0
+answerLine answer.NeedsRoom = 0
+answerLine answer.Done = 0
+answerLine (answer.Refused n l) = l
 
 -- any byte but 0 marks the last block
 abbrev pub isLast : ℕ → Bool

@@ -16,17 +16,17 @@ use Rattle.rules.specs.declared.Request.the-variants.{Breaks, Lays, Chan
 use Rattle.rules.specs.declared.Mode.the-variants.{Plain, Copy}
 use Rattle.rules.specs.Refusals.{Judged, value, bad}
 use Rattle.rules.specs.Requests.{startsPage, modeOf}
-use Rattle.rules.specs.State.{State, Line, text, control, ignored, Item, reading, fresh, again, others, acts, ejects, Definition}
+use Rattle.rules.specs.State.{State, Line, plainText, control, ignored, Item, reading, fresh, again, others, acts, ejects, Definition}
 use Rattle.rules.specs.StateSetters.{withStack, withStored, withLayout}
 use Rattle.rules.specs.Settings.{Layout}
 use Rattle.rules.specs.Texts.{keepLine}
-use Rattle.rules.specs.Escapes.{Scanned, scanned, refused}
+use Rattle.rules.specs.Escapes.{Scanned, scanned, scanRefused}
 use Rattle.rules.specs.Lines.{lineOf, isClosing}
-use Rattle.rules.specs.Filling.{Word, Collected, Placed, all, full, begin, begun, place, words, standing, after, gapAfter}
+use Rattle.rules.specs.Filling.{Word, Collected, Placed, allPlaced, full, begin, begun, place, words, standing, after, gapAfter}
 use Rattle.rules.specs.Rows.{Next, break, skip, ejectIf, eject, ejectLast, endFrom, beginEnd, lastPage}
-use Rattle.rules.specs.TextLines.{Way, starts, blank, stands, fills, breaks, wayOf, asItStands, filled, fillFrom, fill, blankFrom, gapHere, textWay, textLine}
-use Rattle.rules.specs.Acts.{given, settles, laidOut, argument, spacing, setLine, act, setPage, change, defines, decide}
-use Rattle.rules.specs.ControlLines.{Meaning, calls, requests, nothing, meaningOf, prefixOf, onScan, breakOrAct, startOrBreak, obey, dealAgain, expand, controlLine, freshLine, keepBody, bodyLine, dealFrom, deal}
+use Rattle.rules.specs.TextLines.{TextLineCase, starts, emptyLine, stands, fills, breaks, textLineCase, asItStands, filled, fillFrom, fill, blankFrom, gapHere, textWay, textLine}
+use Rattle.rules.specs.Acts.{onValue, settles, laidOut, argumentAt, spacing, setLine, act, setPage, change, defines, decide}
+use Rattle.rules.specs.ControlLines.{Meaning, calls, meansRequest, nothing, meaningOf, prefixOf, onScan, breakOrAct, startOrBreak, obey, dealAgain, expand, controlLine, freshLine, keepBody, bodyLine, dealFrom, deal}
 use Rattle.rules.specs.Session.{leave, readLine, work, workEnd, idle, stepFrom, step}
 
 -- what a state does next is no question
@@ -35,7 +35,7 @@ NeverAsks (works w s) = Unit
 NeverAsks (asks t e) = ⊥
 NeverAsks (closed a) = Unit
 
-given-on : {A : Type 0} (j : Judged A) (s : State) (k : A → Next) → ((a : A) → NeverAsks (k a)) → NeverAsks (given j s k)
+given-on : {A : Type 0} (j : Judged A) (s : State) (k : A → Next) → ((a : A) → NeverAsks (k a)) → NeverAsks (onValue j s k)
 given-on (value a) s k f = f a
 given-on (bad n) s k f = tt
 
@@ -74,7 +74,7 @@ end-on false s = go (s .collected) (s .page .used)
 
 -- text lines
 filled-on : (x : Placed) (g : ℕ) (s : State) → NeverAsks (filled x g s)
-filled-on (all c) g s = tt
+filled-on (allPlaced c) g s = tt
 filled-on (full c w ws) g s = tt
 
 fill-on : (ws : List Word) (g : ℕ) (s : State) → NeverAsks (fill ws g s)
@@ -92,11 +92,11 @@ blank-on (some c) s = break-on c _ s
 
 text-on : (l : List ℕ) (s : State) → NeverAsks (textLine l s)
 unfolding textLine
-text-on l s = go (wayOf (s .page .number) (words l) (s .collected) (asItStands (s .layout)))
+text-on l s = go (textLineCase (s .page .number) (words l) (s .collected) (asItStands (s .layout)))
   where
-    go : (x : Way) → NeverAsks (textWay x (words l) l s)
+    go : (x : TextLineCase) → NeverAsks (textWay x (words l) l s)
     go starts = tt
-    go blank = blank-on (s .collected) s
+    go emptyLine = blank-on (s .collected) s
     go (breaks c) = break-on c _ s
     go stands = tt
     go fills = fill-on (after (gapHere (s .collected)) (standing (words l))) (gapAfter (words l)) s
@@ -109,9 +109,9 @@ module _ (p : Printer) where
   act-on : (r : Breaking) (l : List ℕ) (s : State) → NeverAsks (act p r l s)
   unfolding act
   act-on Br l s = tt
-  act-on Sp l s = given-on (spacing p (argument 0 l)) s _ (λ n. skip-on n s)
+  act-on Sp l s = given-on (spacing p (argumentAt 0 l)) s _ (λ n. skip-on n s)
   act-on Bp l s = eject-on (s .page .number) s
-  act-on (Sets r) l s = laid-on (setLine p r (argument 0 l) (s .layout)) s
+  act-on (Sets r) l s = laid-on (setLine p r (argumentAt 0 l) (s .layout)) s
 
   settles-on : (j : Judged State) (s : State) → NeverAsks (settles j s)
   settles-on j s = given-on j s _ (λ v. tt)
@@ -128,30 +128,30 @@ module _ (p : Printer) where
   obey-on : (x : Meaning) (i q : Bool) (n : Name) (l : List ℕ) (s : State) → NeverAsks (obey p x i q n l s)
   obey-on nothing i q n l s = tt
   obey-on (calls t) i q n l s = tt
-  obey-on (requests (Breaks r)) i q n l s = start-on (eqb (s .page .number) 0 && startsPage q r) q r n l s
-  obey-on (requests (Lays r)) i q n l s = laid-on (setPage p r (s .page .used) (argument 0 l) (s .layout)) s
-  obey-on (requests (Changes r)) i q n l s = settles-on (change p r l s) s
-  obey-on (requests Ds) i q n l s = settles-on (defines i l s) s
-  obey-on (requests If) i q n l s = settles-on (decide p l s) s
+  obey-on (meansRequest (Breaks r)) i q n l s = start-on (eqb (s .page .number) 0 && startsPage q r) q r n l s
+  obey-on (meansRequest (Lays r)) i q n l s = laid-on (setPage p r (s .page .used) (argumentAt 0 l) (s .layout)) s
+  obey-on (meansRequest (Changes r)) i q n l s = settles-on (change p r l s) s
+  obey-on (meansRequest Ds) i q n l s = settles-on (defines i l s) s
+  obey-on (meansRequest If) i q n l s = settles-on (decide p l s) s
 
   again-on : (x : Line) (s : State) → NeverAsks (dealAgain p x s)
   unfolding dealAgain
   again-on ignored s = tt
-  again-on (text l) s = text-on l s
+  again-on (plainText l) s = text-on l s
   again-on (control q n l) s = obey-on (meaningOf n s) true q n l s
 
   scan-on : (x : Scanned) (s : State) (k : List ℕ → State → Next) → ((l : List ℕ) (v : State) → NeverAsks (k l v)) → NeverAsks (onScan x s k)
   scan-on (scanned l rs) s k f = f l _
-  scan-on (refused n rs) s k f = tt
+  scan-on (scanRefused n rs) s k f = tt
 
   control-on : (x : Meaning) (args : List (List ℕ)) (q : Bool) (n : Name) (l : List ℕ) (s : State) → NeverAsks (controlLine p x args q n l s)
   control-on nothing args q n l s = tt
   control-on (calls t) args q n l s = scan-on (expand p args Plain (prefixOf n) l s) s (obey p (calls t) false q n) (λ m v. obey-on (calls t) false q n m v)
-  control-on (requests r) args q n l s = scan-on (expand p args (modeOf r) (prefixOf n) l s) s (obey p (requests r) false q n) (λ m v. obey-on (requests r) false q n m v)
+  control-on (meansRequest r) args q n l s = scan-on (expand p args (modeOf r) (prefixOf n) l s) s (obey p (meansRequest r) false q n) (λ m v. obey-on (meansRequest r) false q n m v)
 
   fresh-on : (x : Line) (args : List (List ℕ)) (s : State) → NeverAsks (freshLine p x args s)
   fresh-on ignored args s = tt
-  fresh-on (text l) args s = scan-on (expand p args Plain 0 l s) s textLine (λ m v. text-on m v)
+  fresh-on (plainText l) args s = scan-on (expand p args Plain 0 l s) s textLine (λ m v. text-on m v)
   fresh-on (control q n l) args s = control-on (meaningOf n s) args q n l s
 
   body-on : (t : Bool) (d : Definition) (args : List (List ℕ)) (l : List ℕ) (s : State) → NeverAsks (bodyLine p t d args l s)

@@ -7,7 +7,7 @@ use native.Mathlib.Omega.{arith}
 use lib.ListN.{length, length-append, getD}
 use lib.Dec.{leb}
 use Rattle.rules.specs.declared.Name.{Name}
-use Rattle.rules.specs.Laws.Refusals.{Every, here, refused as bare, every-map}
+use Rattle.rules.specs.Laws.Refusals.{Every, everyValue, everyRefused as bare, every-map}
 use Rattle.rules.specs.Bytes.{bytes, backslash, mark, fixedBlank, entry}
 use Rattle.rules.specs.Laws.Tables.{entry-each}
 use Rattle.rules.specs.Registers.{stepRegister, Reference, decimal}
@@ -17,20 +17,20 @@ use Rattle.rules.specs.Laws.Registers.{BoundedSeen, BoundedTable, step-b
 use Rattle.rules.specs.Texts.{Text, text, textOf}
 use Rattle.rules.specs.declared.Kind.{Kind}
 use Rattle.rules.specs.declared.Kind.the-variants.{Macro, String}
-use Rattle.rules.specs.Escapes.{Surroundings, Scanned, scanned, refused, Wanted, number, aString, Escape, outside, Action, writes, begins, holds, wants, gives, ends, unlisted, actionOf, Scan, withRegisters, Effect, goes, stops, writeBy, atEnd, holdBy, beginBy, enterBy, enter, showIt, want, escaped, given, effectOf, Next, reads, over, next, before, follow, run, scan}
+use Rattle.rules.specs.Escapes.{Surroundings, Scanned, scanned, scanRefused, Wanted, number, aString, Escape, outside, Action, writes, begins, holdsEscape, wants, gives, ends, unlisted, actionOf, Scan, withScanRegisters, Effect, goesOn, stopsScan, writeBy, atEnd, holdBy, beginBy, enterBy, enter, showIt, want, escaped, argumentGiven, effectOf, NextByte, reads, over, nextByte, writtenBefore, follow, run, scan}
 use Rattle.rules.specs.declared.Mode.{Mode}
 use Rattle.rules.specs.declared.Mode.the-variants.{Plain, Copy}
 
 -- the registers after a scan, refused or not
 abbrev pub registersAfter : Scanned → List Register
 registersAfter (scanned l rs) = rs
-registersAfter (refused n rs) = rs
+registersAfter (scanRefused n rs) = rs
 
 abbrev registersOf : Effect → List Register
-registersOf (goes l s) = s .registers
-registersOf (stops r) = registersAfter r
+registersOf (goesOn l s) = s .registers
+registersOf (stopsScan r) = registersAfter r
 
-abbrev registersIn : Next → List Register
+abbrev registersIn : NextByte → List Register
 registersIn (reads b s) = s .registers
 registersIn (over rs) = rs
 
@@ -63,7 +63,7 @@ module _ (w : Surroundings) (m : Mode) (P : List Register → Type 0)
   enter-keeps (some t) s h = enter-kept (t .kind) (t .name) (t .bytes) s h
 
   show-keeps : {r : Reference} (s : Scan) → P (s .registers) → Every (λ x. P (x .1)) r → P (registersOf (showIt r s))
-  show-keeps s h (here {a = x} i) = write-keeps (leb (length (decimal (x .0))) (s .room)) (decimal (x .0)) (withRegisters (x .1) s) i
+  show-keeps s h (everyValue {a = x} i) = write-keeps (leb (length (decimal (x .0))) (s .room)) (decimal (x .0)) (withScanRegisters (x .1) s) i
   show-keeps s h bare = h
 
   want-keeps : (x : Wanted) (n : Name) (s : Scan) → P (s .registers) → P (registersOf (want w x n s))
@@ -73,33 +73,33 @@ module _ (w : Surroundings) (m : Mode) (P : List Register → Type 0)
   effect-keeps : (a : Action) (s : Scan) → P (s .registers) → P (registersOf (effectOf w m a s))
   effect-keeps (writes l) s h = write-keeps (leb (length l) (s .room)) l s h
   effect-keeps begins s h = begin-keeps (atEnd (s .unread)) m s h
-  effect-keeps (holds e) s h = hold-keeps (atEnd (s .unread)) e s h
+  effect-keeps (holdsEscape e) s h = hold-keeps (atEnd (s .unread)) e s h
   effect-keeps (wants x n) s h = want-keeps x n s h
-  effect-keeps (gives k) s h = let l = given m (s .unread) (getD (w .arguments) k []) in write-keeps (leb (length l) (s .room)) l s h
+  effect-keeps (gives k) s h = let l = argumentGiven m (s .unread) (getD (w .arguments) k []) in write-keeps (leb (length l) (s .room)) l s h
   effect-keeps ends s h = h
   effect-keeps unlisted s h = h
 
-  next-keeps : (u : List (List ℕ)) (s : Scan) → P (s .registers) → P (registersIn (next u s))
+  next-keeps : (u : List (List ℕ)) (s : Scan) → P (s .registers) → P (registersIn (nextByte u s))
   next-keeps [] s h = h
   next-keeps ([] ∷ u) s h = next-keeps u s h
   next-keeps ((b ∷ l) ∷ u) s h = h
 
-  before-keeps : (l : List ℕ) (r : Scanned) → P (registersAfter r) → P (registersAfter (before l r))
+  before-keeps : (l : List ℕ) (r : Scanned) → P (registersAfter r) → P (registersAfter (writtenBefore l r))
   before-keeps l (scanned x rs) h = h
-  before-keeps l (refused n rs) h = h
+  before-keeps l (scanRefused n rs) h = h
 
   follow-keeps : (e : Effect) (k : Scan → Scanned) → P (registersOf e) → ((s : Scan) → P (s .registers) → P (registersAfter (k s))) → P (registersAfter (follow e k))
-  follow-keeps (goes l s) k h f = before-keeps l (k s) (f s h)
-  follow-keeps (stops r) k h f = h
+  follow-keeps (goesOn l s) k h f = before-keeps l (k s) (f s h)
+  follow-keeps (stopsScan r) k h f = h
 
-  run-keeps : (left : ℕ) (x : Next) → P (registersIn x) → P (registersAfter (run w m left x))
+  run-keeps : (left : ℕ) (x : NextByte) → P (registersIn x) → P (registersAfter (run w m left x))
   unfolding run
   run-keeps zero (over rs) h = h
   run-keeps zero (reads b s) h = h
   run-keeps (suc left) (over rs) h = h
   run-keeps (suc left) (reads b s) h =
-      follow-keeps (effectOf w m (actionOf m (s .escape) b) s) (λ s'. run w m left (next (s' .unread) s')) (effect-keeps (actionOf m (s .escape) b) s h)
-      (λ s' i. run-keeps left (next (s' .unread) s') (next-keeps (s' .unread) s' i))
+      follow-keeps (effectOf w m (actionOf m (s .escape) b) s) (λ s'. run w m left (nextByte (s' .unread) s')) (effect-keeps (actionOf m (s .escape) b) s h)
+      (λ s' i. run-keeps left (nextByte (s' .unread) s') (next-keeps (s' .unread) s' i))
 
   -- what each step of a register keeps, a scan keeps
   pub scan-keeps : (rs : List Register) (prefix : ℕ) (l : List ℕ) → P rs → P (registersAfter (scan w m rs prefix l))

@@ -16,17 +16,17 @@ use Rattle.rules.specs.declared.Register.{Register}
 use Rattle.rules.specs.Texts.{Text, text, textOf}
 use Rattle.rules.specs.declared.Kind.{Kind}
 use Rattle.rules.specs.declared.Kind.the-variants.{Macro, String}
-use Rattle.rules.specs.Escapes.{Surroundings, Scanned, scanned, refused, Wanted, number, aString, Escape, outside, Action, writes, begins, holds, wants, gives, ends, unlisted, actionOf, Scan, withRegisters, Effect, goes, stops, writeBy, atEnd, holdBy, beginBy, enterBy, enter, showIt, want, given, effectOf, Next, reads, over, next, before, follow, run, scan}
+use Rattle.rules.specs.Escapes.{Surroundings, Scanned, scanned, scanRefused, Wanted, number, aString, Escape, outside, Action, writes, begins, holdsEscape, wants, gives, ends, unlisted, actionOf, Scan, withScanRegisters, Effect, goesOn, stopsScan, writeBy, atEnd, holdBy, beginBy, enterBy, enter, showIt, want, argumentGiven, effectOf, NextByte, reads, over, nextByte, writtenBefore, follow, run, scan}
 use Rattle.rules.specs.declared.Mode.{Mode}
 use Rattle.rules.specs.declared.Mode.the-variants.{Plain, Copy}
 
-abbrev pub Fits : ℕ → Scanned → Type 0
-Fits n (scanned l rs) = length l ≤ n
-Fits n (refused k rs) = Unit
+abbrev pub ScannedFits : ℕ → Scanned → Type 0
+ScannedFits n (scanned l rs) = length l ≤ n
+ScannedFits n (scanRefused k rs) = Unit
 
 abbrev Within : ℕ → Effect → Type 0
-Within n (goes l s) = length l + s .room ≤ n
-Within n (stops r) = Fits n r
+Within n (goesOn l s) = length l + s .room ≤ n
+Within n (stopsScan r) = ScannedFits n r
 
 write-within : (t : Bool) (l : List ℕ) (s : Scan) → leb (length l) (s .room) ≡ t → Within (s .room) (writeBy t l s)
 write-within true l s h = let k = leb-true (length l) (s .room) h in omega arith
@@ -54,7 +54,7 @@ enter-within none s = omega arith
 enter-within (some t) s = enter-kind (t .kind) (t .name) (t .bytes) s
 
 show-within : (r : Reference) (s : Scan) → Within (s .room) (showIt r s)
-show-within (value x) s = write-within (leb (length (decimal (x .0))) (s .room)) (decimal (x .0)) (withRegisters (x .1) s) refl
+show-within (value x) s = write-within (leb (length (decimal (x .0))) (s .room)) (decimal (x .0)) (withScanRegisters (x .1) s) refl
 show-within (bad n) s = tt
 
 want-within : (w : Surroundings) (x : Wanted) (n : Name) (s : Scan) → Within (s .room) (want w x n s)
@@ -64,40 +64,40 @@ want-within w aString n s = enter-within (textOf n (w .texts)) s
 effect-within : (w : Surroundings) (m : Mode) (a : Action) (s : Scan) → Within (s .room) (effectOf w m a s)
 effect-within w m (writes l) s = write-within (leb (length l) (s .room)) l s refl
 effect-within w m begins s = begin-within (atEnd (s .unread)) m s
-effect-within w m (holds e) s = hold-within (atEnd (s .unread)) e s
+effect-within w m (holdsEscape e) s = hold-within (atEnd (s .unread)) e s
 effect-within w m (wants x n) s = want-within w x n s
-effect-within w m (gives k) s = let l = given m (s .unread) (getD (w .arguments) k []) in write-within (leb (length l) (s .room)) l s refl
+effect-within w m (gives k) s = let l = argumentGiven m (s .unread) (getD (w .arguments) k []) in write-within (leb (length l) (s .room)) l s refl
 effect-within w m ends s = omega arith
 effect-within w m unlisted s = tt
 
-abbrev roomOf : ℕ → Next → Type 0
+abbrev roomOf : ℕ → NextByte → Type 0
 roomOf n (reads b s) = s .room ≡ n
 roomOf n (over rs) = Unit
 
-next-room : (u : List (List ℕ)) (s : Scan) → roomOf (s .room) (next u s)
+next-room : (u : List (List ℕ)) (s : Scan) → roomOf (s .room) (nextByte u s)
 next-room [] s = tt
 next-room ([] ∷ u) s = next-room u s
 next-room ((b ∷ l) ∷ u) s = refl
 
-before-fits : (l : List ℕ) (r : Scanned) (n k : ℕ) → Fits k r → length l + k ≤ n → Fits n (before l r)
+before-fits : (l : List ℕ) (r : Scanned) (n k : ℕ) → ScannedFits k r → length l + k ≤ n → ScannedFits n (writtenBefore l r)
 before-fits l (scanned x rs) n k f h = omega (arith, length-append l x)
-before-fits l (refused x rs) n k f h = tt
+before-fits l (scanRefused x rs) n k f h = tt
 
-follow-fits : (e : Effect) (n : ℕ) (k : Scan → Scanned) → Within n e → ((s : Scan) → Fits (s .room) (k s)) → Fits n (follow e k)
-follow-fits (goes l s) n k h f = before-fits l (k s) n (s .room) (f s) h
-follow-fits (stops r) n k h f = h
+follow-fits : (e : Effect) (n : ℕ) (k : Scan → Scanned) → Within n e → ((s : Scan) → ScannedFits (s .room) (k s)) → ScannedFits n (follow e k)
+follow-fits (goesOn l s) n k h f = before-fits l (k s) n (s .room) (f s) h
+follow-fits (stopsScan r) n k h f = h
 
-run-fits : (w : Surroundings) (m : Mode) (left : ℕ) (x : Next) (n : ℕ) → roomOf n x → Fits n (run w m left x)
+run-fits : (w : Surroundings) (m : Mode) (left : ℕ) (x : NextByte) (n : ℕ) → roomOf n x → ScannedFits n (run w m left x)
 unfolding run
 run-fits w m zero (over rs) n h = omega arith
 run-fits w m zero (reads b s) n h = tt
 run-fits w m (suc left) (over rs) n h = omega arith
 run-fits w m (suc left) (reads b s) n h =
-    follow-fits (effectOf w m (actionOf m (s .escape) b) s) n (λ s'. run w m left (next (s' .unread) s'))
+    follow-fits (effectOf w m (actionOf m (s .escape) b) s) n (λ s'. run w m left (nextByte (s' .unread) s'))
     (subst (λ k. Within k (effectOf w m (actionOf m (s .escape) b) s)) h (effect-within w m (actionOf m (s .escape) b) s))
-    (λ s'. run-fits w m left (next (s' .unread) s') (s' .room) (next-room (s' .unread) s'))
+    (λ s'. run-fits w m left (nextByte (s' .unread) s') (s' .room) (next-room (s' .unread) s'))
 
 -- "3: .. expanded line passes 512 bytes"
-pub scan-fits : (w : Surroundings) (m : Mode) (rs : List Register) (prefix : ℕ) (l : List ℕ) → Fits (512 - prefix) (scan w m rs prefix l)
+pub scan-fits : (w : Surroundings) (m : Mode) (rs : List Register) (prefix : ℕ) (l : List ℕ) → ScannedFits (512 - prefix) (scan w m rs prefix l)
 unfolding scan
 scan-fits w m rs prefix l = run-fits w m (8192 - prefix) _ (512 - prefix) (next-room (l ∷ []) (record { unread = l ∷ []; escape = outside; room = 512 - prefix; registers = rs }))

@@ -13,26 +13,26 @@ use Rattle.rules.specs.Printers.{Printer}
 use Rattle.rules.specs.declared.Name.{Name}
 use Rattle.rules.specs.Bytes.{isThere, byte, newline, space}
 use Rattle.rules.specs.Refusals.{Judged, value, bad}
-use Rattle.rules.specs.Laws.Refusals.{Every, here, refused, every, judge-every}
+use Rattle.rules.specs.Laws.Refusals.{Every, everyValue, everyRefused, every, judge-every}
 use Rattle.rules.specs.Numbers.{rows, units, signed}
-use Rattle.rules.specs.Registers.{lookup, valueOr0, stepOr0, setValue, predefined}
+use Rattle.rules.specs.Registers.{registerOf, valueOr0, stepOr0, setValue, predefined}
 use Rattle.rules.specs.Texts.{Text, textOf, remove, defineString, openMacro, keepLine, closeMacro}
 use Rattle.rules.specs.declared.Mode.{Mode}
 use Rattle.rules.specs.declared.Mode.the-variants.{Plain, Copy}
-use Rattle.rules.specs.Escapes.{Scanned, scanned, refused as refusedScan}
-use Rattle.rules.specs.Laws.EscapesFit.{Fits, scan-fits}
+use Rattle.rules.specs.Escapes.{Scanned, scanned, scanRefused as refusedScan}
+use Rattle.rules.specs.Laws.EscapesFit.{ScannedFits, scan-fits}
 use Rattle.rules.specs.Names.{Named, one, tooLong, nameOf}
-use Rattle.rules.specs.Arguments.{Part, part, push, afterSpaces, Place, bare, byteOf, Fate, keeps, drops, ended, fate, upTo, word, condition, stringText, first, arguments}
-use Rattle.rules.specs.Lines.{named, lineBy, lineOf, isClosing, holds}
+use Rattle.rules.specs.Arguments.{Part, part, push, afterSpaces, Place, bare, byteOf, Fate, keeps, drops, ended, fate, upTo, firstWord, condition, stringText, first, arguments}
+use Rattle.rules.specs.Lines.{namedLine, lineBy, lineOf, isClosing, holds}
 use Rattle.stream.specs.Machine.{Below, Falls}
-use Rattle.rules.specs.Filling.{Word, joinWord, joinByte, words, leads, standing, after, gapAfter, Collected, withNext, joined, begin, begun as begunLayout, Placed, all, full, fits, place}
+use Rattle.rules.specs.Filling.{Word, joinWord, joinByte, words, leads, standing, after, gapAfter, Collected, withNext, joined, begin, begun as begunLayout, Placed, allPlaced, full, fits, place}
 use Rattle.rules.specs.Traps.{seenAt, plant, removeTrap}
 use Rattle.rules.specs.Laws.Traps.{nearest-above}
-use Rattle.rules.specs.State.{State, Line, text, control, ignored, Item, reading, fresh, again, others, acts, ejects, refuse, close, Definition, seen}
+use Rattle.rules.specs.State.{State, Line, plainText, control, ignored, Item, reading, fresh, again, others, acts, ejects, refuse, close, Definition, seen}
 use Rattle.rules.specs.StateSetters.{withStack, withPage, withLayout, withCollected, withStored, withInput, withRegisters, withTexts, withOpened, withTraps}
 use Rattle.stream.specs.Answers.{Closing, done}
 use Rattle.rules.specs.Rows.{Next, linesOf, theEnd as endItem, pushIf, call, userText, springText, spring, startIf, startPage, endPage, withUsed, reach, down, break, rowsBelow, fewer, skip, heldIf, ejectIf, eject, lastPage, ejectLast, endFrom, beginEnd}
-use Rattle.rules.specs.TextLines.{breaksIf, wayOf, asItStands, counted, othersOf, nextGap, filled, fillFrom, fill, blankFrom, gapHere, textWay, textLine}
+use Rattle.rules.specs.TextLines.{breaksIf, textLineCase, asItStands, counted, othersOf, nextGap, filled, fillFrom, fill, blankFrom, gapHere, textWay, textLine}
 use Rattle.rules.specs.declared.Breaking.{Breaking}
 use Rattle.rules.specs.declared.Breaking.the-variants.{Br, Sp, Bp, Sets}
 use Rattle.rules.specs.declared.TableChange.{TableChange}
@@ -41,8 +41,8 @@ use Rattle.rules.specs.declared.Request.the-variants.{Breaks, Lays, Chan
 use Rattle.rules.specs.Requests.{traits, startsPage, modeOf}
 use Rattle.rules.specs.Settings.{Layout}
 use Rattle.rules.specs.Laws.Settings.{PageAbove, set-line-page, set-page-above}
-use Rattle.rules.specs.Acts.{given, settles, argument, onName, free, spacing, laidOut, act, newValue, newStep, writeIf, writeRegister, writtenBack, defineText, defineFrom, openText, removeIf, removeText, plantAt, plantTrap, follows, ifLine, change, defines, decide}
-use Rattle.rules.specs.ControlLines.{Meaning, calls, requests, nothing, meaningOf, prefixOf, heldAfter, heldFirst, breakOrAct, startOrBreak, obey, onScan, expand, controlLine, freshLine, keepBody, bodyLine, dealFrom, deal, dealAgain}
+use Rattle.rules.specs.Acts.{onValue, settles, argumentAt, onName, free, spacing, laidOut, act, newValue, newStep, writeIf, writeRegister, writtenBack, defineText, defineFrom, openText, removeIf, removeText, plantAt, plantTrap, follows, ifLine, change, defines, decide}
+use Rattle.rules.specs.ControlLines.{Meaning, calls, meansRequest, nothing, meaningOf, prefixOf, heldAfter, heldFirst, breakOrAct, startOrBreak, obey, onScan, expand, controlLine, freshLine, keepBody, bodyLine, dealFrom, deal, dealAgain}
 use Rattle.rules.specs.Session.{leave, readLine, work, withBegun, gather, takeBy, takeByte, lastLine, readEnd, workEnd, idle, stepFrom, step}
 use Rattle.rules.specs.Load.{Good, lineLoad, freshLoad, itemLoad, stackLoad, collectedLoad, firstLoad, endLoad, baseLoad, weigh, load, byteLoad, formatter}
 
@@ -132,11 +132,11 @@ rows-below s g = let h = nearest-above (s .layout .page) (s .page .used) (s .lay
 
 -- words
 abbrev Shorter : ℕ → Placed → Type 0
-Shorter n (all c) = Unit
+Shorter n (allPlaced c) = Unit
 Shorter n (full c w ws) = length ws < n
 
 shorter : (n k : ℕ) (x : Placed) → n ≤ k → Shorter n x → Shorter k x
-shorter n k (all c) h i = tt
+shorter n k (allPlaced c) h i = tt
 shorter n k (full c w ws) h i = omega arith
 
 place-test : (t : Bool) (c : Collected) (w : Word) (ws : List Word) → Shorter (length ws) (place (joined w c) ws)
@@ -197,17 +197,17 @@ spaces-short [] = omega arith
 spaces-short (b ∷ l) = spaces-test (eqb b space) b l (spaces-short l)
 
 condition-short : (l : List ℕ) → Parts (length l) (condition l)
-unfolding condition word
+unfolding condition firstWord
 condition-short l = omega (arith, spaces-short l, upTo-short bare (afterSpaces l), spaces-short (upTo bare (afterSpaces l) .rest))
 
-named-load : (n : Named) (q : Bool) (l : List ℕ) → itemLoad (again (named n q l)) ≤ lineLoad (length l)
-named-load Named.none q l = omega arith
+named-load : (n : Named) (q : Bool) (l : List ℕ) → itemLoad (again (namedLine n q l)) ≤ lineLoad (length l)
+named-load Named.noName q l = omega arith
 named-load (one n) q l = omega arith
 named-load tooLong q l = omega arith
 
-word-load : (q : Bool) (b : ℕ) (l : List ℕ) → itemLoad (again (named (nameOf (word l .part)) q (word l .rest))) ≤ lineLoad (suc (length l))
-unfolding word
-word-load q b l = omega (arith, named-load (nameOf (word l .part)) q (word l .rest), upTo-short bare l)
+word-load : (q : Bool) (b : ℕ) (l : List ℕ) → itemLoad (again (namedLine (nameOf (firstWord l .part)) q (firstWord l .rest))) ≤ lineLoad (suc (length l))
+unfolding firstWord
+word-load q b l = omega (arith, named-load (nameOf (firstWord l .part)) q (firstWord l .rest), upTo-short bare l)
 
 lineBy-load : (t q : Bool) (b : ℕ) (l : List ℕ) → itemLoad (again (lineBy t q b l)) ≤ lineLoad (suc (length l))
 lineBy-load true q b l = word-load true b l
@@ -277,7 +277,7 @@ module _ (p : Printer) where
   -- a text line
   filled-low : (x : Placed) (g : ℕ) (s : State) (k m : ℕ) → Good s → Shorter k x
       → baseLoad (withCollected none s) + 1100 + stackLoad (s .input .stack) + 2000 * k + 103 < m → Low (filled x g s) m
-  filled-low (all c) g s k m h sh i = under (withCollected (some (withNext g c)) s) m h (omega arith)
+  filled-low (allPlaced c) g s k m h sh i = under (withCollected (some (withNext g c)) s) m h (omega arith)
   filled-low (full c w ws) g s k m h sh i =
       down-low 1 (othersOf ws g) (withCollected (some (withNext (nextGap ws g) (begin (s .layout) w))) (withLayout (begunLayout (s .layout)) s)) m h
       (omega (arith, others-load ws g (s .input .stack)))
@@ -300,13 +300,13 @@ module _ (p : Printer) where
 
   breaks-low : (t : Bool) (c : Collected) (ws : List Word) (l : List ℕ) (s : State) (m : ℕ) → Good s → s .collected ≡ some c → length ws ≤ length l
       → baseLoad s + stackLoad (s .input .stack) + lineLoad (length l) < m → Low (textWay (breaksIf t c) ws l s) m
-  breaks-low true c ws l s m g e n h = broken-low c (again (text l) ∷ []) s m g e (omega arith)
+  breaks-low true c ws l s m g e n h = broken-low c (again (plainText l) ∷ []) s m g e (omega arith)
   breaks-low false c ws l s m g e n h =
       fill-low (after (gapHere (s .collected)) (standing ws)) (gapAfter ws) s m g (omega (arith, led-length (gapHere (s .collected)) ws))
 
   way-low : (q : ℕ) (ws : List Word) (c : Option Collected) (t : Bool) (l : List ℕ) (s : State) (m : ℕ) → Good s → s .page .number ≡ q → s .collected ≡ c
-      → length ws ≤ length l → baseLoad s + stackLoad (s .input .stack) + lineLoad (length l) < m → Low (textWay (wayOf q ws c t) ws l s) m
-  way-low zero ws c t l s m g d e n h = startPage-low (again (text l) ∷ []) s m g (omega (arith, ap firstLoad d))
+      → length ws ≤ length l → baseLoad s + stackLoad (s .input .stack) + lineLoad (length l) < m → Low (textWay (textLineCase q ws c t) ws l s) m
+  way-low zero ws c t l s m g d e n h = startPage-low (again (plainText l) ∷ []) s m g (omega (arith, ap firstLoad d))
   way-low (suc q) [] c t l s m g d e n h = blank-low (s .collected) s m g refl (omega arith)
   way-low (suc q) (w ∷ ws) none true l s m g d e n h = down-low 1 [] (withLayout (counted (s .layout)) s) m g (omega arith)
   way-low (suc q) (w ∷ ws) none false l s m g d e n h =
@@ -319,70 +319,70 @@ module _ (p : Printer) where
   text-low l s m g h = way-low (s .page .number) (words l) (s .collected) (asItStands (s .layout)) l s m g refl refl (words-short l) h
 
   -- requests
-  given-low : {A : Type 0} (j : Judged A) (s : State) (k : A → Next) (m : ℕ) → Good s → 0 < m → ((a : A) → Low (k a) m) → Low (given j s k) m
+  given-low : {A : Type 0} (j : Judged A) (s : State) (k : A → Next) (m : ℕ) → Good s → 0 < m → ((a : A) → Low (k a) m) → Low (onValue j s k) m
   given-low (value a) s k m g h f = f a
   given-low (bad n) s k m g h f = refuse-low n s m g h
 
   -- a new layout with the same page length
   layout-low : {j : Judged Layout} (s : State) (m : ℕ) → Good s → Every (λ y. y .page ≡ s .layout .page) j
       → suc (baseLoad s + stackLoad (s .input .stack)) < m → Low (laidOut j s) m
-  layout-low s m g (here {a = y} e) h = under (withLayout y s) m (rw e g) (omega arith)
-  layout-low s m g (refused {n = n}) h = refuse-low n s m g (omega arith)
+  layout-low s m g (everyValue {a = y} e) h = under (withLayout y s) m (rw e g) (omega arith)
+  layout-low s m g (everyRefused {n = n}) h = refuse-low n s m g (omega arith)
 
   -- a new layout whose page is above the rows used
   above-low : {j : Judged Layout} (s : State) (m : ℕ) → Good s → Every (PageAbove (s .page .used)) j
       → baseLoad s + stackLoad (s .input .stack) + 1101 < m → Low (laidOut j s) m
-  above-low s m g (here {a = y} e) h = under (withLayout y s) m e (omega arith)
-  above-low s m g (refused {n = n}) h = refuse-low n s m g (omega arith)
+  above-low s m g (everyValue {a = y} e) h = under (withLayout y s) m e (omega arith)
+  above-low s m g (everyRefused {n = n}) h = refuse-low n s m g (omega arith)
 
   act-low : (r : Breaking) (l : List ℕ) (s : State) (m : ℕ) → Good s → baseLoad s + stackLoad (s .input .stack) + 1002 < m → Low (act p r l s) m
   unfolding act
   act-low Br l s m g h = under s m g (omega arith)
-  act-low Sp l s m g h = given-low (spacing p (argument 0 l)) s (λ n. skip n s) m g (omega arith) (λ n. skip-low n s m g h)
+  act-low Sp l s m g h = given-low (spacing p (argumentAt 0 l)) s (λ n. skip n s) m g (omega arith) (λ n. skip-low n s m g h)
   act-low Bp l s m g h = eject-low (s .page .number) s m g h
-  act-low (Sets r) l s m g h = layout-low s m g (set-line-page p r (argument 0 l) (s .layout)) (omega arith)
+  act-low (Sets r) l s m g h = layout-low s m g (set-line-page p r (argumentAt 0 l) (s .layout)) (omega arith)
 
   -- requests that do not break: what does not change the page, the stack or the stored lines falls at once
   settles-low : {j : Judged State} (s : State) (m : ℕ) → Good s → 0 < m → Every (Under m) j → Low (settles j s) m
-  settles-low s m g h (here u) = u
-  settles-low s m g h (refused {n = n}) = refuse-low n s m g h
+  settles-low s m g h (everyValue u) = u
+  settles-low s m g h (everyRefused {n = n}) = refuse-low n s m g h
 
   name-every : (n : Named) (s : State) (k : Name → Judged State) (m : ℕ) → Good s → suc (baseLoad s + stackLoad (s .input .stack)) < m
       → ((n : Name) → Every (Under m) (k n)) → Every (Under m) (onName n s k)
-  name-every Named.none s k m g h f = here (under s m g h)
-  name-every tooLong s k m g h f = refused
+  name-every Named.noName s k m g h f = everyValue (under s m g h)
+  name-every tooLong s k m g h f = everyRefused
   name-every (one n) s k m g h f = f n
 
   write-every : (t : Bool) (v l : List ℕ) (s : State) (n : Name) (m : ℕ) → Good s → suc (baseLoad s + stackLoad (s .input .stack)) < m
       → Every (Under m) (writeIf p t v l s n)
-  write-every true v l s n m g h = refused
+  write-every true v l s n m g h = everyRefused
   write-every false v l s n m g h =
       every (units (p .pitch) v) _ (λ x.
-      every (newValue (signed v) (valueOr0 (lookup n (s .tables .registers))) x) _ (λ y.
-      every (newStep p l (stepOr0 (lookup n (s .tables .registers)))) _ (λ z.
-      every (setValue n y z (s .tables .registers)) _ (λ rs. here (under (withRegisters rs s) m g h)))))
+      every (newValue (signed v) (valueOr0 (registerOf n (s .tables .registers))) x) _ (λ y.
+      every (newStep p l (stepOr0 (registerOf n (s .tables .registers)))) _ (λ z.
+      every (setValue n y z (s .tables .registers)) _ (λ rs. everyValue (under (withRegisters rs s) m g h)))))
 
   register-every : (v l : List ℕ) (s : State) (n : Name) (m : ℕ) → Good s → suc (baseLoad s + stackLoad (s .input .stack)) < m → Every (Under m) (writeRegister p v l s n)
-  register-every [] l s n m g h = here (under s m g h)
+  register-every [] l s n m g h = everyValue (under s m g h)
   register-every (b ∷ v) l s n m g h = write-every (predefined n) (b ∷ v) l s n m g h
 
   define-every : (f : Option Part) (i : Bool) (s : State) (m : ℕ) → Good s → suc (baseLoad s + stackLoad (s .input .stack)) < m → Every (Under m) (defineFrom f i s)
-  define-every none i s m g h = here (under s m g h)
+  define-every none i s m g h = everyValue (under s m g h)
   define-every (some f) i s m g h =
       name-every (nameOf (f .part)) s (defineText s (writtenBack i (stringText (f .rest)))) m g h
-      (λ n. every (free s n) _ (λ k. every (defineString k (writtenBack i (stringText (f .rest))) (s .tables .texts)) _ (λ ts. here (under (withTexts ts s) m g h))))
+      (λ n. every (free s n) _ (λ k. every (defineString k (writtenBack i (stringText (f .rest))) (s .tables .texts)) _ (λ ts. everyValue (under (withTexts ts s) m g h))))
 
   remove-every : (t : Bool) (s : State) (n : Name) (m : ℕ) → Good s → suc (baseLoad s + stackLoad (s .input .stack)) < m → Every (Under m) (removeIf t s n)
-  remove-every true s n m g h = every (free s n) _ (λ k. here (under (withTexts (remove k (s .tables .texts)) s) m g h))
-  remove-every false s n m g h = here (under s m g h)
+  remove-every true s n m g h = every (free s n) _ (λ k. everyValue (under (withTexts (remove k (s .tables .texts)) s) m g h))
+  remove-every false s n m g h = everyValue (under s m g h)
 
   plantAt-every : (r : ℤ) (n : Named) (s : State) (m : ℕ) → Good s → suc (baseLoad s + stackLoad (s .input .stack)) < m → Every (Under m) (plantAt r n s)
-  plantAt-every r Named.none s m g h = here (under (withTraps (removeTrap r (s .tables .traps)) s) m g h)
-  plantAt-every r tooLong s m g h = refused
+  plantAt-every r Named.noName s m g h = everyValue (under (withTraps (removeTrap r (s .tables .traps)) s) m g h)
+  plantAt-every r tooLong s m g h = everyRefused
   plantAt-every r (one n) s m g h = judge-every (leb (length (plant r n (s .tables .traps))) 16) 11 (withTraps (plant r n (s .tables .traps)) s) (under (withTraps (plant r n (s .tables .traps)) s) m g h)
 
   plant-every : (r l : List ℕ) (s : State) (m : ℕ) → Good s → suc (baseLoad s + stackLoad (s .input .stack)) < m → Every (Under m) (plantTrap p r l s)
-  plant-every [] l s m g h = here (under s m g h)
+  plant-every [] l s m g h = everyValue (under s m g h)
   plant-every (b ∷ r) l s m g h = every (rows (p .pitch) (b ∷ r)) _ (λ n. plantAt-every n (nameOf l) s m g h)
 
   follows-low : (t : Bool) (l : List ℕ) (s : State) (m : ℕ) → Good s → suc (baseLoad s + stackLoad (s .input .stack) + lineLoad (length l)) < m → Under m (follows t l s)
@@ -392,23 +392,23 @@ module _ (p : Printer) where
 
   if-every : (c r : List ℕ) (s : State) (m n : ℕ) → Good s → length c + length r ≤ n → baseLoad s + stackLoad (s .input .stack) + lineLoad n < m
       → Every (Under m) (ifLine p c r s)
-  if-every [] r s m n g e h = here (under s m g (omega arith))
-  if-every (b ∷ c) r s m n g e h = every (holds p (s .page .number) (b ∷ c)) _ (λ v. here (follows-low v r s m g (omega arith)))
+  if-every [] r s m n g e h = everyValue (under s m g (omega arith))
+  if-every (b ∷ c) r s m n g e h = every (holds p (s .page .number) (b ∷ c)) _ (λ v. everyValue (follows-low v r s m g (omega arith)))
 
   change-every : (r : TableChange) (l : List ℕ) (s : State) (m : ℕ) → Good s → suc (baseLoad s + stackLoad (s .input .stack)) < m
       → Every (Under m) (change p r l s)
   unfolding change
   change-every Nr l s m g h =
-      name-every (nameOf (argument 0 l)) s (writeRegister p (argument 1 l) (argument 2 l) s) m g h
-      (λ n. register-every (argument 1 l) (argument 2 l) s n m g h)
+      name-every (nameOf (argumentAt 0 l)) s (writeRegister p (argumentAt 1 l) (argumentAt 2 l) s) m g h
+      (λ n. register-every (argumentAt 1 l) (argumentAt 2 l) s n m g h)
   change-every De l s m g h =
-      name-every (nameOf (argument 0 l)) s (openText s) m g h
+      name-every (nameOf (argumentAt 0 l)) s (openText s) m g h
       (λ n. every (free s n) _ (λ k. every (openMacro k (s .tables .texts)) _
-      (λ ts. here (under (withOpened (some (record { name = k; body = [] })) (withTexts ts s)) m g h))))
+      (λ ts. everyValue (under (withOpened (some (record { name = k; body = [] })) (withTexts ts s)) m g h))))
   change-every Rm l s m g h =
-      name-every (nameOf (argument 0 l)) s (removeText s) m g h
+      name-every (nameOf (argumentAt 0 l)) s (removeText s) m g h
       (λ n. remove-every (isThere (textOf n (s .tables .texts))) s n m g h)
-  change-every Wh l s m g h = plant-every (argument 0 l) (argument 1 l) s m g h
+  change-every Wh l s m g h = plant-every (argumentAt 0 l) (argumentAt 1 l) s m g h
 
   decide-every : (l : List ℕ) (s : State) (m : ℕ) → Good s → baseLoad s + stackLoad (s .input .stack) + lineLoad (length l) < m
       → Every (Under m) (decide p l s)
@@ -439,26 +439,26 @@ module _ (p : Printer) where
   unfolding defines
   obey-low nothing i q n l s m g h = under s m g (omega arith)
   obey-low (calls t) i q n l s m g h = call-low t (arguments l) [] s m g (omega arith)
-  obey-low (requests (Breaks r)) i q n l s m g h = request-low (eqb (s .page .number) 0) (startsPage q r) q r n l s m g refl h
-  obey-low (requests (Lays r)) i q n l s m g h = above-low s m g (set-page-above p r (s .page .used) (argument 0 l) (s .layout) g) (omega arith)
-  obey-low (requests (Changes r)) i q n l s m g h = settles-low s m g (omega arith) (change-every r l s m g (omega arith))
-  obey-low (requests Ds) i q n l s m g h = settles-low s m g (omega arith) (define-every (first l) i s m g (omega arith))
-  obey-low (requests If) i q n l s m g h = settles-low s m g (omega arith) (decide-every l s m g h)
+  obey-low (meansRequest (Breaks r)) i q n l s m g h = request-low (eqb (s .page .number) 0) (startsPage q r) q r n l s m g refl h
+  obey-low (meansRequest (Lays r)) i q n l s m g h = above-low s m g (set-page-above p r (s .page .used) (argumentAt 0 l) (s .layout) g) (omega arith)
+  obey-low (meansRequest (Changes r)) i q n l s m g h = settles-low s m g (omega arith) (change-every r l s m g (omega arith))
+  obey-low (meansRequest Ds) i q n l s m g h = settles-low s m g (omega arith) (define-every (first l) i s m g (omega arith))
+  obey-low (meansRequest If) i q n l s m g h = settles-low s m g (omega arith) (decide-every l s m g h)
 
   again-low : (x : Line) (s : State) (m : ℕ) → Good s → baseLoad s + stackLoad (s .input .stack) + itemLoad (again x) < m → Low (dealAgain p x s) m
   unfolding dealAgain
   again-low ignored s m g h = under s m g (omega arith)
-  again-low (text l) s m g h = text-low l s m g h
+  again-low (plainText l) s m g h = text-low l s m g h
   again-low (control q n l) s m g h = obey-low (meaningOf n s) true q n l s m g h
 
   -- lines as they are taken: an expanded one has at most 512 bytes
-  scan-low : (x : Scanned) (s : State) (k : List ℕ → State → Next) (m j : ℕ) → Good s → 0 < m → Fits (512 - j) x
+  scan-low : (x : Scanned) (s : State) (k : List ℕ → State → Next) (m j : ℕ) → Good s → 0 < m → ScannedFits (512 - j) x
       → ((l : List ℕ) (t : State) → Good t → baseLoad t + stackLoad (t .input .stack) ≡ baseLoad s + stackLoad (s .input .stack) → length l ≤ 512 → Low (k l t) m)
       → Low (onScan x s k) m
   scan-low (scanned l rs) s k m j g h f c = c l (withRegisters rs s) g refl (omega arith)
   scan-low (refusedScan n rs) s k m j g h f c = refuse-low n (withRegisters rs s) m g h
 
-  expand-fits : (args : List (List ℕ)) (d : Mode) (j : ℕ) (l : List ℕ) (s : State) → Fits (512 - j) (expand p args d j l s)
+  expand-fits : (args : List (List ℕ)) (d : Mode) (j : ℕ) (l : List ℕ) (s : State) → ScannedFits (512 - j) (expand p args d j l s)
   expand-fits args d j l s = scan-fits (record { seen = seen p s; texts = s .tables .texts; arguments = args }) d (s .tables .registers) j l
 
   control-low : (x : Meaning) (args : List (List ℕ)) (q : Bool) (n : Name) (l : List ℕ) (s : State) (m : ℕ) → Good s
@@ -467,13 +467,13 @@ module _ (p : Printer) where
   control-low (calls t) args q n l s m g h =
       scan-low (expand p args Plain (prefixOf n) l s) s (obey p (calls t) false q n) m (prefixOf n) g (omega arith) (expand-fits args Plain (prefixOf n) l s)
       (λ e u v w z. obey-low (calls t) false q n e u m v (omega arith))
-  control-low (requests r) args q n l s m g h =
-      scan-low (expand p args (modeOf r) (prefixOf n) l s) s (obey p (requests r) false q n) m (prefixOf n) g (omega arith) (expand-fits args (modeOf r) (prefixOf n) l s)
-      (λ e u v w z. obey-low (requests r) false q n e u m v (omega arith))
+  control-low (meansRequest r) args q n l s m g h =
+      scan-low (expand p args (modeOf r) (prefixOf n) l s) s (obey p (meansRequest r) false q n) m (prefixOf n) g (omega arith) (expand-fits args (modeOf r) (prefixOf n) l s)
+      (λ e u v w z. obey-low (meansRequest r) false q n e u m v (omega arith))
 
   fresh-low : (x : Line) (args : List (List ℕ)) (s : State) (m : ℕ) → Good s → baseLoad s + stackLoad (s .input .stack) + freshLoad < m → Low (freshLine p x args s) m
   fresh-low ignored args s m g h = under s m g (omega arith)
-  fresh-low (text l) args s m g h =
+  fresh-low (plainText l) args s m g h =
       scan-low (expand p args Plain 0 l s) s textLine m 0 g (omega arith) (expand-fits args Plain 0 l s) (λ e u v w z. text-low e u m v (omega arith))
   fresh-low (control q n l) args s m g h = control-low (meaningOf n s) args q n l s m g h
 

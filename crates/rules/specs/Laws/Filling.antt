@@ -9,7 +9,7 @@ use lib.Dec.{eqb}
 use lib.ListN.{length, replicate, length-append, length-replicate}
 use borrow.Author.Tests.{leb-true}
 use Rattle.rules.specs.Bytes.{space, mark, fixedBlank, gapStart}
-use Rattle.rules.specs.Filling.{Word, Collected, gapCells, countGap, gaps, moreIf, fewAfter, spreadCell, spread, share, level, adjusted, width, span, countIf, spelled, printedByte, printed, unlessBlank, trimmed, Placed, all, full, fits, joined, place}
+use Rattle.rules.specs.Filling.{Word, Collected, gapCells, countGap, gaps, moreIf, fewAfter, spreadCell, spread, share, level, adjusted, width, span, countIf, spelled, printedByte, printed, unlessBlank, trimmed, Placed, allPlaced, full, fits, joined, place}
 
 printed-byte : (t f : Bool) (b : ℕ) (x y : List ℕ) → printedByte t f b (x ++ y) ≡ printedByte t f b x ++ y
 printed-byte true f b x y = refl
@@ -217,7 +217,7 @@ more c d w e g = record {
 
 -- what `place` gives, in both cases
 abbrev Gives : Collected → List Word → Placed → Type 0
-Gives c ws (all d) = (d .cells ≡ c .cells ++ laid ws) × Continues c d
+Gives c ws (allPlaced d) = (d .cells ≡ c .cells ++ laid ws) × Continues c d
 Gives c ws (full d w rest) = (d .cells ++ laid (w ∷ rest) ≡ c .cells ++ laid ws) × Continues c d × (fits d w ≡ false)
 
 onward : (c : Collected) (w : Word) (l : List ℕ) → joined w c .cells ++ l ≡ c .cells ++ (gapCells (w .gap) ++ (printed (w .bytes) ++ l))
@@ -230,16 +230,16 @@ place-gives c [] = (sym (append-nil (c .cells)), stays c)
 place-gives c (w ∷ ws) = go (fits c w) refl (place (joined w c) ws) (place-gives (joined w c) ws)
   where
     go : (t : Bool) → fits c w ≡ t → (x : Placed) → Gives (joined w c) ws x → Gives c (w ∷ ws) (elim t [ true ↦ x | false ↦ full c w ws ])
-    go true e (all d) g = (g .0 ∙ onward c w (laid ws), more c d w e (g .1))
+    go true e (allPlaced d) g = (g .0 ∙ onward c w (laid ws), more c d w e (g .1))
     go true e (full d v rest) g = (g .0 ∙ onward c w (laid ws), more c d w e (g .1), g .2)
     go false e x g = (refl, stays c, e)
 
 -- Sanity: all words placed: they stand behind those collected.
-pub place-all : (c d : Collected) (ws : List Word) → place c ws ≡ all d → d .cells ≡ c .cells ++ laid ws
+pub place-all : (c d : Collected) (ws : List Word) → place c ws ≡ allPlaced d → d .cells ≡ c .cells ++ laid ws
 place-all c d ws h = subst (Gives c ws) h (place-gives c ws) .0
 
 -- Sanity: all words placed: the line goes on.
-pub place-all-continues : (c d : Collected) (ws : List Word) → place c ws ≡ all d → Continues c d
+pub place-all-continues : (c d : Collected) (ws : List Word) → place c ws ≡ allPlaced d → Continues c d
 place-all-continues c d ws h = subst (Gives c ws) h (place-gives c ws) .1
 
 module _ (c d : Collected) (w : Word) (rest ws : List Word) (h : place c ws ≡ full d w rest) where

@@ -17,7 +17,7 @@ use Rattle.rules.specs.declared.Register.{Register}
 use Rattle.rules.specs.declared.Turn.the-variants.{Still, Up, Down}
 use Rattle.rules.specs.Texts.{Text, text, textOf}
 use Rattle.rules.specs.declared.Kind.the-variants.{Macro, String}
-use Rattle.rules.specs.Escapes.{Surroundings, Scanned, scanned, refused, Wanted, number, aString, Escape, outside, slash, numbering, naming, long, longer, argument, Action, writes, begins, holds, wants, gives, ends, unlisted, listed, listedInCopy, named, numbered, actionOf, Scan, withRegisters, Effect, goes, stops, writeBy, atEnd, holdBy, beginBy, enterBy, enter, showIt, escaped, given, effectOf, Next, reads, over, next, before, follow, run, scan}
+use Rattle.rules.specs.Escapes.{Surroundings, Scanned, scanned, scanRefused, Wanted, number, aString, Escape, outside, slash, numbering, naming, long, longer, argument, Action, writes, begins, holdsEscape, wants, gives, ends, unlisted, listed, listedInCopy, namedBy, numbered, actionOf, Scan, withScanRegisters, Effect, goesOn, stopsScan, writeBy, atEnd, holdBy, beginBy, enterBy, enter, showIt, escaped, argumentGiven, effectOf, NextByte, reads, over, nextByte, writtenBefore, follow, run, scan}
 use Rattle.rules.specs.declared.Mode.{Mode}
 use Rattle.rules.specs.declared.Mode.the-variants.{Plain, Copy}
 use Rattle.rules.specs.Filling.{Word, Collected, gapCells, joinWord, joinByte, words, standing, after, gaps, printedByte, printed, joined}
@@ -58,7 +58,7 @@ escaped-clear (b ∷ l) h =
     let t : List (ℕ × List ℕ) = (backslash, bytes "\\e") ∷ (mark, bytes "\\&") ∷ (fixedBlank, bytes "\\ ") ∷ [] in
     clear-append (entry t (b ∷ []) b) (escaped l) (entry-each Clear t (b ∷ []) b ((refl, (refl, tt)), ((refl, (refl, tt)), ((refl, (refl, tt)), tt))) (h .0, tt)) (escaped-clear l (h .1))
 
-given-clear : (m : Mode) (u : List (List ℕ)) (a : List ℕ) → Clear a → Clear (given m u a)
+given-clear : (m : Mode) (u : List (List ℕ)) (a : List ℕ) → Clear a → Clear (argumentGiven m u a)
 given-clear m (t ∷ u ∷ us) a h = tt
 given-clear Plain [] a h = h
 given-clear Plain (t ∷ []) a h = h
@@ -73,22 +73,22 @@ argument-clear (l ∷ ls) (suc k) h = argument-clear ls k (h .1)
 -- an expanded line without the code; nothing is said of a refused one
 abbrev pub ClearLine : Scanned → Type 0
 ClearLine (scanned l rs) = Clear l
-ClearLine (refused n rs) = Unit
+ClearLine (scanRefused n rs) = Unit
 
 abbrev ClearAction : Action → Type 0
-ClearAction a = elim a [ writes l ↦ Clear l | begins ↦ Unit | holds e ↦ Unit | wants x n ↦ Unit | gives k ↦ Unit | ends ↦ Unit | unlisted ↦ Unit ]
+ClearAction a = elim a [ writes l ↦ Clear l | begins ↦ Unit | holdsEscape e ↦ Unit | wants x n ↦ Unit | gives k ↦ Unit | ends ↦ Unit | unlisted ↦ Unit ]
 
 abbrev ClearEffect : Effect → Type 0
-ClearEffect (goes l s) = Clear l × Each Clear (s .unread)
-ClearEffect (stops r) = ClearLine r
+ClearEffect (goesOn l s) = Clear l × Each Clear (s .unread)
+ClearEffect (stopsScan r) = ClearLine r
 
-abbrev ClearNext : Next → Type 0
+abbrev ClearNext : NextByte → Type 0
 ClearNext (reads b s) = (eqb b gapStart ≡ false) × Each Clear (s .unread)
 ClearNext (over rs) = Unit
 
-named-clear : (x : Wanted) (b : ℕ) → ClearAction (named x b)
+named-clear : (x : Wanted) (b : ℕ) → ClearAction (namedBy x b)
 unfolding firstWhere
-named-clear x b = entry-each ClearAction ((byte "(", holds (long x)) ∷ []) (wants x (oneByte b)) b (tt, tt) tt
+named-clear x b = entry-each ClearAction ((byte "(", holdsEscape (long x)) ∷ []) (wants x (oneByte b)) b (tt, tt) tt
 
 action-clear : (m : Mode) (e : Escape) (b : ℕ) → eqb b gapStart ≡ false → ClearAction (actionOf m e b)
 unfolding actionOf
@@ -96,7 +96,7 @@ action-clear m outside b h = entry-each ClearAction ((backslash, begins) ∷ [])
 action-clear Plain slash b h = entry-each ClearAction listed unlisted b ((refl, tt), ((refl, tt), ((refl, tt), ((refl, tt), ((refl, tt), (tt, (tt, (tt, (tt, tt))))))))) tt
 action-clear Copy slash b h = entry-each ClearAction listedInCopy (writes (backslash ∷ b ∷ [])) b ((refl, tt), ((refl, tt), (tt, (tt, (tt, (tt, tt)))))) (refl, (h, tt))
 action-clear m numbering b h =
-    entry-each ClearAction ((byte "+", holds (naming (number Up))) ∷ (byte "-", holds (naming (number Down))) ∷ []) (named (number Still) b) b (tt, (tt, tt)) (named-clear (number Still) b)
+    entry-each ClearAction ((byte "+", holdsEscape (naming (number Up))) ∷ (byte "-", holdsEscape (naming (number Down))) ∷ []) (namedBy (number Still) b) b (tt, (tt, tt)) (named-clear (number Still) b)
 action-clear m (naming x) b h = named-clear x b
 action-clear m (long x) b h = tt
 action-clear m (longer x a) b h = tt
@@ -111,18 +111,18 @@ enter-clear none s h i = (tt, i)
 enter-clear (some t) s h i = elim (t .kind) as (λ k. ClearEffect (enter (some (text (t .name) k (t .bytes))) s))
     [ Macro ↦ tt | String ↦ elim (leb (length (s .unread)) 8) as (λ x. ClearEffect (enterBy x (t .bytes) s)) [ true ↦ (tt, (h, i)) | false ↦ tt ] ]
 
-next-clear : (u : List (List ℕ)) (s : Scan) → Each Clear u → ClearNext (next u s)
+next-clear : (u : List (List ℕ)) (s : Scan) → Each Clear u → ClearNext (nextByte u s)
 next-clear [] s i = tt
 next-clear ([] ∷ u) s i = next-clear u s (i .1)
 next-clear ((b ∷ l) ∷ u) s i = (i .0 .0, (i .0 .1, i .1))
 
-before-clear : (l : List ℕ) (r : Scanned) → Clear l → ClearLine r → ClearLine (before l r)
+before-clear : (l : List ℕ) (r : Scanned) → Clear l → ClearLine r → ClearLine (writtenBefore l r)
 before-clear l (scanned x rs) h i = clear-append l x h i
-before-clear l (refused n rs) h i = tt
+before-clear l (scanRefused n rs) h i = tt
 
 follow-clear : (e : Effect) (k : Scan → Scanned) → ClearEffect e → ((s : Scan) → Each Clear (s .unread) → ClearLine (k s)) → ClearLine (follow e k)
-follow-clear (goes l s) k h f = before-clear l (k s) (h .0) (f s (h .1))
-follow-clear (stops r) k h f = h
+follow-clear (goesOn l s) k h f = before-clear l (k s) (h .0) (f s (h .1))
+follow-clear (stopsScan r) k h f = h
 
 -- The texts and the arguments that a line is expanded with have no such code.
 module _ (w : Surroundings) (m : Mode) (texts : Each (λ t. Clear (t .bytes)) (w .texts)) (args : Each Clear (w .arguments)) where
@@ -130,25 +130,25 @@ module _ (w : Surroundings) (m : Mode) (texts : Each (λ t. Clear (t .bytes)) (w
   unfolding textOf
   effect-clear (writes l) s h i = write-clear (leb (length l) (s .room)) l s h i
   effect-clear begins s h i = elim (atEnd (s .unread)) as (λ t. ClearEffect (beginBy t m s)) [ true ↦ elim m as (λ x. ClearEffect (beginBy true x s)) [ Plain ↦ tt | Copy ↦ write-clear (leb 1 (s .room)) (backslash ∷ []) s (refl, tt) i ] | false ↦ (tt, i) ]
-  effect-clear (holds e) s h i = elim (atEnd (s .unread)) as (λ t. ClearEffect (holdBy t e s)) [ true ↦ tt | false ↦ (tt, i) ]
+  effect-clear (holdsEscape e) s h i = elim (atEnd (s .unread)) as (λ t. ClearEffect (holdBy t e s)) [ true ↦ tt | false ↦ (tt, i) ]
   effect-clear (wants (number t) n) s h i = elim (stepRegister (w .seen) t n (s .registers)) as (λ r. ClearEffect (showIt r s))
-      [ value x ↦ write-clear (leb (length (decimal (x .0))) (s .room)) (decimal (x .0)) (withRegisters (x .1) s) (decimal-clear (x .0)) i | bad k ↦ tt ]
+      [ value x ↦ write-clear (leb (length (decimal (x .0))) (s .room)) (decimal (x .0)) (withScanRegisters (x .1) s) (decimal-clear (x .0)) i | bad k ↦ tt ]
   effect-clear (wants aString n) s h i = enter-clear (textOf n (w .texts)) s (first-each (λ t. Clear (t .bytes)) _ (w .texts) texts) i
   effect-clear (gives k) s h i =
-      let l = given m (s .unread) (getD (w .arguments) k []) in
+      let l = argumentGiven m (s .unread) (getD (w .arguments) k []) in
       write-clear (leb (length l) (s .room)) l s (given-clear m (s .unread) (getD (w .arguments) k []) (argument-clear (w .arguments) k args)) i
   effect-clear ends s h i = tt
   effect-clear unlisted s h i = tt
 
-  run-clear : (left : ℕ) (x : Next) → ClearNext x → ClearLine (run w m left x)
+  run-clear : (left : ℕ) (x : NextByte) → ClearNext x → ClearLine (run w m left x)
   unfolding run
   run-clear zero (over rs) h = tt
   run-clear zero (reads b s) h = tt
   run-clear (suc left) (over rs) h = tt
   run-clear (suc left) (reads b s) h =
-      follow-clear (effectOf w m (actionOf m (s .escape) b) s) (λ s'. run w m left (next (s' .unread) s'))
+      follow-clear (effectOf w m (actionOf m (s .escape) b) s) (λ s'. run w m left (nextByte (s' .unread) s'))
       (effect-clear (actionOf m (s .escape) b) s (action-clear m (s .escape) b (h .0)) (h .1))
-      (λ s' i. run-clear left (next (s' .unread) s') (next-clear (s' .unread) s' i))
+      (λ s' i. run-clear left (nextByte (s' .unread) s') (next-clear (s' .unread) s' i))
 
   -- Sanity: an expanded line has no such code, if the line has none.
   pub scan-clear : (rs : List Register) (prefix : ℕ) (l : List ℕ) → Clear l → ClearLine (scan w m rs prefix l)

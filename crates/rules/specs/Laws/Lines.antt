@@ -16,21 +16,21 @@ abbrev pub Without : ℕ → List ℕ → Type 0
 Without x [] = Unit
 Without x (b ∷ l) = (eqb b x ≡ false) × Without x l
 
-abbrev pub Begins : ℕ → List ℕ → Type 0
-Begins x [] = Unit
-Begins x (b ∷ l) = eqb b x ≡ true
+abbrev pub BeginsWith : ℕ → List ℕ → Type 0
+BeginsWith x [] = Unit
+BeginsWith x (b ∷ l) = eqb b x ≡ true
 
 apart : (b c : ℕ) (ws : List Word) → joinByte false b (joinByte true c ws) ≡ word 0 (b ∷ []) ∷ joinByte true c ws
 apart b c [] = refl
 apart b c (w ∷ ws) = refl
 
-word-ends : (b : ℕ) (l : List ℕ) → Begins space l → joinByte false b (words l) ≡ word 0 (b ∷ []) ∷ words l
+word-ends : (b : ℕ) (l : List ℕ) → BeginsWith space l → joinByte false b (words l) ≡ word 0 (b ∷ []) ∷ words l
 unfolding words
 word-ends b [] h = refl
 word-ends b (c ∷ l) h = rw h (apart b c (words l))
 
 -- a word at the front of a line
-pub words-run : (b : ℕ) (r l : List ℕ) → Without space (b ∷ r) → Begins space l → words ((b ∷ r) ++ l) ≡ word 0 (b ∷ r) ∷ words l
+pub words-run : (b : ℕ) (r l : List ℕ) → Without space (b ∷ r) → BeginsWith space l → words ((b ∷ r) ++ l) ≡ word 0 (b ∷ r) ∷ words l
 unfolding words
 words-run b [] l h i = rw (h .0) (word-ends b l i)
 words-run b (c ∷ r) l h i = rw (h .0, words-run c r l (h .1) i) refl
@@ -60,11 +60,11 @@ abbrev pub Formed : List Word → Type 0
 Formed [] = Unit
 Formed (w ∷ ws) = Solid (w .bytes) × Gapped ws × Formed ws
 
-begins : (g : ℕ) (l : List ℕ) → 0 < g → Begins space (replicate g space ++ l)
+begins : (g : ℕ) (l : List ℕ) → 0 < g → BeginsWith space (replicate g space ++ l)
 begins zero l h = absurd (omega arith)
 begins (suc g) l h = refl
 
-spelled-begins : (ws : List Word) → Gapped ws → Begins space (spelled ws)
+spelled-begins : (ws : List Word) → Gapped ws → BeginsWith space (spelled ws)
 unfolding spelled
 spelled-begins [] h = tt
 spelled-begins (w ∷ ws) h = begins (w .gap) (w .bytes ++ spelled ws) h
@@ -75,7 +75,7 @@ words-spaces zero l w ws h = h
 words-spaces (suc g) l w ws h = rw (words-spaces g l w ws h) refl
 
 -- a gap and a word at the front of a line
-pub words-gap : (g b : ℕ) (r l : List ℕ) → Without space (b ∷ r) → Begins space l → words (replicate g space ++ ((b ∷ r) ++ l)) ≡ word g (b ∷ r) ∷ words l
+pub words-gap : (g b : ℕ) (r l : List ℕ) → Without space (b ∷ r) → BeginsWith space l → words (replicate g space ++ ((b ∷ r) ++ l)) ≡ word g (b ∷ r) ∷ words l
 words-gap g b r l h i = words-spaces g ((b ∷ r) ++ l) (b ∷ r) (words l) (words-run b r l h i)
 
 -- a line of spaces has no words
@@ -84,7 +84,7 @@ unfolding words
 words-blank zero = refl
 words-blank (suc n) = rw (words-blank n)
 
-words-word : (b : List ℕ) (l : List ℕ) → Solid b → Begins space l → words (b ++ l) ≡ word 0 b ∷ words l
+words-word : (b : List ℕ) (l : List ℕ) → Solid b → BeginsWith space l → words (b ++ l) ≡ word 0 b ∷ words l
 words-word [] l h i = absurd h
 words-word (b ∷ r) l h i = words-run b r l h i
 

@@ -19,8 +19,8 @@ use Rattle.measure.specs.RoundingLaws.{abs-neg, no-larger}
 use Rattle.rules.specs.Bytes.{byte, firstWhere, inTable}
 use Rattle.rules.specs.Laws.Tables.{entry-each}
 use Rattle.rules.specs.Refusals.{value, bad, _>>=_}
-use Rattle.rules.specs.Laws.Refusals.{Every, here, refused, every, every-of, judge-every, tested-every, every-map, same-after}
-use Rattle.rules.specs.Numbers.{Read, within, truth, divisor, operate, operators, operatorsBeforeEqual, Joint, joins, stops, joinsOr, oneByteJoint, operatorBefore, jointOf, isDigit, digits, scaled, scaledOr, scaledBy, literalAt, Start, literal, opens, plus, minus, noTerm, startBy, startOf, closed, expressionBy, whole, term, onward, evaluate, rows, units}
+use Rattle.rules.specs.Laws.Refusals.{Every, everyValue, everyRefused, every, every-of, judge-every, tested-every, every-map, same-after}
+use Rattle.rules.specs.Numbers.{Read, within, truth, divisor, operate, operators, operatorsBeforeEqual, Joint, joins, stops, joinsOr, oneByteJoint, operatorBefore, jointOf, isDigit, digits, scaled, scaledOr, scaledBy, literalAt, Start, literal, opens, plus, minus, noTerm, startBy, startOf, parenthesized, expressionBy, whole, term, onward, evaluate, rows, units}
 use Rattle.rules.specs.declared.Operator.{Operator}
 use Rattle.rules.specs.declared.Operator.the-variants.{Add, Subtract, Multiply, Divide, Remainder, Less, Greater, AtMost, AtLeast, Equal, And, Or}
 
@@ -37,8 +37,8 @@ pub within-bounded : (z : ℤ) → Every Bounded (within z)
 within-bounded z = tested-every (leb (natAbs z) 1000000000) 6 z (leb-true (natAbs z) 1000000000)
 
 truth-bounded : (t : Bool) → Every Bounded (truth t)
-truth-bounded true = here {a = pos 1} (omega arith)
-truth-bounded false = here {a = pos 0} (omega arith)
+truth-bounded true = everyValue {a = pos 1} (omega arith)
+truth-bounded false = everyValue {a = pos 0} (omega arith)
 
 -- every operator's result is bounded (`search` finds the result: what an operator gives is said only in Numbers)
 pub operate-bounded : (o : Operator) (a b : ℤ) → Every Bounded (operate o a b)
@@ -55,13 +55,13 @@ operate-bounded Equal a b = search truth-bounded
 operate-bounded And a b = search truth-bounded
 operate-bounded Or a b = search truth-bounded
 
-closed-bounded : (v : ℤ) (l : List ℕ) → Bounded v → Every BoundedRead (closed v l)
-closed-bounded v [] h = refused
+closed-bounded : (v : ℤ) (l : List ℕ) → Bounded v → Every BoundedRead (parenthesized v l)
+closed-bounded v [] h = everyRefused
 closed-bounded v (b ∷ l) h = judge-every (eqb b (byte ")")) 6 (v, l) h
 
 whole-bounded : (v : ℤ) (l : List ℕ) → Bounded v → Every Bounded (whole v l)
-whole-bounded v [] h = here h
-whole-bounded v (b ∷ l) h = refused
+whole-bounded v [] h = everyValue h
+whole-bounded v (b ∷ l) h = everyRefused
 
 expression-bounded : (t : Start → Read) (o : ℤ → Joint → Read) (l : List ℕ) → ((s : Start) → Every BoundedRead (t s))
     → ((v : ℤ) (j : Joint) → Bounded v → Every BoundedRead (o v j)) → Every BoundedRead (expressionBy t o l)
@@ -69,7 +69,7 @@ expression-bounded t o l f g = every-of _ (f (startOf l)) (λ x h. g (x .0) (joi
 
 module _ (p : Pitch) where
   scaled-bounded : (s : Scale) (n : ℕ) (l : List ℕ) → Every BoundedRead (scaled p s n l)
-  scaled-bounded s n l = every-of _ (within-bounded (pos (literalOf p s n))) (λ z h. here h)
+  scaled-bounded s n l = every-of _ (within-bounded (pos (literalOf p s n))) (λ z h. everyValue h)
 
   scaledOr-bounded : (m : MaybeScale) (d : Scale) (n b : ℕ) (l : List ℕ) → Every BoundedRead (scaledOr p m d n b l)
   scaledOr-bounded (Some s) d n b l = scaled-bounded s n l
@@ -90,20 +90,20 @@ module _ (p : Pitch) (d : Scale) where
 
     -- every term's value is bounded
     pub term-bounded : (n left : ℕ) (x : Start) → Every BoundedRead (term p d n left x)
-    term-bounded zero left x = refused
-    term-bounded (suc n) left noTerm = refused
+    term-bounded zero left x = everyRefused
+    term-bounded (suc n) left noTerm = everyRefused
     term-bounded (suc n) left (literal l) = literal-bounded p d l
     term-bounded (suc n) left (plus l) = term-bounded n left (startOf l)
-    term-bounded (suc n) left (minus l) = every-of _ (term-bounded n left (startOf l)) (λ x h. here (rw abs-neg h))
-    term-bounded (suc n) zero (opens l) = refused
+    term-bounded (suc n) left (minus l) = every-of _ (term-bounded n left (startOf l)) (λ x h. everyValue (rw abs-neg h))
+    term-bounded (suc n) zero (opens l) = everyRefused
     term-bounded (suc n) (suc left) (opens l) =
         every-of _ (expression-bounded (λ s. term p d n left s) (λ v j. onward p d n left v j) l (λ s. term-bounded n left s) (λ v j h. onward-bounded n left v j h))
         (λ x h. closed-bounded (x .0) (x .1) h)
 
     -- the value of terms joined by operators is bounded, if that of the first is
     pub onward-bounded : (n left : ℕ) (v : ℤ) (j : Joint) → Bounded v → Every BoundedRead (onward p d n left v j)
-    onward-bounded zero left v j h = refused
-    onward-bounded (suc n) left v (stops l) h = here h
+    onward-bounded zero left v j h = everyRefused
+    onward-bounded (suc n) left v (stops l) h = everyValue h
     onward-bounded (suc n) left v (joins o l) h =
         every (term p d n left (startOf l)) _ (λ x. every-of _ (operate-bounded o v (x .0)) (λ y i. onward-bounded n left y (jointOf (x .1)) i))
 
@@ -117,7 +117,7 @@ module _ (p : Pitch) (d : Scale) where
 module _ (p : Pitch) where
   -- every count of rows is bounded
   pub rows-bounded : (l : List ℕ) → Every Bounded (rows p l)
-  rows-bounded l = every-of _ (evaluate-bounded p LineSpace l) (λ z h. here (omega (arith, no-larger (p .row) z)))
+  rows-bounded l = every-of _ (evaluate-bounded p LineSpace l) (λ z h. everyValue (omega (arith, no-larger (p .row) z)))
 
   -- every number of units is bounded
   pub units-bounded : (l : List ℕ) → Every Bounded (units p l)
@@ -201,8 +201,8 @@ joint-size (b ∷ c ∷ l) =
 abbrev pub Rest : ℕ → ℤ × List ℕ → Type 0
 Rest n x = length (x .1) ≤ n
 
-closed-rest : (v : ℤ) (l : List ℕ) (n : ℕ) → length l ≤ n → Every (Rest n) (closed v l)
-closed-rest v [] n h = refused
+closed-rest : (v : ℤ) (l : List ℕ) (n : ℕ) → length l ≤ n → Every (Rest n) (parenthesized v l)
+closed-rest v [] n h = everyRefused
 closed-rest v (b ∷ l) n h = judge-every (eqb b (byte ")")) 6 (v, l) (omega arith)
 
 expression-rest : (t : Start → Read) (o : ℤ → Joint → Read) (l : List ℕ) → ((s : Start) → Every (Rest (startSize s)) (t s))
@@ -212,7 +212,7 @@ expression-rest t o l f g =
 
 module _ (p : Pitch) where
   scaled-rest : (s : Scale) (n : ℕ) (l : List ℕ) (k : ℕ) → length l ≤ k → Every (Rest k) (scaled p s n l)
-  scaled-rest s n l k h = every (within (pos (literalOf p s n))) _ (λ z. here h)
+  scaled-rest s n l k h = every (within (pos (literalOf p s n))) _ (λ z. everyValue h)
 
   scaledOr-rest : (m : MaybeScale) (d : Scale) (n b : ℕ) (l : List ℕ) (k : ℕ) → length l < k → Every (Rest k) (scaledOr p m d n b l)
   scaledOr-rest (Some s) d n b l k h = scaled-rest s n l k (omega arith)
@@ -233,20 +233,20 @@ module _ (p : Pitch) (d : Scale) where
 
     -- what is unread behind a term is no longer than what was before it
     pub term-rest : (n left : ℕ) (x : Start) → Every (Rest (startSize x)) (term p d n left x)
-    term-rest zero left x = refused
-    term-rest (suc n) left noTerm = refused
+    term-rest zero left x = everyRefused
+    term-rest (suc n) left noTerm = everyRefused
     term-rest (suc n) left (literal l) = literal-rest p d l
     term-rest (suc n) left (plus l) = every-map (term-rest n left (startOf l)) (λ x h. omega (arith, start-size l))
-    term-rest (suc n) left (minus l) = every-of _ (term-rest n left (startOf l)) (λ x h. here (omega (arith, start-size l)))
-    term-rest (suc n) zero (opens l) = refused
+    term-rest (suc n) left (minus l) = every-of _ (term-rest n left (startOf l)) (λ x h. everyValue (omega (arith, start-size l)))
+    term-rest (suc n) zero (opens l) = everyRefused
     term-rest (suc n) (suc left) (opens l) =
         every-of _ (expression-rest (λ s. term p d n left s) (λ v j. onward p d n left v j) l (λ s. term-rest n left s) (λ v j. onward-rest n left v j))
         (λ x h. closed-rest (x .0) (x .1) (suc (length l)) (omega arith))
 
     -- what is unread behind joined terms is no longer than what was before them
     pub onward-rest : (n left : ℕ) (v : ℤ) (j : Joint) → Every (Rest (jointSize j)) (onward p d n left v j)
-    onward-rest zero left v j = refused
-    onward-rest (suc n) left v (stops l) = here {a = (v, l)} (omega arith)
+    onward-rest zero left v j = everyRefused
+    onward-rest (suc n) left v (stops l) = everyValue {a = (v, l)} (omega arith)
     onward-rest (suc n) left v (joins o l) =
         every-of _ (term-rest n left (startOf l)) (λ x h. every (operate o v (x .0)) _
         (λ y. every-map (onward-rest n left y (jointOf (x .1))) (λ z i. omega (arith, start-size l, joint-size (x .1)))))
@@ -263,7 +263,7 @@ module _ (p : Pitch) (d : Scale) where
   termBy t o left (plus l) = t left (startOf l)
   termBy t o left (minus l) = t left (startOf l) >>= λ x. value (negℤ (x .0), x .1)
   termBy t o zero (opens l) = bad 6
-  termBy t o (suc left) (opens l) = expressionBy (t left) (o left) l >>= λ x. closed (x .0) (x .1)
+  termBy t o (suc left) (opens l) = expressionBy (t left) (o left) l >>= λ x. parenthesized (x .0) (x .1)
 
   -- one step of `onward`
   abbrev pub onwardBy : (ℕ → Start → Read) → (ℕ → ℤ → Joint → Read) → (left : ℕ) → ℤ → Joint → Read
@@ -325,7 +325,7 @@ module _ (p : Pitch) (d : Scale) where
           r .terms n left (minus l) ∙ ap (λ z. z >>= λ x. value (negℤ (x .0), x .1)) (term-any n left (startOf l) (omega (arith, start-size l)))
       term-any (suc n) zero (opens l) h = r .terms n zero (opens l)
       term-any (suc n) (suc left) (opens l) h =
-          r .terms n (suc left) (opens l) ∙ ap (λ z. z >>= λ x. closed (x .0) (x .1))
+          r .terms n (suc left) (opens l) ∙ ap (λ z. z >>= λ x. parenthesized (x .0) (x .1))
           (expression-of n left l (omega arith) (λ x i. term-any n left x i) (λ v j i. onward-any n left v j i))
 
       -- and what `onward` gives

@@ -4,7 +4,7 @@ use mathlib.Core.List.{List, []}
 use Prim.Native.Nat.{ℕ, _<_, _≤_}
 use Rattle.stream.specs.Answers.{Closing, closes}
 use Rattle.stream.specs.Condition3.{Call, Calls, Condition3}
-use Rattle.stream.specs.Laws.{always-ends as machine-ends, condition-3 as of-machine}
+use Rattle.stream.specs.Laws.{machine-ends, machine-condition-3 as of-machine}
 use Rattle.rules.specs.Printers.{Printer}
 use Rattle.rules.specs.State.{start}
 use Rattle.rules.specs.Load.{Good, formatter}

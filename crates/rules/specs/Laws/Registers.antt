@@ -14,10 +14,10 @@ use Rattle.rules.specs.Names.{sameName, Order, earlier, same, later, ord
 use Rattle.rules.specs.Laws.Names.{same-self}
 use Rattle.rules.specs.Bytes.{firstWhere, entryOf}
 use Rattle.rules.specs.Laws.Tables.{Each, OfSome, first-each}
-use Rattle.rules.specs.Laws.Refusals.{Every, here, refused, every, every-of, judge-every}
+use Rattle.rules.specs.Laws.Refusals.{Every, everyValue, everyRefused, every, every-of, judge-every}
 use Rattle.rules.specs.Numbers.{within}
 use Rattle.rules.specs.Laws.Numbers.{Bounded, within-bounded}
-use Rattle.rules.specs.Registers.{register, lookup, put, setValue, Seen, readOnly, shown, stepTo, referBy, stepRegister}
+use Rattle.rules.specs.Registers.{register, registerOf, put, setValue, Seen, readOnly, shown, stepTo, referBy, stepRegister}
 use Rattle.rules.specs.declared.Register.{Register}
 use Rattle.rules.specs.declared.Turn.{Turn}
 use Rattle.rules.specs.declared.Turn.the-variants.{Still, Up, Down}
@@ -78,28 +78,28 @@ after-distinct : (n m : Name) → Before m n → sameName n m ≡ false
 after-distinct n m b = distinct n m (λ e f. omega (arith, b .1 (omega arith)))
 
 -- what was put is found under its name
-pub found-put : (r : Register) (rs : List Register) → lookup (r .name) (put r rs) ≡ some r
-unfolding lookup put firstWhere
-found-put r [] = rw (lookup, firstWhere, same-self (r .name))
+pub found-put : (r : Register) (rs : List Register) → registerOf (r .name) (put r rs) ≡ some r
+unfolding registerOf put firstWhere
+found-put r [] = rw (registerOf, firstWhere, same-self (r .name))
 found-put r (x ∷ xs) = go (order (r .name) (x .name)) refl (means (r .name) (x .name)) (found-put r xs)
   where
-    go : (o : Order) → order (r .name) (x .name) ≡ o → Means o (r .name) (x .name) → lookup (r .name) (put r xs) ≡ some r → lookup (r .name) (put r (x ∷ xs)) ≡ some r
-    go earlier e h ih = rw (put, e, lookup, firstWhere, same-self (r .name))
-    go same e h ih = rw (put, e, lookup, firstWhere, same-self (r .name))
-    go later e h ih = rw (put, e, lookup, firstWhere, after-distinct (r .name) (x .name) h) ih
+    go : (o : Order) → order (r .name) (x .name) ≡ o → Means o (r .name) (x .name) → registerOf (r .name) (put r xs) ≡ some r → registerOf (r .name) (put r (x ∷ xs)) ≡ some r
+    go earlier e h ih = rw (put, e, registerOf, firstWhere, same-self (r .name))
+    go same e h ih = rw (put, e, registerOf, firstWhere, same-self (r .name))
+    go later e h ih = rw (put, e, registerOf, firstWhere, after-distinct (r .name) (x .name) h) ih
 
 -- every other name is found as before
-pub kept-put : (n : Name) (r : Register) (rs : List Register) → sameName n (r .name) ≡ false → lookup n (put r rs) ≡ lookup n rs
-unfolding lookup put firstWhere
-kept-put n r [] d = rw (lookup, firstWhere, d)
+pub kept-put : (n : Name) (r : Register) (rs : List Register) → sameName n (r .name) ≡ false → registerOf n (put r rs) ≡ registerOf n rs
+unfolding registerOf put firstWhere
+kept-put n r [] d = rw (registerOf, firstWhere, d)
 kept-put n r (x ∷ xs) d = go (order (r .name) (x .name)) refl (means (r .name) (x .name)) (sameName n (x .name)) refl (kept-put n r xs d)
   where
     go : (o : Order) → order (r .name) (x .name) ≡ o → Means o (r .name) (x .name) → (t : Bool) → sameName n (x .name) ≡ t
-        → lookup n (put r xs) ≡ lookup n xs → lookup n (put r (x ∷ xs)) ≡ lookup n (x ∷ xs)
-    go earlier e h t f ih = rw (put, e, lookup, firstWhere, d)
-    go same e h t f ih = rw (put, e, lookup, firstWhere, d, firstWhere, subst (λ m. sameName n m ≡ false) h d)
-    go later e h true f ih = rw (put, e, lookup, firstWhere, f)
-    go later e h false f ih = rw (put, e, lookup, firstWhere, f) ih
+        → registerOf n (put r xs) ≡ registerOf n xs → registerOf n (put r (x ∷ xs)) ≡ registerOf n (x ∷ xs)
+    go earlier e h t f ih = rw (put, e, registerOf, firstWhere, d)
+    go same e h t f ih = rw (put, e, registerOf, firstWhere, d, firstWhere, subst (λ m. sameName n m ≡ false) h d)
+    go later e h true f ih = rw (put, e, registerOf, firstWhere, f)
+    go later e h false f ih = rw (put, e, registerOf, firstWhere, f) ih
 
 abbrev putBy : Order → Register → Register → List Register → List Register
 putBy o r x xs = elim o [ earlier ↦ r ∷ x ∷ xs | same ↦ r ∷ xs | later ↦ x ∷ put r xs ]
@@ -133,12 +133,12 @@ ahead-trans n m [] b h = tt
 ahead-trans n m (k ∷ l) b h = before-order n k (before-trans n m k b (order-before m k h))
 
 -- a name that stands before all is not found
-pub not-found : (n : Name) (rs : List Register) → Ahead n (names rs) → Sorted rs → lookup n rs ≡ none
-unfolding lookup firstWhere
+pub not-found : (n : Name) (rs : List Register) → Ahead n (names rs) → Sorted rs → registerOf n rs ≡ none
+unfolding registerOf firstWhere
 not-found n [] a s = refl
 not-found n (x ∷ xs) a s =
     let b = order-before n (x .name) a in
-    rw (lookup, firstWhere, before-distinct n (x .name) b) (not-found n xs (ahead-trans n (x .name) (names xs) b (s .0)) (s .1))
+    rw (registerOf, firstWhere, before-distinct n (x .name) b) (not-found n xs (ahead-trans n (x .name) (names xs) b (s .0)) (s .1))
 
 ahead-put : (n : Name) (r : Register) (rs : List Register) → order n (r .name) ≡ earlier → Ahead n (names rs) → Ahead n (names (put r rs))
 unfolding put
@@ -174,28 +174,28 @@ put-length r (x ∷ xs) = go (order (r .name) (x .name)) (put-length r xs)
     go later ih = omega arith
 
 -- a register whose name is there already is replaced: the names stay as they are
-pub put-names : (r x : Register) (rs : List Register) → Sorted rs → lookup (r .name) rs ≡ some x → names (put r rs) ≡ names rs
-unfolding lookup put firstWhere
+pub put-names : (r x : Register) (rs : List Register) → Sorted rs → registerOf (r .name) rs ≡ some x → names (put r rs) ≡ names rs
+unfolding registerOf put firstWhere
 put-names r x [] s e = cc
 put-names r x (y ∷ ys) s e = go (order (r .name) (y .name)) (means (r .name) (y .name)) (put-names r x ys (s .1))
   where
-    go : (o : Order) → Means o (r .name) (y .name) → (lookup (r .name) ys ≡ some x → names (put r ys) ≡ names ys)
+    go : (o : Order) → Means o (r .name) (y .name) → (registerOf (r .name) ys ≡ some x → names (put r ys) ≡ names ys)
         → names (putBy o r y ys) ≡ names (y ∷ ys)
     go earlier h ih = let i = not-found (r .name) (y ∷ ys) (before-order (r .name) (y .name) h) s in cc
     go same h ih = ap (λ n. n ∷ names ys) h
-    go later h ih = ap (λ l. y .name ∷ l) (ih (rw (lookup, firstWhere, after-distinct (r .name) (y .name) h) at e))
+    go later h ih = ap (λ l. y .name ∷ l) (ih (rw (registerOf, firstWhere, after-distinct (r .name) (y .name) h) at e))
 
 -- a register whose name is not there makes the table one longer
-pub put-new : (r : Register) (rs : List Register) → lookup (r .name) rs ≡ none → length (put r rs) ≡ suc (length rs)
-unfolding lookup put firstWhere
+pub put-new : (r : Register) (rs : List Register) → registerOf (r .name) rs ≡ none → length (put r rs) ≡ suc (length rs)
+unfolding registerOf put firstWhere
 put-new r [] e = refl
 put-new r (y ∷ ys) e = go (order (r .name) (y .name)) (means (r .name) (y .name)) (put-new r ys)
   where
-    go : (o : Order) → Means o (r .name) (y .name) → (lookup (r .name) ys ≡ none → length (put r ys) ≡ suc (length ys))
+    go : (o : Order) → Means o (r .name) (y .name) → (registerOf (r .name) ys ≡ none → length (put r ys) ≡ suc (length ys))
         → length (putBy o r y ys) ≡ suc (suc (length ys))
     go earlier h ih = refl
-    go same h ih = let i = rw (lookup, firstWhere, subst (λ m. sameName (r .name) m ≡ true) h (same-self (r .name))) at e in cc
-    go later h ih = ap suc (ih (rw (lookup, firstWhere, after-distinct (r .name) (y .name) h) at e))
+    go same h ih = let i = rw (registerOf, firstWhere, subst (λ m. sameName (r .name) m ≡ true) h (same-self (r .name))) at e in cc
+    go later h ih = ap suc (ih (rw (registerOf, firstWhere, after-distinct (r .name) (y .name) h) at e))
 
 -- a register's value and step are within ±1,000,000,000
 abbrev pub BoundedRegister : Register → Type 0
@@ -209,7 +209,7 @@ BoundedTable rs = Each BoundedRegister rs
 pub record BoundedSeen (s : Seen) : Type 0 where
   pub page : natAbs (s .page) ≤ 1000000000
   pub rows : natAbs (s .rows) ≤ 1000000000
-  pub length : natAbs (s .length) ≤ 1000000000
+  pub lineLength : natAbs (s .lineLength) ≤ 1000000000
   pub indent : natAbs (s .indent) ≤ 1000000000
   pub pageLength : natAbs (s .pageLength) ≤ 1000000000
 
@@ -225,9 +225,9 @@ put-bounded r (x ∷ xs) h b = go (order (r .name) (x .name)) (put-bounded r xs 
     go later ih = (b .0, ih)
 
 -- a register that is found is within its bounds
-pub lookup-bounded : (n : Name) (rs : List Register) → BoundedTable rs → OfSome BoundedRegister (lookup n rs)
-unfolding lookup
-lookup-bounded n rs b = first-each BoundedRegister (λ r. sameName n (r .name)) rs b
+pub register-bounded : (n : Name) (rs : List Register) → BoundedTable rs → OfSome BoundedRegister (registerOf n rs)
+unfolding registerOf
+register-bounded n rs b = first-each BoundedRegister (λ r. sameName n (r .name)) rs b
 
 -- what is shown is bounded
 pub shown-bounded : (s : Seen) (n : Name) → BoundedSeen s → OfSome (λ f. Bounded (f s)) (shown n)
@@ -244,16 +244,16 @@ unfolding setValue
 set-bounded n v s rs h i b =
     judge-every (leb (length (put (register n v s) rs)) 64) 11 (put (register n v s) rs) (put-bounded (register n v s) rs (h, i) b)
 
-to-names : (r : Register) (z : ℤ) (rs : List Register) → Sorted rs → lookup (r .name) rs ≡ some r → Every (λ x. names (x .1) ≡ names rs) (stepTo r z rs)
-to-names r z rs s e = every (within z) _ (λ v. here (put-names (register (r .name) v (r .step)) r rs s e))
+to-names : (r : Register) (z : ℤ) (rs : List Register) → Sorted rs → registerOf (r .name) rs ≡ some r → Every (λ x. names (x .1) ≡ names rs) (stepTo r z rs)
+to-names r z rs s e = every (within z) _ (λ v. everyValue (put-names (register (r .name) v (r .step)) r rs s e))
 
 refer-names : (t : Turn) (f : Option (Seen → ℤ)) (u : Option Register) (s : Seen) (rs : List Register) → Sorted rs
-    → OfSome (λ r. lookup (r .name) rs ≡ some r) u → Every (λ x. names (x .1) ≡ names rs) (referBy t f u s rs)
-refer-names Still (some f) u s rs h i = here refl
-refer-names Up (some f) u s rs h i = refused
-refer-names Down (some f) u s rs h i = refused
-refer-names t none none s rs h i = here refl
-refer-names Still none (some r) s rs h i = here refl
+    → OfSome (λ r. registerOf (r .name) rs ≡ some r) u → Every (λ x. names (x .1) ≡ names rs) (referBy t f u s rs)
+refer-names Still (some f) u s rs h i = everyValue refl
+refer-names Up (some f) u s rs h i = everyRefused
+refer-names Down (some f) u s rs h i = everyRefused
+refer-names t none none s rs h i = everyValue refl
+refer-names Still none (some r) s rs h i = everyValue refl
 refer-names Up none (some r) s rs h i = to-names r (r .value +ℤ r .step) rs h i
 refer-names Down none (some r) s rs h i = to-names r (r .value -ℤ r .step) rs h i
 
@@ -262,15 +262,15 @@ pub same-length : (rs qs : List Register) → names qs ≡ names rs → length q
 same-length rs qs e = sym (names-length qs) ∙ ap length e ∙ names-length rs
 
 to-bounded : (r : Register) (z : ℤ) (rs : List Register) → BoundedRegister r → BoundedTable rs → Every (λ x. Bounded (x .0) × BoundedTable (x .1)) (stepTo r z rs)
-to-bounded r z rs h b = every-of _ (within-bounded z) (λ v i. here (i, put-bounded (register (r .name) v (r .step)) rs (i, h .1) b))
+to-bounded r z rs h b = every-of _ (within-bounded z) (λ v i. everyValue (i, put-bounded (register (r .name) v (r .step)) rs (i, h .1) b))
 
 refer-bounded : (t : Turn) (f : Option (Seen → ℤ)) (u : Option Register) (s : Seen) (rs : List Register) → BoundedTable rs → OfSome (λ f. Bounded (f s)) f
     → OfSome BoundedRegister u → Every (λ x. Bounded (x .0) × BoundedTable (x .1)) (referBy t f u s rs)
-refer-bounded Still (some f) u s rs b h i = here (h, b)
-refer-bounded Up (some f) u s rs b h i = refused
-refer-bounded Down (some f) u s rs b h i = refused
-refer-bounded t none none s rs b h i = here {a = (pos 0, rs)} (omega arith, b)
-refer-bounded Still none (some r) s rs b h i = here (i .0, b)
+refer-bounded Still (some f) u s rs b h i = everyValue (h, b)
+refer-bounded Up (some f) u s rs b h i = everyRefused
+refer-bounded Down (some f) u s rs b h i = everyRefused
+refer-bounded t none none s rs b h i = everyValue {a = (pos 0, rs)} (omega arith, b)
+refer-bounded Still none (some r) s rs b h i = everyValue (i .0, b)
 refer-bounded Up none (some r) s rs b h i = to-bounded r (r .value +ℤ r .step) rs i b
 refer-bounded Down none (some r) s rs b h i = to-bounded r (r .value -ℤ r .step) rs i b
 
@@ -278,4 +278,4 @@ refer-bounded Down none (some r) s rs b h i = to-bounded r (r .value -ℤ r .ste
 pub step-bounded : (s : Seen) (t : Turn) (n : Name) (rs : List Register) → BoundedSeen s → BoundedTable rs
     → Every (λ x. Bounded (x .0) × BoundedTable (x .1)) (stepRegister s t n rs)
 unfolding stepRegister
-step-bounded s t n rs h b = refer-bounded t (shown n) (lookup n rs) s rs b (shown-bounded s n h) (lookup-bounded n rs b)
+step-bounded s t n rs h b = refer-bounded t (shown n) (registerOf n rs) s rs b (shown-bounded s n h) (register-bounded n rs b)

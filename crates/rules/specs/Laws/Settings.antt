@@ -11,7 +11,7 @@ use Rattle.rules.specs.declared.LineSetting.{LineSetting}
 use Rattle.rules.specs.declared.LineSetting.the-variants.{Fi, Nf, Ce, In, Ti}
 use Rattle.rules.specs.declared.PageSetting.{PageSetting}
 use Rattle.rules.specs.declared.PageSetting.the-variants.{Pl, Po, Ll, Ad, Na}
-use Rattle.rules.specs.Laws.Refusals.{Every, here, refused, every, every-of, tested-every, both}
+use Rattle.rules.specs.Laws.Refusals.{Every, everyValue, everyRefused, every, every-of, tested-every, both}
 use Rattle.rules.specs.Numbers.{cells, rows, signed}
 use Rattle.rules.specs.Settings.{Layout, changed, inRange, lineRange, indentRange, offsetRange}
 use Rattle.rules.specs.Acts.{setting, pageLength, indentTotal, centring, setLine, setPage}
@@ -23,7 +23,7 @@ pub record Between (low high n : ℕ) : Type 0 where
 
 pub in-range : (low high : ℕ) (z : ℤ) → Every (Between low high) (inRange low high z)
 in-range low high (pos n) = tested-every (leb low n && leb n high) 7 n (λ h. let b = both (leb low n) (leb n high) h in record { least = leb-true low n (b .0); most = leb-true n high (b .1) })
-in-range low high (negsuc n) = refused
+in-range low high (negsuc n) = everyRefused
 
 -- "pl 1 to 500 rows and above the rows already used on the page": so many are used, and a page is so long
 abbrev pub PageAbove : (used : ℕ) → Layout → Type 0
@@ -35,21 +35,21 @@ module _ (p : Printer) where
   page-between used old (b ∷ l) = every (rows (p .pitch) (b ∷ l)) _ (λ v. in-range (suc used) 500 (changed (signed (b ∷ l)) old v))
 
   total-page : (l : List ℕ) (y : Layout) → Every (λ z. z .page ≡ y .page) (indentTotal p l y)
-  total-page [] y = here refl
-  total-page (b ∷ l) y = every (cells (p .pitch) (b ∷ l)) _ (λ v. every (indentRange (changed (signed (b ∷ l)) (y .indent .now) v)) _ (λ n. here refl))
+  total-page [] y = everyValue refl
+  total-page (b ∷ l) y = every (cells (p .pitch) (b ∷ l)) _ (λ v. every (indentRange (changed (signed (b ∷ l)) (y .indent .now) v)) _ (λ n. everyValue refl))
 
   -- no request that breaks changes the page length
   pub set-line-page : (r : LineSetting) (l : List ℕ) (y : Layout) → Every (λ z. z .page ≡ y .page) (setLine p r l y)
-  set-line-page Fi l y = here refl
-  set-line-page Nf l y = here refl
-  set-line-page Ce l y = every (centring p l) _ (λ n. here refl)
-  set-line-page In l y = every (setting p indentRange (y .indent) l) _ (λ v. here refl)
+  set-line-page Fi l y = everyValue refl
+  set-line-page Nf l y = everyValue refl
+  set-line-page Ce l y = every (centring p l) _ (λ n. everyValue refl)
+  set-line-page In l y = every (setting p indentRange (y .indent) l) _ (λ v. everyValue refl)
   set-line-page Ti l y = total-page l y
 
   -- the page stays above the rows used on it
   pub set-page-above : (r : PageSetting) (used : ℕ) (l : List ℕ) (y : Layout) → PageAbove used y → Every (PageAbove used) (setPage p r used l y)
-  set-page-above Pl u l y h = every-of _ (page-between u (y .page) l) (λ n k. here (k .least, k .most))
-  set-page-above Po u l y h = every (setting p offsetRange (y .offset) l) _ (λ v. here h)
-  set-page-above Ll u l y h = every (setting p lineRange (y .line) l) _ (λ v. here h)
-  set-page-above Ad u l y h = here h
-  set-page-above Na u l y h = here h
+  set-page-above Pl u l y h = every-of _ (page-between u (y .page) l) (λ n k. everyValue (k .least, k .most))
+  set-page-above Po u l y h = every (setting p offsetRange (y .offset) l) _ (λ v. everyValue h)
+  set-page-above Ll u l y h = every (setting p lineRange (y .line) l) _ (λ v. everyValue h)
+  set-page-above Ad u l y h = everyValue h
+  set-page-above Na u l y h = everyValue h

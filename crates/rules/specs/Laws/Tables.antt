@@ -5,7 +5,7 @@ use mathlib.Core.List.{List, [], _∷_}
 use mathlib.Core.Option.{Option, none, some}
 use Prim.Native.Nat.{ℕ}
 use lib.Dec.{eqb}
-use Rattle.rules.specs.Bytes.{firstWhere, entryOf, inTable, orElse, entry}
+use Rattle.rules.specs.Bytes.{firstWhere, entryOf, inTable, orOther, entry}
 
 -- it holds of each of a list
 abbrev pub Each : {A : Type 0} → (A → Type 0) → List A → Type 0
@@ -42,7 +42,7 @@ pub some-map : {A : Type 0} (P Q : A → Type 0) (o : Option A) → OfSome P o �
 some-map P Q none h f = tt
 some-map P Q (some a) h f = f a refl h
 
-else-of : {A : Type 0} (P : A → Type 0) (o : Option (ℕ × A)) (d : A) → OfSome (λ e. P (e .1)) o → P d → P (orElse (entryOf o) d)
+else-of : {A : Type 0} (P : A → Type 0) (o : Option (ℕ × A)) (d : A) → OfSome (λ e. P (e .1)) o → P d → P (orOther (entryOf o) d)
 else-of P none d h i = i
 else-of P (some e) d h i = h
 

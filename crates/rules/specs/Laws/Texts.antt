@@ -209,9 +209,9 @@ remove-lighter n ts = go (textOf n ts) refl
     go (some t) e = omega (arith, live-remove n ts t e)
 
 -- "11: .. 65th name .. or live text past 8,192 bytes": the limits of the table.
-abbrev pub Within : List Text → Type 0
-Within ts = (length ts ≤ 64) × (live ts ≤ 8192)
+abbrev pub TextsWithin : List Text → Type 0
+TextsWithin ts = (length ts ≤ 64) × (live ts ≤ 8192)
 
 -- `remove` keeps the limits.
-pub within-remove : (n : Name) (ts : List Text) → Within ts → Within (remove n ts)
+pub within-remove : (n : Name) (ts : List Text) → TextsWithin ts → TextsWithin (remove n ts)
 within-remove n ts w = (omega (arith, remove-shorter n ts), omega (arith, remove-lighter n ts))

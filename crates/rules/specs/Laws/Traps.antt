@@ -79,15 +79,15 @@ plant-at p n [] b t h e = plant-here p n t b e
 plant-at p n (u ∷ a) b t h e = rw (plant-on p n u (a ++ t ∷ b) (h .0)) (ap (λ l. u ∷ l) (plant-at p n a b t (h .1) e))
 
 -- It alone is removed.
-pub remove-at : (p : ℤ) (a b : List Trap) (t : Trap) → Lacks p a → equalZ p (t .place .0) ≡ true → removeTrap p (a ++ t ∷ b) ≡ a ++ b
-remove-at p [] b t h e = remove-here p t b e
-remove-at p (u ∷ a) b t h e = rw (remove-on p u (a ++ t ∷ b) (h .0)) (ap (λ l. u ∷ l) (remove-at p a b t (h .1) e))
+pub remove-trap-at : (p : ℤ) (a b : List Trap) (t : Trap) → Lacks p a → equalZ p (t .place .0) ≡ true → removeTrap p (a ++ t ∷ b) ≡ a ++ b
+remove-trap-at p [] b t h e = remove-here p t b e
+remove-trap-at p (u ∷ a) b t h e = rw (remove-on p u (a ++ t ∷ b) (h .0)) (ap (λ l. u ∷ l) (remove-trap-at p a b t (h .1) e))
 
 -- If no trap has the N, none is removed.
-pub remove-none : (p : ℤ) (ts : List Trap) → Lacks p ts → removeTrap p ts ≡ ts
+pub remove-trap-none : (p : ℤ) (ts : List Trap) → Lacks p ts → removeTrap p ts ≡ ts
 unfolding removeTrap
-remove-none p [] h = refl
-remove-none p (t ∷ ts) h = rw (remove-on p t ts (h .0), remove-none p ts (h .1))
+remove-trap-none p [] h = refl
+remove-trap-none p (t ∷ ts) h = rw (remove-on p t ts (h .0), remove-trap-none p ts (h .1))
 
 -- One trap more that has another N.
 pub lacks-end : (p : ℤ) (ts : List Trap) (t : Trap) → Lacks p ts → equalZ p (t .place .0) ≡ false → Lacks p (ts ++ t ∷ [])
@@ -155,10 +155,10 @@ single-remove p (t ∷ ts) h = go (equalZ p (t .place .0)) refl (single-remove p
     go false e ih = rw (remove-on p t ts e) (lacks-remove (t .place .0) p ts (h .0), ih)
 
 -- Uprooting leaves no trap of the N.
-pub gone-remove : (p : ℤ) (ts : List Trap) → Single ts → Lacks p (removeTrap p ts)
+pub gone-remove-trap : (p : ℤ) (ts : List Trap) → Single ts → Lacks p (removeTrap p ts)
 unfolding removeTrap
-gone-remove p [] h = tt
-gone-remove p (t ∷ ts) h = go (equalZ p (t .place .0)) refl (gone-remove p ts (h .1))
+gone-remove-trap p [] h = tt
+gone-remove-trap p (t ∷ ts) h = go (equalZ p (t .place .0)) refl (gone-remove-trap p ts (h .1))
   where
     go : (b : Bool) → equalZ p (t .place .0) ≡ b → Lacks p (removeTrap p ts) → Lacks p (removeTrap p (t ∷ ts))
     go true e ih = rw (remove-here p t ts e) (subst (λ k. Lacks k ts) (sym (equal-one p (t .place .0) e)) (h .0))

@@ -14,10 +14,10 @@ use Rattle.rules.specs.Refusals.{Judged, value, bad}
 use Rattle.rules.specs.Printers.{tenToTheInch}
 use Rattle.rules.specs.Requests.{requestOf}
 use Rattle.rules.specs.Numbers.{evaluate, cells, units}
-use Rattle.rules.specs.Registers.{lookup, setValue, shown}
+use Rattle.rules.specs.Registers.{registerOf, setValue, shown}
 use Rattle.rules.specs.Texts.{textOf, remove, live, defineStringIn, openMacro, keepLineIn}
 use Rattle.rules.specs.Escapes.{escaped, scan}
-use Rattle.rules.specs.Arguments.{arguments, first, stringText, condition, word}
+use Rattle.rules.specs.Arguments.{arguments, first, stringText, condition, firstWord}
 use Rattle.rules.specs.Filling.{words, width, span, place, gaps, spread, spelled, printed, trimmed}
 use Rattle.rules.specs.Traps.{seenAt, nearestTrap, plant, removeTrap}
 use Rattle.rules.specs.State.{onStack}
@@ -32,17 +32,17 @@ use Rattle.rules.specs.Pages.{pages}
 
 -- the pages at ten to the inch; whoever unfolds this unfolds every rule
 unfoldable pub pagesHere : List ℕ → Pages
-unfolding halfUp scaleOf firstWhere requestOf evaluate lookup setValue shown textOf remove live defineStringIn openMacro keepLineIn escaped scan arguments first stringText condition word words width span place gaps spread spelled printed trimmed seenAt nearestTrap plant removeTrap onStack lines spring down break skip eject beginEnd ejectLast fill textLine lineOf holds act change defines decide deal dealAgain takeByte readEnd step load pages
+unfolding halfUp scaleOf firstWhere requestOf evaluate registerOf setValue shown textOf remove live defineStringIn openMacro keepLineIn escaped scan arguments first stringText condition firstWord words width span place gaps spread spelled printed trimmed seenAt nearestTrap plant removeTrap onStack lines spring down break skip eject beginEnd ejectLast fill textLine lineOf holds act change defines decide deal dealAgain takeByte readEnd step load pages
 pagesHere d = pages tenToTheInch d
 
 -- A worked fact: a document with its pages and closing answer, an expression with its value, or one that is rounded to cells.
 pub data Fact : Type 0 where
   document : (source pages : Quoted.String) → Closing → Fact
-  number across : Quoted.String → Judged ℤ → Fact
+  numberFact across : Quoted.String → Judged ℤ → Fact
 
 abbrev pub Holds : Fact → Type 0
 Holds (document d w a) = pages tenToTheInch (bytes d) ≡ record { bytes = bytes w; answer = closes a }
-Holds (number e v) = units tenPitch (bytes e) ≡ v
+Holds (numberFact e v) = units tenPitch (bytes e) ≡ v
 Holds (across e v) = cells tenPitch (bytes e) ≡ v
 
 abbrev pub All : List Fact → Type 0
@@ -54,16 +54,16 @@ abbrev pub table : List Fact
 table =
     document ".pl 5\n.ll 20\nLift the cover and\ncheck the lamp.\nThen close it.\n" "Lift the  cover  and\ncheck   the    lamp.\nThen close it.\n\n\n" done
     ∷ document "" "" done
-    ∷ number "1+2*3" (value (pos 9))
-    ∷ number "1+(2*3)" (value (pos 7))
-    ∷ number "-7/2" (value (negsuc 2))
-    ∷ number "-7%2" (value (negsuc 0))
-    ∷ number "1c" (value (pos 94))
-    ∷ number "3p" (value (pos 10))
+    ∷ numberFact "1+2*3" (value (pos 9))
+    ∷ numberFact "1+(2*3)" (value (pos 7))
+    ∷ numberFact "-7/2" (value (negsuc 2))
+    ∷ numberFact "-7%2" (value (negsuc 0))
+    ∷ numberFact "1c" (value (pos 94))
+    ∷ numberFact "3p" (value (pos 10))
     ∷ across "36u" (value (pos 2))
     ∷ across "-36u" (value (negsuc 1))
     ∷ document ".ll 0" "" (refused 7 1)
-    ∷ number "5/0" (bad 6)
+    ∷ numberFact "5/0" (bad 6)
     ∷ document ".nr a 5/0" "" (refused 6 1)
     ∷ []
 

@@ -9,12 +9,12 @@ use lib.ListN.{length, getD, take, drop, set, length-drop, List·getD-eq-default
 use lib.Seq.{sets, take-suc, getD-drop, append-snoc}
 use borrow.Author.Tests.{eqb-true, ltb-true, ltb-false}
 use Rattle.rules.specs.Bytes.{space, byte, firstWhere}
-use Rattle.rules.specs.Arguments.{Place, bare, quoted, behind, Byte, blank, quote, other, byteOf, Fate, keeps, drops, ended, fate, Part, part, push, afterSpaces, upTo, word, firstBy}
+use Rattle.rules.specs.Arguments.{Place, bare, quoted, behind, Byte, blankByte, quote, other, byteOf, Fate, keeps, drops, ended, fate, Part, part, push, afterSpaces, upTo, firstWord, firstBy}
 use Rattle.scan.specs.Arguments.Parting.{quoteAt, Parted}
 use Rattle.scan.proofs.output.Places.{unread, nothing}
 
 abbrev byteBy : (isSpace isQuote : Bool) → Byte
-byteBy true q = blank
+byteBy true q = blankByte
 byteBy false true = quote
 byteBy false false = other
 
@@ -189,8 +189,8 @@ module _ (s : List ℕ) (at i : ℕ) (h : at ≤ i) (e : upTo bare (drop at s) �
       ∙ ap (λ (l : List ℕ). part l (p .rest)) (sym (append-snoc (take (i - at) (drop at s)) b (p .part)))
       ∙ ap (λ l. ahead l p) (sym t)
 
-  pub passed : upTo bare (drop i s) ≡ part [] (drop i s) → part (take (i - at) (drop at s)) (drop i s) ≡ word (drop at s)
-  unfolding word
+  pub passed : upTo bare (drop i s) ≡ part [] (drop i s) → part (take (i - at) (drop at s)) (drop i s) ≡ firstWord (drop at s)
+  unfolding firstWord
   passed f = sym (e ∙ ap (ahead (take (i - at) (drop at s))) f ∙ ap (λ (l : List ℕ). part l (drop i s)) (append-nil (take (i - at) (drop at s))))
 
 -- at the start nothing is passed

@@ -8,34 +8,34 @@ use native.Mathlib.Omega.{arith}
 use lib.Dec.{eqb}
 use lib.ListN.{length, getD, drop, length-drop}
 use borrow.Author.Tests.{ne-eqb, le-leb, lt-leb}
-use Rattle.rules.specs.Bytes.{backslash, firstWhere, orElse}
+use Rattle.rules.specs.Bytes.{backslash, firstWhere, orOther}
 use Rattle.rules.specs.Laws.Tables.{Each, absent}
 use Rattle.rules.specs.Names.{oneByte, twoBytes}
 use Rattle.rules.specs.declared.Mode.{Mode}
 use Rattle.rules.specs.declared.Mode.the-variants.{Plain, Copy}
 use Rattle.rules.specs.declared.Turn.the-variants.{Still, Up, Down}
 use Rattle.rules.specs.Escapes.{Wanted, number, Escape, slash, numbering, naming, argument, Action, writes, wants, gives, unlisted, listed, listedInCopy, actionOf}
-use Rattle.scan.specs.declared.escapes.What.{What}
+use Rattle.scan.specs.declared.escapes.EscapeAction.{EscapeAction}
 use Rattle.scan.specs.declared.escapes.Reading.{Reading}
 use Rattle.scan.specs.declared.escapes.Naming.{Naming}
 use Rattle.scan.specs.declared.escapes.Naming.the-variants.{Named, Cut}
-use Rattle.scan.specs.Escapes.Readings.{oneMore, onward, escapeOf, actionIn, namingOf, endOf, ReadingIs, ReadingIn, NamingIs}
+use Rattle.scan.specs.Escapes.Readings.{oneMore, readOn, escapeOf, actionIn, namingOf, endOf, ReadingIs, ReadingIn, NamingIs}
 use Rattle.scan.proofs.output.Places.{unread, nothing}
 
 -- an answer, field by field
-abbrev pub reading : ℕ → What → Reading
+abbrev pub reading : ℕ → EscapeAction → Reading
 reading end what = record { end = end; what = what }
 
 module _ {m : Mode} {e : Escape} {c : Action} {s : List ℕ} {at : ℕ} where
   -- the text ends
-  pub is-cut : {w : What} → length s ≤ at → at ≤ length s → c ≡ actionIn w → ReadingIs m e c s at (reading at w)
+  pub is-cut : {w : EscapeAction} → length s ≤ at → at ≤ length s → c ≡ actionIn w → ReadingIs m e c s at (reading at w)
   unfolding escapeOf
   is-cut {w} h k f =
       let z : at - at ≡ 0 = omega arith in
       record { is = ap (escapeOf m e c) (nothing s at h) ∙ rw (z, f); low = omega arith; high = k }
 
   -- the last byte of an escape
-  pub is-last : {w : What} (b : ℕ) → at < length s → getD s at 0 ≡ b → ((l : List ℕ) → escapeOf m e c (b ∷ l) ≡ (1, actionIn w)) → ReadingIs m e c s at (reading (at + 1) w)
+  pub is-last : {w : EscapeAction} (b : ℕ) → at < length s → getD s at 0 ≡ b → ((l : List ℕ) → escapeOf m e c (b ∷ l) ≡ (1, actionIn w)) → ReadingIs m e c s at (reading (at + 1) w)
   is-last {w} b h f k =
       let z : at + 1 - at ≡ 1 = omega arith in
       record { is = ap (escapeOf m e c) (unread s at b h f) ∙ k (drop (at + 1) s) ∙ rw z; low = omega arith; high = omega arith }
@@ -89,7 +89,7 @@ module _ (s : List ℕ) (at : ℕ) where
       record { is = λ m w. ap (escapeOf m (naming w) unlisted) u ∙ two m w (getD s (at + 1) 0) (getD s (at + 2) 0) (drop (at + 2 + 1) s) ∙ rw z; low = omega arith; high = omega arith }
 
 -- a name as that of a register or a string
-pub is-named : {s : List ℕ} {at end : ℕ} {w : Wanted} {x : What} {r : Naming} → NamingIs s at r → endOf r ≡ end → ((m : Mode) → namingOf w at r ≡ (end - at, actionIn x)) → ReadingIn (naming w) s at (reading end x)
+pub is-named : {s : List ℕ} {at end : ℕ} {w : Wanted} {x : EscapeAction} {r : Naming} → NamingIs s at r → endOf r ≡ end → ((m : Mode) → namingOf w at r ≡ (end - at, actionIn x)) → ReadingIn (naming w) s at (reading end x)
 is-named {s} {at} {end} {w} i f k m = record { is = i .is m w ∙ k m; low = omega (arith, i .low); high = omega (arith, i .high) }
 
 -- a register
@@ -126,8 +126,8 @@ above m b l h = let k : 49 ≤ b = omega arith in rw (le-leb 49 b k, lt-leb b 57
 -- after a backslash: a byte without an entry
 pub other-plain : (c : Action) (b : ℕ) (l : List ℕ) → Each (λ e. eqb b (e .0) ≡ false) listed → escapeOf Plain slash c (b ∷ l) ≡ (1, unlisted)
 unfolding escapeOf actionOf firstWhere
-other-plain c b l h = ap (λ (o : Option Action). onward Plain (orElse o unlisted) (λ f d. escapeOf Plain f d l)) (absent listed b h)
+other-plain c b l h = ap (λ (o : Option Action). readOn Plain (orOther o unlisted) (λ f d. escapeOf Plain f d l)) (absent listed b h)
 
 pub other-copy : (c : Action) (b : ℕ) (l : List ℕ) → Each (λ e. eqb b (e .0) ≡ false) listedInCopy → escapeOf Copy slash c (b ∷ l) ≡ (1, writes (backslash ∷ b ∷ []))
 unfolding escapeOf actionOf firstWhere
-other-copy c b l h = ap (λ (o : Option Action). onward Copy (orElse o (writes (backslash ∷ b ∷ []))) (λ f d. escapeOf Copy f d l)) (absent listedInCopy b h)
+other-copy c b l h = ap (λ (o : Option Action). readOn Copy (orOther o (writes (backslash ∷ b ∷ []))) (λ f d. escapeOf Copy f d l)) (absent listedInCopy b h)

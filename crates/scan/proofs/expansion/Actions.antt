@@ -13,7 +13,7 @@ use Rattle.rules.specs.declared.Register.{Register}
 use Rattle.rules.specs.declared.Mode.{Mode}
 use Rattle.rules.specs.Registers.{Reference, stepRegister, decimal}
 use Rattle.rules.specs.Texts.{Text, text, textOf}
-use Rattle.rules.specs.Escapes.{Surroundings, refused, number, aString, scanned, writes, wants, gives, ends, unlisted, before, follow, next, showIt, enter, run}
+use Rattle.rules.specs.Escapes.{Surroundings, scanRefused, number, aString, scanned, writes, wants, gives, ends, unlisted, writtenBefore, follow, nextByte, showIt, enter, run}
 use Rattle.registers.specs.declared.interpolation.Shown.{Shown}
 use Rattle.registers.specs.declared.interpolation.Referred.the-variants.{Is, Bad, ReadOnly}
 use Rattle.registers.specs.Table.Columns.{tableOf}
@@ -21,12 +21,12 @@ use Rattle.registers.specs.Interpolation.ReadOnly.{seenOf, ReferTo}
 use Rattle.scan.specs.declared.output.Wrote as kinds
 use Rattle.scan.specs.declared.output.Wrote.the-variants as wrote
 use Rattle.scan.specs.declared.expansion.Acted.the-variants.{Wrote, Enters, Ends, Refused}
-use Rattle.scan.specs.Output.Runs.{standing, from, acts, total}
+use Rattle.scan.specs.Output.Runs.{scanOutside, from, runAction, total}
 use Rattle.scan.specs.Output.Writes.{Room, WroteTo}
-use Rattle.scan.specs.Expansion.Acts.{wroteAs, behind, ActedTo, ShownTo, EnteredTo}
+use Rattle.scan.specs.Expansion.Acts.{wroteAs, actionBehind, ActedTo, ShownTo, EnteredTo}
 use Rattle.rules.specs.declared.Kind.the-variants.{Macro, String}
 use Rattle.texts.specs.declared.table.Spot.{Spot}
-use Rattle.texts.specs.declared.table.Found.the-variants.{There, Nothing}
+use Rattle.texts.specs.declared.table.FoundText.the-variants.{There, Nothing}
 use Rattle.texts.specs.Table.Table.{textsOf}
 use Rattle.texts.specs.Table.Places.{partOf, bytesOr, LookedUp}
 use Rattle.scan.proofs.expansion.Escapes.{before-nothing}
@@ -49,8 +49,8 @@ acted-writes wrote.Full w m {out} {written} {limit} depth l rs {out'} r p = reco
 -- a register that has a value, and one that is refused
 module _ (w : Surroundings) (m : Mode) (turn : Turn) (name : Name) (left : ℕ) (u : List (List ℕ)) (room : ℕ) (rs : List Register) where
   by-reference : {x : Reference} → x ≡ stepRegister (w .seen) turn name rs
-      → acts w m (wants (number turn) name) left u room rs ≡ follow (showIt x (standing u room rs)) (λ s. run w m left (next (s .unread) s))
-  by-reference e = ap (λ x. follow (showIt x (standing u room rs)) (λ s. run w m left (next (s .unread) s))) (sym e)
+      → runAction w m (wants (number turn) name) left u room rs ≡ follow (showIt x (scanOutside u room rs)) (λ s. run w m left (nextByte (s .unread) s))
+  by-reference e = ap (λ x. follow (showIt x (scanOutside u room rs)) (λ s. run w m left (nextByte (s .unread) s))) (sym e)
 
 module _ {shown : Shown} {fs ss : List ℕ} {vs ts : List ℤ} {count : ℕ} {turn : Turn} {name : Name} {vs' : List ℤ} {out : List ℕ} {written limit : ℕ} where
   pub shown-is : (v : ℤ) (x : kinds.Wrote) {out' : List ℕ} → ReferTo fs ss vs ts count shown turn name (Is v) vs' → Room out written limit → WroteTo x (decimal v) out written limit out'
@@ -60,7 +60,7 @@ module _ {shown : Shown} {fs ss : List ℕ} {vs ts : List ℤ} {count : ℕ} {tu
         let w : Surroundings = record { seen = seenOf shown; texts = texts; arguments = arguments } in
         let a = acted-writes x w m depth (decimal v) (tableOf fs ss vs' ts count) r p in
         record {
-          is = λ left t u e. ap (before (take written out)) (by-reference w m turn name left (t ∷ u) (limit - written) (tableOf fs ss vs ts count) (f .is)) ∙ a .is left t u e;
+          is = λ left t u e. ap (writtenBefore (take written out)) (by-reference w m turn name left (t ∷ u) (limit - written) (tableOf fs ss vs ts count) (f .is)) ∙ a .is left t u e;
           sound = a .sound;
         };
     table = f .table;
@@ -71,8 +71,8 @@ module _ {shown : Shown} {fs ss : List ℕ} {vs ts : List ℤ} {count : ℕ} {tu
     is = λ texts arguments m depth.
         let w : Surroundings = record { seen = seenOf shown; texts = texts; arguments = arguments } in
         record {
-          is = λ left t u e. ap (before (take written out)) (by-reference w m turn name left (t ∷ u) (limit - written) (tableOf fs ss vs ts count) (f .is))
-              ∙ ap (λ l. refused 6 (tableOf fs ss l ts count)) (sym (f .kept));
+          is = λ left t u e. ap (writtenBefore (take written out)) (by-reference w m turn name left (t ∷ u) (limit - written) (tableOf fs ss vs ts count) (f .is))
+              ∙ ap (λ l. scanRefused 6 (tableOf fs ss l ts count)) (sym (f .kept));
           sound = r .long;
         };
     table = f .table;
@@ -83,8 +83,8 @@ module _ {shown : Shown} {fs ss : List ℕ} {vs ts : List ℤ} {count : ℕ} {tu
     is = λ texts arguments m depth.
         let w : Surroundings = record { seen = seenOf shown; texts = texts; arguments = arguments } in
         record {
-          is = λ left t u e. ap (before (take written out)) (by-reference w m turn name left (t ∷ u) (limit - written) (tableOf fs ss vs ts count) (f .is))
-              ∙ ap (λ l. refused 7 (tableOf fs ss l ts count)) (sym (f .kept));
+          is = λ left t u e. ap (writtenBefore (take written out)) (by-reference w m turn name left (t ∷ u) (limit - written) (tableOf fs ss vs ts count) (f .is))
+              ∙ ap (λ l. scanRefused 7 (tableOf fs ss l ts count)) (sym (f .kept));
           sound = r .long;
         };
     table = f .table;
@@ -92,16 +92,16 @@ module _ {shown : Shown} {fs ss : List ℕ} {vs ts : List ℤ} {count : ℕ} {tu
 
 -- a string where there are eight already, and where there are fewer
 module _ (w : Surroundings) (m : Mode) (name : Name) (l : List ℕ) (left : ℕ) (u : List (List ℕ)) (room : ℕ) (rs : List Register) where
-  deep : 8 < length u → follow (enter (some (text name String l)) (standing u room rs)) (λ s. run w m left (next (s .unread) s)) ≡ refused 4 rs
+  deep : 8 < length u → follow (enter (some (text name String l)) (scanOutside u room rs)) (λ s. run w m left (nextByte (s .unread) s)) ≡ scanRefused 4 rs
   deep h = rw (lt-leb (length u) 8 h)
 
-  shallow : length u ≤ 8 → follow (enter (some (text name String l)) (standing u room rs)) (λ s. run w m left (next (s .unread) s)) ≡ before [] (from w m left (l ∷ u) room rs)
+  shallow : length u ≤ 8 → follow (enter (some (text name String l)) (scanOutside u room rs)) (λ s. run w m left (nextByte (s .unread) s)) ≡ writtenBefore [] (from w m left (l ∷ u) room rs)
   shallow h = rw (le-leb (length u) 8 h)
 
 -- by the text that is found
 by-text : (w : Surroundings) (m : Mode) (name : Name) (left : ℕ) (u : List (List ℕ)) (room : ℕ) (rs : List Register) {x : Option Text} → x ≡ textOf name (w .texts)
-    → acts w m (wants aString name) left u room rs ≡ follow (enter x (standing u room rs)) (λ s. run w m left (next (s .unread) s))
-by-text w m name left u room rs e = ap (λ x. follow (enter x (standing u room rs)) (λ s. run w m left (next (s .unread) s))) (sym e)
+    → runAction w m (wants aString name) left u room rs ≡ follow (enter x (scanOutside u room rs)) (λ s. run w m left (nextByte (s .unread) s))
+by-text w m name left u room rs e = ap (λ x. follow (enter x (scanOutside u room rs)) (λ s. run w m left (nextByte (s .unread) s))) (sym e)
 
 -- a string that is named
 module _ {store fs ss ks ls : List ℕ} {count : ℕ} {name : Name} {depth written : ℕ} where
@@ -111,7 +111,7 @@ module _ {store fs ss ks ls : List ℕ} {count : ℕ} {name : Name} {depth writt
     is = λ seen arguments m out limit rs r.
         let w : Surroundings = record { seen = seen; texts = textsOf store fs ss ks ls count; arguments = arguments } in
         record {
-          is = λ left t u e. ap (before (take written out)) (by-text w m name left (t ∷ u) (limit - written) rs (l .is)
+          is = λ left t u e. ap (writtenBefore (take written out)) (by-text w m name left (t ∷ u) (limit - written) rs (l .is)
               ∙ before-nothing (from w m left (t ∷ u) (limit - written) rs));
           sound = (r, omega arith, refl);
         };
@@ -123,7 +123,7 @@ module _ {store fs ss ks ls : List ℕ} {count : ℕ} {name : Name} {depth writt
       is = λ seen arguments m out limit rs r.
           let w : Surroundings = record { seen = seen; texts = textsOf store fs ss ks ls count; arguments = arguments } in
           record {
-            is = λ left t u e. ap (before (take written out)) (by-text w m name left (t ∷ u) (limit - written) rs (ap (λ x. some (text name x (partOf store spot))) (sym k) ∙ l .is));
+            is = λ left t u e. ap (writtenBefore (take written out)) (by-text w m name left (t ∷ u) (limit - written) rs (ap (λ x. some (text name x (partOf store spot))) (sym k) ∙ l .is));
             sound = r .long;
           };
     }
@@ -133,7 +133,7 @@ module _ {store fs ss ks ls : List ℕ} {count : ℕ} {name : Name} {depth writt
       is = λ seen arguments m out limit rs r.
           let w : Surroundings = record { seen = seen; texts = textsOf store fs ss ks ls count; arguments = arguments } in
           record {
-            is = λ left t u e. ap (before (take written out)) (by-text w m name left (t ∷ u) (limit - written) rs (ap (λ x. some (text name x (partOf store spot))) (sym k) ∙ l .is)
+            is = λ left t u e. ap (writtenBefore (take written out)) (by-text w m name left (t ∷ u) (limit - written) rs (ap (λ x. some (text name x (partOf store spot))) (sym k) ∙ l .is)
                 ∙ deep w m name (partOf store spot) left (t ∷ u) (limit - written) rs (omega arith));
             sound = r .long;
           };
@@ -145,7 +145,7 @@ module _ {store fs ss ks ls : List ℕ} {count : ℕ} {name : Name} {depth writt
       is = λ seen arguments m out limit rs r.
           let w : Surroundings = record { seen = seen; texts = textsOf store fs ss ks ls count; arguments = arguments } in
           record {
-            is = λ left t u e. ap (before (take written out)) (by-text w m name left (t ∷ u) (limit - written) rs (ap (λ x. some (text name x (partOf store spot))) (sym k) ∙ l .is)
+            is = λ left t u e. ap (writtenBefore (take written out)) (by-text w m name left (t ∷ u) (limit - written) rs (ap (λ x. some (text name x (partOf store spot))) (sym k) ∙ l .is)
                 ∙ shallow w m name (partOf store spot) left (t ∷ u) (limit - written) rs (omega arith) ∙ before-nothing (from w m left (partOf store spot ∷ t ∷ u) (limit - written) rs)
                 ∙ ap (λ x. from w m left (bytesOr x ∷ t ∷ u) (limit - written) rs) (l .is));
             sound = (refl, omega arith);
@@ -159,7 +159,7 @@ module _ {w : Surroundings} {m : Mode} {out : List ℕ} {written limit depth : �
   acted-gives k x r p =
       let a = acted-writes x w m depth (givenAt m depth (getD (w .arguments) k [])) rs r p in
       record {
-        is = λ left t u e. ap (λ l. behind w m out written limit (writes l) left (t ∷ u) rs) (given-at m t u depth (getD (w .arguments) k []) e) ∙ a .is left t u e;
+        is = λ left t u e. ap (λ l. actionBehind w m out written limit (writes l) left (t ∷ u) rs) (given-at m t u depth (getD (w .arguments) k []) e) ∙ a .is left t u e;
         sound = a .sound;
       }
 

@@ -10,8 +10,8 @@ use Rattle.rules.specs.declared.Name.{Name}
 use Rattle.rules.specs.Texts.{textOf}
 use Rattle.texts.specs.Table.Places.{bytesOr}
 use Rattle.rules.specs.Escapes.{Surroundings, scanned, run, scan, Action}
-use Rattle.registers.specs.Table.Columns.{Table, tableOf}
-use Rattle.scan.specs.declared.escapes.What.{What}
+use Rattle.registers.specs.Table.Columns.{RegistersInvariant, tableOf}
+use Rattle.scan.specs.declared.escapes.EscapeAction.{EscapeAction}
 use Rattle.scan.specs.declared.expansion.Acted.the-variants as acted
 use Rattle.scan.specs.declared.expansion.Progress.{Progress}
 use Rattle.scan.specs.declared.expansion.Progress.the-variants.{Over, Ended, Refused}
@@ -19,16 +19,16 @@ use Rattle.scan.specs.Escapes.Readings.{actionIn}
 use Rattle.scan.specs.declared.expansion.Scanned.the-variants as answer
 use Rattle.scan.specs.Output.Runs.{from, total}
 use Rattle.scan.specs.Output.Writes.{Room}
-use Rattle.scan.specs.Expansion.Acts.{behind, ActsTo}
-use Rattle.scan.specs.Expansion.Expansion.{Filled, ReadOver, ReadEscape, StopsIn, progressOf, CarriedOut, ExpandsTo, ScannedTo}
+use Rattle.scan.specs.Expansion.Acts.{actionBehind, ActsTo}
+use Rattle.scan.specs.Expansion.Expansion.{BytesFilled, ReadOver, ReadEscape, StopsIn, progressOf, CarriedOut, ExpandsTo, ScannedTo}
 use Rattle.scan.proofs.output.Buffers.{later}
 use Rattle.scan.proofs.expansion.Escapes.{before-nothing}
 
 -- nothing is written yet; more is written
-pub fill-none : {out : List ℕ} {written limit : ℕ} → Room out written limit → Filled out written limit written out
+pub fill-none : {out : List ℕ} {written limit : ℕ} → Room out written limit → BytesFilled out written limit written out
 fill-none r = record { room = r; more = omega arith; kept = refl }
 
-pub fill-more : {out : List ℕ} {written limit n : ℕ} {out' : List ℕ} {k : ℕ} {out'' : List ℕ} → Filled out written limit n out' → Filled out' n limit k out'' → Filled out written limit k out''
+pub fill-more : {out : List ℕ} {written limit n : ℕ} {out' : List ℕ} {k : ℕ} {out'' : List ℕ} → BytesFilled out written limit n out' → BytesFilled out' n limit k out'' → BytesFilled out written limit k out''
 fill-more {out} {written} {limit} {n} {out'} {k} {out''} f g =
     record { room = g .room; more = omega (arith, f .more, g .more); kept = g .kept ∙ later out' out n k (g .more) (f .kept) }
 
@@ -63,11 +63,11 @@ pub record Going (w : Surroundings) (m : Mode) (text : List ℕ) (depth left : �
   pub is : (u : List (List ℕ)) → length u ≡ depth
       → total w m out written limit left (text ∷ u) (tableOf fs ss vs ts count) ≡ total w m out' n limit l (drop i text ∷ u) (tableOf fs ss vs' ts count)
   pub high : i ≤ length text
-  pub filled : Filled out written limit n out'
-  pub table : Table fs ss vs' ts count
+  pub filled : BytesFilled out written limit n out'
+  pub table : RegistersInvariant fs ss vs' ts count
 
 module _ {w : Surroundings} {m : Mode} {text : List ℕ} {depth left : ℕ} {out : List ℕ} {written limit : ℕ} {fs ss : List ℕ} {vs ts : List ℤ} {count : ℕ} where
-  pub start : Room out written limit → Table fs ss vs ts count → Going w m text depth left out written limit fs ss vs ts count 0 left written out vs
+  pub start : Room out written limit → RegistersInvariant fs ss vs ts count → Going w m text depth left out written limit fs ss vs ts count 0 left written out vs
   start r t = record { is = λ u e. refl; high = omega arith; filled = fill-none r; table = t }
 
   module _ {i l n : ℕ} {out1 : List ℕ} {vs1 : List ℤ} (g : Going w m text depth left out written limit fs ss vs ts count i l n out1 vs1) where
@@ -77,13 +77,13 @@ module _ {w : Surroundings} {m : Mode} {text : List ℕ} {depth left : ℕ} {out
     pub stopped : {k : ℕ} {out2 : List ℕ} → StopsIn m text i l n limit out1 k out2 → ExpandsTo (Refused k) w m text depth left out written limit fs ss vs ts count out2 vs1
     stopped s = record { is = λ u e. g .is u e ∙ s .is w u (tableOf fs ss vs1 ts count); table = g .table; sound = s .long }
 
-    module _ {end l2 n2 : ℕ} {what : What} {out2 : List ℕ} (r : ReadEscape m text i l n limit out1 end l2 n2 what out2) where
+    module _ {end l2 n2 : ℕ} {what : EscapeAction} {out2 : List ℕ} (r : ReadEscape m text i l n limit out1 end l2 n2 what out2) where
       -- the action, behind all that is written
       here : (u : List (List ℕ)) → length u ≡ depth
-          → total w m out written limit left (text ∷ u) (tableOf fs ss vs ts count) ≡ behind w m out2 n2 limit (actionIn what) l2 (drop end text ∷ u) (tableOf fs ss vs1 ts count)
+          → total w m out written limit left (text ∷ u) (tableOf fs ss vs ts count) ≡ actionBehind w m out2 n2 limit (actionIn what) l2 (drop end text ∷ u) (tableOf fs ss vs1 ts count)
       here u e = g .is u e ∙ r .is w u (tableOf fs ss vs1 ts count)
 
-      so-far : Filled out written limit n2 out2
+      so-far : BytesFilled out written limit n2 out2
       so-far = fill-more (g .filled) (r .filled)
 
       module _ {out3 : List ℕ} {vs3 : List ℤ} where

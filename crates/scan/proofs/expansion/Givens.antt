@@ -7,7 +7,7 @@ use lib.ListN.{length, take, drop, getD, List·getD-eq-default}
 use lib.Seq.{getD-take, length-take-le}
 use Rattle.rules.specs.declared.Mode.{Mode}
 use Rattle.rules.specs.declared.Mode.the-variants.{Plain, Copy}
-use Rattle.rules.specs.Escapes.{given, escaped}
+use Rattle.rules.specs.Escapes.{argumentGiven, escaped}
 use Rattle.scan.specs.Arguments.Around.{cutAt, argumentsOf, beginOf, Arguments, givenAt}
 
 -- where a part begins, if the first begins there
@@ -66,7 +66,7 @@ given-copy zero h e = ap escaped (sym e)
 given-copy (suc d) h e = absurd (omega arith)
 
 -- what the rules give, by the number of texts around
-pub given-at : (m : Mode) (t : List ℕ) (u : List (List ℕ)) (depth : ℕ) (a : List ℕ) → length u ≡ depth → given m (t ∷ u) a ≡ givenAt m depth a
+pub given-at : (m : Mode) (t : List ℕ) (u : List (List ℕ)) (depth : ℕ) (a : List ℕ) → length u ≡ depth → argumentGiven m (t ∷ u) a ≡ givenAt m depth a
 given-at Plain t [] zero a e = refl
 given-at Copy t [] zero a e = refl
 given-at m t [] (suc d) a e = absurd (omega arith)

@@ -9,17 +9,17 @@ use lib.Dec.{leb}
 use borrow.Author.Tests.{le-leb, lt-leb}
 use Rattle.rules.specs.declared.Register.{Register}
 use Rattle.rules.specs.declared.Mode.{Mode}
-use Rattle.rules.specs.Escapes.{Surroundings, slash, before, next, run}
+use Rattle.rules.specs.Escapes.{Surroundings, slash, writtenBefore, nextByte, run}
 use Rattle.scan.specs.declared.escapes.Reading.{Reading}
 use Rattle.scan.specs.Escapes.Readings.{actionIn, lone, ReadingIs}
-use Rattle.scan.specs.Output.Runs.{standing, from, acts, total, ifLeft}
+use Rattle.scan.specs.Output.Runs.{scanOutside, from, runAction, total, ifLeft}
 use Rattle.scan.specs.Output.Writes.{Passed, Stops}
-use Rattle.scan.specs.Expansion.Expansion.{Filled, ReadOver, ReadEscape, StopsIn}
+use Rattle.scan.specs.Expansion.Expansion.{BytesFilled, ReadOver, ReadEscape, StopsIn}
 use Rattle.scan.proofs.output.Places.{unread, nothing}
 use Rattle.scan.proofs.expansion.Escapes.{from-escape}
 
 -- the next byte does not depend on where the scan stood
-next-same : (u v x : List (List ℕ)) (room : ℕ) (rs : List Register) → next u (standing v room rs) ≡ next u (standing x room rs)
+next-same : (u v x : List (List ℕ)) (room : ℕ) (rs : List Register) → nextByte u (scanOutside v room rs) ≡ nextByte u (scanOutside x room rs)
 next-same [] v x room rs = refl
 next-same ([] ∷ u) v x room rs = next-same u v x room rs
 next-same ((b ∷ l) ∷ u) v x room rs = refl
@@ -27,9 +27,9 @@ next-same ((b ∷ l) ∷ u) v x room rs = refl
 -- a text that is over is left
 pub left-over : (w : Surroundings) (m : Mode) (out : List ℕ) (n limit l : ℕ) (u : List (List ℕ)) (rs : List Register) → total w m out n limit l ([] ∷ u) rs ≡ total w m out n limit l u rs
 unfolding total
-left-over w m out n limit l u rs = ap (λ x. before (take n out) (run w m l x)) (next-same u ([] ∷ u) u (limit - n) rs)
+left-over w m out n limit l u rs = ap (λ x. writtenBefore (take n out) (run w m l x)) (next-same u ([] ∷ u) u (limit - n) rs)
 
-filled-by : {text : List ℕ} {at left written limit : ℕ} {out : List ℕ} {i l n : ℕ} {out' : List ℕ} → Passed text at left written limit out i l n out' → Filled out written limit n out'
+filled-by : {text : List ℕ} {at left written limit : ℕ} {out : List ℕ} {i l n : ℕ} {out' : List ℕ} → Passed text at left written limit out i l n out' → BytesFilled out written limit n out'
 filled-by p = record { room = p .room; more = p .more; kept = p .kept }
 
 module _ {text : List ℕ} {at left written limit : ℕ} {out : List ℕ} where
@@ -47,11 +47,11 @@ module _ {text : List ℕ} {at left written limit : ℕ} {out : List ℕ} where
       -- the escape, behind what was copied
       escape : (w : Surroundings) (u : List (List ℕ)) (rs : List Register)
           → total w m out written limit left (drop at text ∷ u) rs
-          ≡ before (take n out') (ifLeft (leb (suc (r .end - (i + 1))) l) (acts w m (actionIn (r .what)) (l - suc (r .end - (i + 1))) (drop (r .end - (i + 1)) (drop (i + 1) text) ∷ u) (limit - n) rs) rs)
+          ≡ writtenBefore (take n out') (ifLeft (leb (suc (r .end - (i + 1))) l) (runAction w m (actionIn (r .what)) (l - suc (r .end - (i + 1))) (drop (r .end - (i + 1)) (drop (i + 1) text) ∷ u) (limit - n) rs) rs)
       unfolding total
       escape w u rs =
-          p .is w m u rs ∙ ap (λ t. before (take n out') (from w m l (t ∷ u) (limit - n) rs)) (unread text i 92 h b)
-          ∙ ap (before (take n out')) (from-escape w m u (limit - n) rs (drop (i + 1) text) l (r .end - (i + 1)) (actionIn (r .what)) (e .is))
+          p .is w m u rs ∙ ap (λ t. writtenBefore (take n out') (from w m l (t ∷ u) (limit - n) rs)) (unread text i 92 h b)
+          ∙ ap (writtenBefore (take n out')) (from-escape w m u (limit - n) rs (drop (i + 1) text) l (r .end - (i + 1)) (actionIn (r .what)) (e .is))
 
       pub next-cut : l < r .end - i → StopsIn m text at left written limit out 4 out'
       next-cut k = record {

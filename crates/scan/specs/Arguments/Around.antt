@@ -32,7 +32,7 @@ pub record Arguments (bytes ends : List ℕ) (count : ℕ) : Type 0 where
   pub inside : (k : ℕ) → k < count → getD ends k 0 ≤ length bytes
 
 -- an argument may be there, and its beginning is a number of the code's
-pub record Begins (ends : List ℕ) (k : ℕ) : Type 0 where
+pub record ArgumentBegins (ends : List ℕ) (k : ℕ) : Type 0 where
   pub few : k < 9
   pub fits : beginOf ends k ≤ 18446744073709551615
 

@@ -8,7 +8,7 @@ use lib.Dec.{eqb}
 use lib.ListN.{length, take, drop, getD}
 use lib.Seq.{sets}
 use Rattle.rules.specs.Bytes.{byte}
-use Rattle.rules.specs.Arguments.{Place, part, afterSpaces, upTo, word, first, arguments}
+use Rattle.rules.specs.Arguments.{Place, part, afterSpaces, upTo, firstWord, first, arguments}
 use Rattle.scan.specs.Arguments.Around.{argumentsOf, Arguments}
 use Rattle.scan.specs.declared.arguments.Cut.{Cut}
 use Rattle.scan.specs.declared.arguments.Argument.{Argument}
@@ -21,8 +21,8 @@ pub record Spaces (line : List ℕ) (at r : ℕ) : Type 0 where
   pub inside : r ≤ length line
 
 -- the place r where the word at a place ends
-pub record WordAt (line : List ℕ) (at r : ℕ) : Type 0 where
-  pub is : part (take (r - at) (drop at line)) (drop r line) ≡ word (drop at line)
+pub record WordEnds (line : List ℕ) (at r : ℕ) : Type 0 where
+  pub is : part (take (r - at) (drop at line)) (drop r line) ≡ firstWord (drop at line)
   pub onward : at ≤ r
   pub inside : r ≤ length line
 
@@ -31,7 +31,7 @@ abbrev pub quoteAt : List ℕ → ℕ → Bool
 quoteAt line at = eqb (getD line at 0) (byte "\"")
 
 -- "expanded line passes 512 bytes" is refused: what is unread of an expanded line has room behind what is written of it
-pub record Unread (line : List ℕ) (at : ℕ) (out : List ℕ) (written : ℕ) : Type 0 where
+pub record UnreadRoom (line : List ℕ) (at : ℕ) (out : List ℕ) (written : ℕ) : Type 0 where
   pub inside : at ≤ length line
   pub long : length out ≡ 512
   pub short : written + (length line - at) ≤ 512
@@ -54,9 +54,9 @@ pub record Took (line : List ℕ) (at : ℕ) (out : List ℕ) (written : ℕ) (c
   pub short : c .written + at ≤ written + c .at
 
 -- "Arguments part at spaces": the first from a place on, if there is one; else nothing is written
-abbrev pub Takes : (line : List ℕ) (at : ℕ) (out : List ℕ) (written : ℕ) → Argument → (out' : List ℕ) → Type 0
-Takes line at out w (There c) out' = Took line at out w c out'
-Takes line at out w Nothing out' = (first (drop at line) ≡ none) × (out' ≡ out)
+abbrev pub ArgumentTaken : (line : List ℕ) (at : ℕ) (out : List ℕ) (written : ℕ) → Argument → (out' : List ℕ) → Type 0
+ArgumentTaken line at out w (There c) out' = Took line at out w c out'
+ArgumentTaken line at out w Nothing out' = (first (drop at line) ≡ none) × (out' ≡ out)
 
 -- the arguments of a line are written
 pub record PartedAll (line : List ℕ) (at r : ℕ) (out' ends' : List ℕ) : Type 0 where

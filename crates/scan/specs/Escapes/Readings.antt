@@ -6,9 +6,9 @@ use lib.ListN.{length, drop}
 use Rattle.rules.specs.Bytes.{backslash}
 use Rattle.rules.specs.declared.Mode.{Mode}
 use Rattle.rules.specs.declared.Mode.the-variants.{Plain, Copy}
-use Rattle.rules.specs.Escapes.{Wanted, number, aString, Escape, slash, naming, Action, writes, begins, holds, wants, gives, ends, unlisted, actionOf}
-use Rattle.scan.specs.declared.escapes.What.{What}
-use Rattle.scan.specs.declared.escapes.What.the-variants.{Writes, Keeps, Number, Text, Gives, Ends, Bad}
+use Rattle.rules.specs.Escapes.{Wanted, number, aString, Escape, slash, naming, Action, writes, begins, holdsEscape, wants, gives, ends, unlisted, actionOf}
+use Rattle.scan.specs.declared.escapes.EscapeAction.{EscapeAction}
+use Rattle.scan.specs.declared.escapes.EscapeAction.the-variants.{Writes, Keeps, Number, Text, Gives, Ends, Bad}
 use Rattle.scan.specs.declared.escapes.Reading.{Reading}
 use Rattle.scan.specs.declared.escapes.Naming.{Naming}
 use Rattle.scan.specs.declared.escapes.Naming.the-variants.{Named, Cut}
@@ -23,22 +23,22 @@ abbrev pub oneMore : ℕ × Action → ℕ × Action
 oneMore x = (suc (x .0), x .1)
 
 -- what an action leaves to be read: nothing, or the rest of the escape, with what it comes to if the text ends there
-abbrev pub onward : Mode → Action → (Escape → Action → ℕ × Action) → ℕ × Action
-onward m (writes l) k = (1, writes l)
-onward m begins k = oneMore (k slash (lone m))
-onward m (holds e) k = oneMore (k e unlisted)
-onward m (wants x n) k = (1, wants x n)
-onward m (gives i) k = (1, gives i)
-onward m ends k = (1, ends)
-onward m unlisted k = (1, unlisted)
+abbrev pub readOn : Mode → Action → (Escape → Action → ℕ × Action) → ℕ × Action
+readOn m (writes l) k = (1, writes l)
+readOn m begins k = oneMore (k slash (lone m))
+readOn m (holdsEscape e) k = oneMore (k e unlisted)
+readOn m (wants x n) k = (1, wants x n)
+readOn m (gives i) k = (1, gives i)
+readOn m ends k = (1, ends)
+readOn m unlisted k = (1, unlisted)
 
 -- how many bytes are read from within an escape to its end, and the last action; `cut` is what it comes to if the text ends here
 unfoldable pub escapeOf : Mode → Escape → (cut : Action) → List ℕ → ℕ × Action
 escapeOf m e cut [] = (0, cut)
-escapeOf m e cut (b ∷ l) = onward m (actionOf m e b) (λ f c. escapeOf m f c l)
+escapeOf m e cut (b ∷ l) = readOn m (actionOf m e b) (λ f c. escapeOf m f c l)
 
 -- the action that an answer stands for
-abbrev pub actionIn : What → Action
+abbrev pub actionIn : EscapeAction → Action
 actionIn (Writes b) = writes (b ∷ [])
 actionIn (Keeps b) = writes (backslash ∷ b ∷ [])
 actionIn (Number t n) = wants (number t) n

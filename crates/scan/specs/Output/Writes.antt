@@ -6,7 +6,7 @@ use lib.ListN.{length, take, drop, getD}
 use Rattle.rules.specs.Bytes.{backslash}
 use Rattle.rules.specs.declared.Register.{Register}
 use Rattle.rules.specs.declared.Mode.{Mode}
-use Rattle.rules.specs.Escapes.{Surroundings, refused}
+use Rattle.rules.specs.Escapes.{Surroundings, scanRefused}
 use Rattle.scan.specs.declared.output.Wrote.{Wrote}
 use Rattle.scan.specs.declared.output.Wrote.the-variants.{To, Full}
 use Rattle.scan.specs.declared.output.Copied.{Copied}
@@ -44,7 +44,7 @@ pub record Passed (text : List ℕ) (at left written limit : ℕ) (out : List �
 
 -- what the rules make of the text is this refusal
 pub record Stops (text : List ℕ) (at left written limit : ℕ) (out : List ℕ) (k : ℕ) (out' : List ℕ) : Type 0 where
-  pub is : (w : Surroundings) (m : Mode) (u : List (List ℕ)) (rs : List Register) → total w m out written limit left (drop at text ∷ u) rs ≡ refused k rs
+  pub is : (w : Surroundings) (m : Mode) (u : List (List ℕ)) (rs : List Register) → total w m out written limit left (drop at text ∷ u) rs ≡ scanRefused k rs
   pub long : length out' ≡ 512
 
 -- bytes that are no backslash were copied, up to a backslash or the end; or there is no room, or nothing left to be scanned

@@ -23,7 +23,7 @@ use Rattle.settings.specs.declared.layout.Printer.{Printer}
 use Rattle.settings.specs.declared.layout.Layout.{Layout}
 use Rattle.settings.specs.declared.layout.NewLayout.{NewLayout}
 use Rattle.settings.specs.Lengths.Views.{printer, settingIn, pageLengthIn}
-use Rattle.settings.specs.Layout.Layouts.{printerOf, layoutOf, Limits, Laid, newLayoutIs, Ready, LineSet, PageSet}
+use Rattle.settings.specs.Layout.Layouts.{printerOf, layoutOf, LayoutInvariant, Laid, newLayoutIs, LayoutReady, LineSettingRefines, PageSettingRefines}
 use Rattle.settings.specs.Layout.LayoutLaws.{set-line-limits, set-page-limits}
 
 -- "n of 0 or less" is none, as a count below 0 is
@@ -32,7 +32,7 @@ count-is (pos n) = refl
 count-is (negsuc n) = refl
 
 -- a layout by its equation
-pub laid : (r : Layout) (y : rule.Layout) → layoutOf r ≡ y → Limits y → Laid r y
+pub laid : (r : Layout) (y : rule.Layout) → layoutOf r ≡ y → LayoutInvariant y → Laid r y
 laid r y e h = record { is = e; limits = rw e h }
 
 -- a line is counted, or there is none to count
@@ -40,15 +40,15 @@ pub none-counted : (y : rule.Layout) → y .centred ≡ 0 → begun y ≡ counte
 none-counted y h = ap (λ (n : ℕ). withCentred n (begun y)) (omega arith)
 
 -- what a request made, by its equation
-pub line-set : (p : Printer) (q : LineSetting) (y : Layout) (l : List ℕ) (r : NewLayout) → Ready p y → newLayoutIs r ≡ setLine (printerOf p) q l (layoutOf y) → LineSet p q y l r
+pub line-set : (p : Printer) (q : LineSetting) (y : Layout) (l : List ℕ) (r : NewLayout) → LayoutReady p y → newLayoutIs r ≡ setLine (printerOf p) q l (layoutOf y) → LineSettingRefines p q y l r
 line-set p q y l r h e = record {
   is = e;
   limits = rw e (set-line-limits (printerOf p) q l (layoutOf y) (h .limits));
   page = rw e (set-line-page (printerOf p) q l (layoutOf y));
 }
 
-pub page-set : (p : Printer) (q : PageSetting) (y : Layout) (used : ℕ) (l : List ℕ) (r : NewLayout) → Ready p y
-    → newLayoutIs r ≡ setPage (printerOf p) q used l (layoutOf y) → PageSet p q y used l r
+pub page-set : (p : Printer) (q : PageSetting) (y : Layout) (used : ℕ) (l : List ℕ) (r : NewLayout) → LayoutReady p y
+    → newLayoutIs r ≡ setPage (printerOf p) q used l (layoutOf y) → PageSettingRefines p q y used l r
 page-set p q y used l r h e = record {
   is = e;
   limits = rw e (set-page-limits (printerOf p) q used l (layoutOf y) (h .limits));

@@ -15,7 +15,7 @@ use Rattle.measure.specs.declared.Pitch.{Pitch}
 use Rattle.measure.proofs.Signed.{small, abs-add}
 use Rattle.rules.specs.Refusals.{Judged, value, bad, judge, _>>=_}
 use Rattle.rules.specs.Numbers.{cells, signed}
-use Rattle.rules.specs.Settings.{Setting, set, goBack, changed, inRange}
+use Rattle.rules.specs.Settings.{Setting, newSetting, goBack, changed, inRange}
 use Rattle.settings.specs.Lengths.Views.{settingIn}
 
 -- a change of a count fits
@@ -51,7 +51,7 @@ module _ (z : ℤ) (g : Plain z) (low high : ℕ) where
 
 -- a setting with an argument
 pub setting-by : (p : Pitch) (range : ℤ → Judged ℕ) (old : Setting) (l : List ℕ) → 0 < length l
-    → settingIn p range old l ≡ (cells p l >>= λ v. range (changed (signed l) (old .now) v) >>= λ n. value (set n old))
+    → settingIn p range old l ≡ (cells p l >>= λ v. range (changed (signed l) (old .now) v) >>= λ n. value (newSetting n old))
 setting-by p range old [] h = absurd (omega arith)
 setting-by p range old (b ∷ l) h = refl
 
@@ -68,7 +68,7 @@ module _ (p : Pitch) (low high : ℕ) (old : Setting) (l : List ℕ) (h : 0 < le
   pub outside : (v : ℤ) → value v ≡ cells p l → bad 7 ≡ inRange low high (changed (signed l) (old .now) v) → bad 7 ≡ settingIn p (inRange low high) old l
   outside v e f = sym (setting-by p (inRange low high) old l h ∙ rw (sym e, sym f) refl)
 
-  pub new-value : (v : ℤ) (n : ℕ) → value v ≡ cells p l → value n ≡ inRange low high (changed (signed l) (old .now) v) → value (set n old) ≡ settingIn p (inRange low high) old l
+  pub new-value : (v : ℤ) (n : ℕ) → value v ≡ cells p l → value n ≡ inRange low high (changed (signed l) (old .now) v) → value (newSetting n old) ≡ settingIn p (inRange low high) old l
   new-value v n e f = sym (setting-by p (inRange low high) old l h ∙ rw (sym e, sym f) refl)
 
 -- a page that is used up to its longest

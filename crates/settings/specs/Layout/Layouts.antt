@@ -32,7 +32,7 @@ abbrev pub printerOf : Printer → printers.Printer
 printerOf p = record { pitch = p .pitch; line = acrossOf (p .line); page = downOf (p .page) }
 
 -- a printer whose starting line and page are within "ll 1 to 240 cells" and "pl 1 to 500 rows"
-pub record SoundPrinter (p : Printer) : Type 0 where
+pub record PrinterInvariant (p : Printer) : Type 0 where
   pub pitch : Sized (p .pitch)
   pub line-least : 1 ≤ acrossOf (p .line)
   pub line-most : acrossOf (p .line) ≤ 240
@@ -42,7 +42,7 @@ pub record SoundPrinter (p : Printer) : Type 0 where
 -- "A cell is 24 units, a row 40"; "Start: ll 65, .. pl 66"
 pub record TenToTheInch (p : Printer) : Type 0 where
   pub is : printerOf p ≡ tenToTheInch
-  pub sound : SoundPrinter p
+  pub sound : PrinterInvariant p
 
 -- the ti total, if one is kept
 abbrev pub totalOf : Total → Option Across
@@ -54,7 +54,7 @@ abbrev pub layoutOf : Layout → rule.Layout
 layoutOf y = layout (settingOf (y .line)) (settingOf (y .indent)) (settingOf (y .offset)) (downOf (y .page)) (totalOf (y .total)) (y .filling) (y .adjusting) (y .centred)
 
 -- "ll 1 to 240 cells, in and the ti total 0 to 239, po 0 to 120, pl 1 to 500 rows": the most of each, and of the value before
-pub record Limits (y : rule.Layout) : Type 0 where
+pub record LayoutInvariant (y : rule.Layout) : Type 0 where
   pub line : y .line .now ≤ 240
   pub line-former : y .line .former ≤ 240
   pub indent : y .indent .now ≤ 239
@@ -68,7 +68,7 @@ pub record Limits (y : rule.Layout) : Type 0 where
 -- a layout that is this one of the rules', within the limits
 pub record Laid (r : Layout) (y : rule.Layout) : Type 0 where
   pub is : layoutOf r ≡ y
-  pub limits : Limits (layoutOf r)
+  pub limits : LayoutInvariant (layoutOf r)
 
 -- a new layout, or a refusal
 abbrev pub newLayoutIs : NewLayout → Judged rule.Layout
@@ -77,20 +77,20 @@ newLayoutIs new-layout.Malformed = bad 6
 newLayoutIs new-layout.OutOfRange = bad 7
 
 -- what a request finds: a sound printer, and a layout within the limits
-pub record Ready (p : Printer) (y : Layout) : Type 0 where
-  pub printer : SoundPrinter p
-  pub limits : Limits (layoutOf y)
+pub record LayoutReady (p : Printer) (y : Layout) : Type 0 where
+  pub printer : PrinterInvariant p
+  pub limits : LayoutInvariant (layoutOf y)
 
 -- what a request gives after its break: a layout within the limits, with the page length as it was, or a refusal
-pub record LineSet (p : Printer) (q : LineSetting) (y : Layout) (l : List ℕ) (r : NewLayout) : Type 0 where
+pub record LineSettingRefines (p : Printer) (q : LineSetting) (y : Layout) (l : List ℕ) (r : NewLayout) : Type 0 where
   pub is : newLayoutIs r ≡ setLine (printerOf p) q l (layoutOf y)
-  pub limits : Every Limits (newLayoutIs r)
+  pub limits : Every LayoutInvariant (newLayoutIs r)
   pub page : Every (λ z. z .page ≡ downOf (y .page)) (newLayoutIs r)
 
 -- what a request that does not break gives: a layout within the limits, with the page length above the rows used if it was, or a refusal
-pub record PageSet (p : Printer) (q : PageSetting) (y : Layout) (used : Down) (l : List ℕ) (r : NewLayout) : Type 0 where
+pub record PageSettingRefines (p : Printer) (q : PageSetting) (y : Layout) (used : Down) (l : List ℕ) (r : NewLayout) : Type 0 where
   pub is : newLayoutIs r ≡ setPage (printerOf p) q used l (layoutOf y)
-  pub limits : Every Limits (newLayoutIs r)
+  pub limits : Every LayoutInvariant (newLayoutIs r)
   pub above : used < downOf (y .page) → Every (λ z. used < z .page) (newLayoutIs r)
 
 -- one of the three lengths in cells
@@ -110,6 +110,6 @@ abbrev pub setLength : printers.Printer → Length → List ℕ → rule.Layout 
 setLength p x l y = setting p (rangeOf x) (lengthOf x y) l >>= λ v. value (withLength x v y)
 
 -- "Room is ll minus indent, 0 if that is negative"
-pub record Room (y : rule.Layout) (r : Cells) : Type 0 where
+pub record RoomIs (y : rule.Layout) (r : Cells) : Type 0 where
   pub is : acrossOf r ≡ roomNow y
   pub most : acrossOf r ≤ 240

@@ -15,11 +15,11 @@ use Rattle.rules.specs.Names.{twoBytes}
 use Rattle.rules.specs.Refusals.{value, bad}
 use Rattle.rules.specs.Bytes.{newline}
 use Rattle.rules.specs.Texts.{Text, text, remove, live, defineStringIn, openMacro, keepLineIn}
-use Rattle.texts.specs.declared.table.Place.the-variants.{At, Not}
-use Rattle.texts.specs.declared.table.Stored.the-variants.{Set, Full}
-use Rattle.texts.specs.declared.table.Kept.the-variants as kept
-use Rattle.texts.specs.Table.Table.{zipWith, kindOf, row, asPair, namesOf, rowsOf, sum, textsOf, Lies}
-use Rattle.texts.specs.Table.Places.{placeOf}
+use Rattle.texts.specs.declared.table.TextPlace.the-variants.{At, Not}
+use Rattle.texts.specs.declared.table.TextCount.the-variants.{Set, Full}
+use Rattle.texts.specs.declared.table.KeptLine.the-variants as kept
+use Rattle.texts.specs.Table.Table.{zipWith, kindOf, textRow, asPair, namesOf, textRows, totalLength, textsOf, TextsInvariant}
+use Rattle.texts.specs.Table.Places.{textPlace}
 use Rattle.texts.specs.Table.Changes.{lesser, roomOf, TakenOut, Appended, DefinedTo, Opens, bodyOf, OpenedTo, KeptTo, ClosedTo}
 use Rattle.rules.specs.Columns.{zip-set}
 use Rattle.texts.proofs.table.Lists.{sum-append, drop-take, front-same, paste-front, paste-part, paste-past}
@@ -45,22 +45,22 @@ room-left room used more h = go (ltb (room - used) more) refl
 
 -- a text behind the last
 
-module _ (st fs ss ks ls : List ℕ) (n : ℕ) (h : Lies st fs ss ks ls n) (k : n < 64) (m : Name) (code size : ℕ) where
-  rows-in : rowsOf (set fs n (m .first)) (set ss n (m .second)) (set ks n code) (set ls n size) (n + 1) ≡ rowsOf fs ss ks ls n ++ row m (asPair code size) ∷ []
+module _ (st fs ss ks ls : List ℕ) (n : ℕ) (h : TextsInvariant st fs ss ks ls n) (k : n < 64) (m : Name) (code size : ℕ) where
+  rows-in : textRows (set fs n (m .first)) (set ss n (m .second)) (set ks n code) (set ls n size) (n + 1) ≡ textRows fs ss ks ls n ++ textRow m (asPair code size) ∷ []
   rows-in =
       rw (
         zip-set twoBytes fs ss n (m .first) (m .second),
         zip-set asPair ks ls n code size,
-        zip-set row (zipWith twoBytes fs ss) (zipWith asPair ks ls) n m (asPair code size),
+        zip-set textRow (zipWith twoBytes fs ss) (zipWith asPair ks ls) n m (asPair code size),
         add-one n,
       )
-      (take-suc-set (zipWith row (zipWith twoBytes fs ss) (zipWith asPair ks ls)) n (row m (asPair code size)) (omega (arith, rows-long st fs ss ks ls n h)))
+      (take-suc-set (zipWith textRow (zipWith twoBytes fs ss) (zipWith asPair ks ls)) n (textRow m (asPair code size)) (omega (arith, rows-long st fs ss ks ls n h)))
 
-  sizes-in : sum (take (n + 1) (set ls n size)) ≡ sum (take n ls) + size
-  unfolding sum
+  sizes-in : totalLength (take (n + 1) (set ls n size)) ≡ totalLength (take n ls) + size
+  unfolding totalLength
   sizes-in = rw (add-one n, take-suc-set ls n size (omega (arith, h .lengths-long)), sum-append (take n ls) (size ∷ [])) (omega arith)
 
-  lies-in : (st' : List ℕ) → length st' ≡ length st → sum (take n ls) + size ≤ length st → Lies st' (set fs n (m .first)) (set ss n (m .second)) (set ks n code) (set ls n size) (n + 1)
+  lies-in : (st' : List ℕ) → length st' ≡ length st → totalLength (take n ls) + size ≤ length st → TextsInvariant st' (set fs n (m .first)) (set ss n (m .second)) (set ks n code) (set ls n size) (n + 1)
   lies-in st' e g =
       record {
         names = record { firsts-long = length-set fs n (m .first) ∙ h .names .firsts-long; seconds-long = length-set ss n (m .second) ∙ h .names .seconds-long; few = omega arith };
@@ -71,13 +71,13 @@ module _ (st fs ss ks ls : List ℕ) (n : ℕ) (h : Lies st fs ss ks ls n) (k : 
 
   -- the texts are those before, and the part behind them
   texts-in : (st' : List ℕ) → textsOf st' (set fs n (m .first)) (set ss n (m .second)) (set ks n code) (set ls n size) (n + 1)
-      ≡ textsOf st' fs ss ks ls n ++ text m (kindOf code) (take size (drop (sum (take n ls)) st')) ∷ []
-  texts-in st' = rw rows-in (cut-end (rowsOf fs ss ks ls n) (row m (asPair code size)) st' ∙ rw (rows-sizes st fs ss ks ls n h))
+      ≡ textsOf st' fs ss ks ls n ++ text m (kindOf code) (take size (drop (totalLength (take n ls)) st')) ∷ []
+  texts-in st' = rw rows-in (cut-end (textRows fs ss ks ls n) (textRow m (asPair code size)) st' ∙ rw (rows-sizes st fs ss ks ls n h))
 
-pub appended : (st fs ss ks ls : List ℕ) (n : ℕ) → Lies st fs ss ks ls n → n < 64 → (m : Name) (code : ℕ) (x : List ℕ) → sum (take n ls) + length x ≤ length st
-    → Appended st fs ss ks ls n m code x (n + 1) (paste st (sum (take n ls)) x (length x)) (set fs n (m .first)) (set ss n (m .second)) (set ks n code) (set ls n (length x))
+pub appended : (st fs ss ks ls : List ℕ) (n : ℕ) → TextsInvariant st fs ss ks ls n → n < 64 → (m : Name) (code : ℕ) (x : List ℕ) → totalLength (take n ls) + length x ≤ length st
+    → Appended st fs ss ks ls n m code x (n + 1) (paste st (totalLength (take n ls)) x (length x)) (set fs n (m .first)) (set ss n (m .second)) (set ks n code) (set ls n (length x))
 appended st fs ss ks ls n h k m code x g =
-    let at : ℕ = sum (take n ls) in
+    let at : ℕ = totalLength (take n ls) in
     let st' = paste st at x (length x) in
     let l : length st' ≡ length st = length-paste st at x (length x) g (omega arith) in
     record {
@@ -90,7 +90,7 @@ appended st fs ss ks ls n h k m code x g =
       past = λ p q. paste-past st x at (length x) (omega arith) (omega arith) p q;
     }
 
-pub closed-macro : (st fs ss ks ls : List ℕ) (n o : ℕ) → Lies st fs ss ks ls n → Opens st ls n o → (m : Name)
+pub closed-macro : (st fs ss ks ls : List ℕ) (n o : ℕ) → TextsInvariant st fs ss ks ls n → Opens st ls n o → (m : Name)
     → ClosedTo st fs ss ks ls n o m (n + 1) (set fs n (m .first)) (set ss n (m .second)) (set ks n 0) (set ls n o)
 closed-macro st fs ss ks ls n o h g m =
     record { is = texts-in st fs ss ks ls n h (g .fewer) m 0 o st; lies = lies-in st fs ss ks ls n h (g .fewer) m 0 o st refl (g .inside) }
@@ -125,19 +125,19 @@ module _ (m : Name) (ts us : List Text) (e : remove m ts ≡ us) where
 
 -- a string is defined, by whether the name is found
 
-module _ (st fs ss ks ls : List ℕ) (n : ℕ) (h : Lies st fs ss ks ls n) (m : Name) (x : List ℕ) where
+module _ (st fs ss ks ls : List ℕ) (n : ℕ) (h : TextsInvariant st fs ss ks ls n) (m : Name) (x : List ℕ) where
   -- nothing changes
   refused : bad 11 ≡ defineStringIn (roomOf (length st)) m x (textsOf st fs ss ks ls n) → DefinedTo st fs ss ks ls n m x Full st fs ss ks ls
   refused e = record { is = e; lies = h; long = refl; past = λ p q r. refl; kept = (refl, refl, refl, refl, refl) }
 
-  module _ (e : placeOf m (namesOf fs ss n) ≡ Not) where
+  module _ (e : textPlace m (namesOf fs ss n) ≡ Not) where
     pub define-65 : 64 ≤ n → DefinedTo st fs ss ks ls n m x Full st fs ss ks ls
     define-65 k = refused (define-names (roomOf (length st)) m x (textsOf st fs ss ks ls n) (textsOf st fs ss ks ls n) (remove-not st fs ss ks ls n h m e) (omega (arith, texts-length st fs ss ks ls n h)))
 
-    pub define-past : roomOf (length st) < sum (take n ls) + length x → DefinedTo st fs ss ks ls n m x Full st fs ss ks ls
+    pub define-past : roomOf (length st) < totalLength (take n ls) + length x → DefinedTo st fs ss ks ls n m x Full st fs ss ks ls
     define-past k = refused (define-room (roomOf (length st)) m x (textsOf st fs ss ks ls n) (textsOf st fs ss ks ls n) (remove-not st fs ss ks ls n h m e) (omega (arith, texts-live st fs ss ks ls n h)))
 
-    pub define-new : (r : ℕ) (st' fs' ss' ks' ls' : List ℕ) → n < 64 → sum (take n ls) + length x ≤ roomOf (length st)
+    pub define-new : (r : ℕ) (st' fs' ss' ks' ls' : List ℕ) → n < 64 → totalLength (take n ls) + length x ≤ roomOf (length st)
         → Appended st fs ss ks ls n m 1 x r st' fs' ss' ks' ls' → DefinedTo st fs ss ks ls n m x (Set r) st' fs' ss' ks' ls'
     define-new r st' fs' ss' ks' ls' k g a =
         record {
@@ -149,7 +149,7 @@ module _ (st fs ss ks ls : List ℕ) (n : ℕ) (h : Lies st fs ss ks ls n) (m : 
           kept = tt;
         }
 
-  module _ (i : ℕ) (e : placeOf m (namesOf fs ss n) ≡ At i) (st₁ fs₁ ss₁ ks₁ ls₁ : List ℕ) (t : TakenOut st fs ss ks ls n i st₁ fs₁ ss₁ ks₁ ls₁) where
+  module _ (i : ℕ) (e : textPlace m (namesOf fs ss n) ≡ At i) (st₁ fs₁ ss₁ ks₁ ls₁ : List ℕ) (t : TakenOut st fs ss ks ls n i st₁ fs₁ ss₁ ks₁ ls₁) where
     -- the other texts
     abbrev others : List Text
     others = textsOf st₁ fs₁ ss₁ ks₁ ls₁ (n - 1)
@@ -157,16 +157,16 @@ module _ (st fs ss ks ls : List ℕ) (n : ℕ) (h : Lies st fs ss ks ls n) (m : 
     others-are : remove m (textsOf st fs ss ks ls n) ≡ others
     others-are = remove-found st fs ss ks ls n h m i e ∙ sym (t .is)
 
-    others-live : live others + getD ls i 0 ≡ sum (take n ls)
+    others-live : live others + getD ls i 0 ≡ totalLength (take n ls)
     others-live = omega (arith, texts-live st₁ fs₁ ss₁ ks₁ ls₁ (n - 1) (t .lies), t .size)
 
     others-few : length others < 64
     others-few = omega (arith, texts-length st₁ fs₁ ss₁ ks₁ ls₁ (n - 1) (t .lies), found-row st fs ss ks ls n h m i e, h .names .few)
 
-    pub define-over : roomOf (length st) < sum (take n ls) - getD ls i 0 + length x → DefinedTo st fs ss ks ls n m x Full st fs ss ks ls
+    pub define-over : roomOf (length st) < totalLength (take n ls) - getD ls i 0 + length x → DefinedTo st fs ss ks ls n m x Full st fs ss ks ls
     define-over k = refused (define-room (roomOf (length st)) m x (textsOf st fs ss ks ls n) others others-are (omega (arith, others-live)))
 
-    pub define-old : (r : ℕ) (st' fs' ss' ks' ls' : List ℕ) → sum (take n ls) - getD ls i 0 + length x ≤ roomOf (length st)
+    pub define-old : (r : ℕ) (st' fs' ss' ks' ls' : List ℕ) → totalLength (take n ls) - getD ls i 0 + length x ≤ roomOf (length st)
         → Appended st₁ fs₁ ss₁ ks₁ ls₁ (n - 1) m 1 x r st' fs' ss' ks' ls' → DefinedTo st fs ss ks ls n m x (Set r) st' fs' ss' ks' ls'
     define-old r st' fs' ss' ks' ls' g a =
         record {
@@ -190,11 +190,11 @@ module _ (st fs ss ks ls : List ℕ) (n : ℕ) (h : Lies st fs ss ks ls n) (m : 
         }
 
 -- the law of a refused string needs no text to be taken out: any name that is found can be
-pub define-over-room : (st fs ss ks ls : List ℕ) (n : ℕ) (h : Lies st fs ss ks ls n) (m : Name) (x : List ℕ) (i : ℕ) → placeOf m (namesOf fs ss n) ≡ At i
-    → roomOf (length st) < sum (take n ls) - getD ls i 0 + length x → DefinedTo st fs ss ks ls n m x Full st fs ss ks ls
+pub define-over-room : (st fs ss ks ls : List ℕ) (n : ℕ) (h : TextsInvariant st fs ss ks ls n) (m : Name) (x : List ℕ) (i : ℕ) → textPlace m (namesOf fs ss n) ≡ At i
+    → roomOf (length st) < totalLength (take n ls) - getD ls i 0 + length x → DefinedTo st fs ss ks ls n m x Full st fs ss ks ls
 define-over-room st fs ss ks ls n h m x i e k = define-over st fs ss ks ls n h m x i e _ _ _ _ _ (taken-out st fs ss ks ls n h i (found-row st fs ss ks ls n h m i e)) k
 
-module _ (st fs ss ks ls : List ℕ) (n : ℕ) (h : Lies st fs ss ks ls n) (m : Name) (e : placeOf m (namesOf fs ss n) ≡ Not) where
+module _ (st fs ss ks ls : List ℕ) (n : ℕ) (h : TextsInvariant st fs ss ks ls n) (m : Name) (e : textPlace m (namesOf fs ss n) ≡ Not) where
   -- a macro of a new name is opened, or is a 65th
   pub open-new : n < 64 → OpenedTo st fs ss ks ls n m (Set n) st fs ss ks ls
   open-new k =
@@ -231,9 +231,9 @@ module _ (room : ℕ) (ts : List Text) (body x : List ℕ) where
 
 module _ (st ls : List ℕ) (n o : ℕ) (g : Opens st ls n o) (x : List ℕ) where
   body-long : length (bodyOf st ls n o) ≡ o
-  body-long = length-take-le o (drop (sum (take n ls)) st) (omega (arith, g .inside, length-drop (sum (take n ls)) st))
+  body-long = length-take-le o (drop (totalLength (take n ls)) st) (omega (arith, g .inside, length-drop (totalLength (take n ls)) st))
 
-  pub keep-refused : roomOf (length st) < sum (take n ls) + o + (length x + 1) → KeptTo st ls n o x kept.Full st
+  pub keep-refused : roomOf (length st) < totalLength (take n ls) + o + (length x + 1) → KeptTo st ls n o x kept.Full st
   keep-refused k =
       record {
         is = λ fs ss ks h. keep-full (roomOf (length st)) (textsOf st fs ss ks ls n) (bodyOf st ls n o) x (omega (arith, texts-live st fs ss ks ls n h, body-long));
@@ -245,9 +245,9 @@ module _ (st ls : List ℕ) (n o : ℕ) (g : Opens st ls n o) (x : List ℕ) whe
         kept = refl;
       }
 
-  module _ (k : sum (take n ls) + o + (length x + 1) ≤ roomOf (length st)) where
+  module _ (k : totalLength (take n ls) + o + (length x + 1) ≤ roomOf (length st)) where
     abbrev place : ℕ
-    place = sum (take n ls) + o
+    place = totalLength (take n ls) + o
 
     abbrev copied : List ℕ
     copied = paste st place x (length x)
@@ -262,28 +262,28 @@ module _ (st ls : List ℕ) (n o : ℕ) (g : Opens st ls n o) (x : List ℕ) whe
     copied-long = length-paste st place x (length x) (omega (arith, fits-in)) (omega arith)
 
     -- all up to the newline
-    front-is : take (sum (take n ls) + (o + (length x + 1))) new ≡ take place st ++ x ++ 10 ∷ []
+    front-is : take (totalLength (take n ls) + (o + (length x + 1))) new ≡ take place st ++ x ++ 10 ∷ []
     front-is =
-        let e : sum (take n ls) + (o + (length x + 1)) ≡ suc (place + length x) = omega arith in
+        let e : totalLength (take n ls) + (o + (length x + 1)) ≡ suc (place + length x) = omega arith in
         rw (e, take-suc-set copied (place + length x) 10 (omega (arith, fits-in, copied-long)), take-paste st place x (length x) (omega (arith, fits-in)) (omega arith), take-length x)
 
     body-is : bodyOf new ls n (o + (length x + 1)) ≡ bodyOf st ls n o ++ x ++ 10 ∷ []
     body-is =
-        let a : ℕ = sum (take n ls) in
+        let a : ℕ = totalLength (take n ls) in
         let p : length (take place st) ≡ place = length-take-le place st (omega (arith, fits-in)) in
         sym (drop-take new a (o + (length x + 1))) ∙ ap (drop a) front-is
         ∙ drop-append-le a (take place st ++ x) (10 ∷ []) (omega (arith, length-append (take place st) x))
         ∙ rw (drop-append-le a (take place st) x (omega arith), drop-take st a o)
 
-    texts-front : take (sum (take n ls)) new ≡ take (sum (take n ls)) st
+    texts-front : take (totalLength (take n ls)) new ≡ take (totalLength (take n ls)) st
     texts-front =
-        take-set-le (sum (take n ls)) copied (place + length x) 10 (omega arith)
-        ∙ front-same copied st (sum (take n ls)) o (paste-front st x place (length x) (omega (arith, fits-in)) (omega arith))
+        take-set-le (totalLength (take n ls)) copied (place + length x) 10 (omega arith)
+        ∙ front-same copied st (totalLength (take n ls)) o (paste-front st x place (length x) (omega (arith, fits-in)) (omega arith))
 
     new-long : length new ≡ length st
     new-long = length-set copied (place + length x) 10 ∙ copied-long
 
-    pub kept-line : KeptTo st ls n o x (kept.Longer (o + (length x + 1))) (set (paste st (sum (take n ls) + o) x (length x)) (sum (take n ls) + o + length x) 10)
+    pub kept-line : KeptTo st ls n o x (kept.Longer (o + (length x + 1))) (set (paste st (totalLength (take n ls) + o) x (length x)) (totalLength (take n ls) + o + length x) 10)
     kept-line =
         record {
           is = λ fs ss ks h. keep-set (roomOf (length st)) (textsOf st fs ss ks ls n) (bodyOf st ls n o) x (bodyOf new ls n (o + (length x + 1))) (omega (arith, texts-live st fs ss ks ls n h, body-long)) body-is;

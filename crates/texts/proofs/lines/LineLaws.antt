@@ -10,7 +10,7 @@ use lib.ListN.{length, take, drop, getD}
 use lib.Seq.{drop-cons, drop-length}
 use borrow.Author.Tests.{eq-eqb, ne-eqb}
 use Rattle.rules.specs.Lines.{isClosing}
-use Rattle.texts.specs.Lines.Lines.{lineFrom, firstLine, isPair}
+use Rattle.texts.specs.Lines.Lines.{lineBefore, firstLine, isPair}
 
 -- at a newline the line has ended
 pub line-stops : (l : List ℕ) (i : ℕ) → i < length l → getD l i 0 ≡ 10 → length (firstLine (drop i l)) ≡ 0
@@ -33,7 +33,7 @@ line-front [] = refl
 line-front (b ∷ l) = go (eqb b 10) (line-front l)
   where
     go : (t : Bool) → take (length (firstLine l)) l ≡ firstLine l
-        → take (length (lineFrom t b (firstLine l))) (b ∷ l) ≡ lineFrom t b (firstLine l)
+        → take (length (lineBefore t b (firstLine l))) (b ∷ l) ≡ lineBefore t b (firstLine l)
     go true e = refl
     go false e = ap (λ m. b ∷ m) e
 

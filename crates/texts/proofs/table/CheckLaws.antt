@@ -10,55 +10,55 @@ use lib.Seq.{drop-cons}
 use borrow.Author.Tests.{le-leb, lt-leb}
 use Rattle.rules.specs.declared.Name.{Name}
 use Rattle.rules.specs.Names.{sameName}
-use Rattle.texts.specs.Table.Table.{namesOf, sum, Names}
+use Rattle.texts.specs.Table.Table.{namesOf, totalLength, Names}
 use Rattle.texts.specs.Table.Changes.{roomOf}
-use Rattle.texts.specs.Table.Checks.{NameColumns, isTable, lacks, allDistinct, noNameTwice}
+use Rattle.texts.specs.Table.Checks.{NameColumns, isTextTable, lacksName, allDistinct, noNameTwice}
 use Rattle.texts.proofs.table.Lists.{sum-step, sum-mono}
 
 -- the sum of lengths
 
 module _ (s : ℕ) (ls : List ℕ) (n : ℕ) where
-  pub table-many : 64 < n → isTable s ls n ≡ false
+  pub table-many : 64 < n → isTextTable s ls n ≡ false
   table-many h = rw (lt-leb n 64 h)
 
   -- the rows before i and the one at i have more than the room already
-  pub table-over : n ≤ 64 → (i left : ℕ) → i < n → sum (take i ls) + left ≡ roomOf s → left < getD ls i 0 → isTable s ls n ≡ false
+  pub table-over : n ≤ 64 → (i left : ℕ) → i < n → totalLength (take i ls) + left ≡ roomOf s → left < getD ls i 0 → isTextTable s ls n ≡ false
   table-over k i left h e o =
-      let g : roomOf s < sum (take n ls) = omega (arith, sum-step ls i, sum-mono ls (i + 1) n (omega arith)) in
-      rw (le-leb n 64 k, lt-leb (sum (take n ls)) (roomOf s) g)
+      let g : roomOf s < totalLength (take n ls) = omega (arith, sum-step ls i, sum-mono ls (i + 1) n (omega arith)) in
+      rw (le-leb n 64 k, lt-leb (totalLength (take n ls)) (roomOf s) g)
 
-  pub table-fits : n ≤ 64 → (i left : ℕ) → i ≡ n → sum (take i ls) + left ≡ roomOf s → isTable s ls n ≡ true
+  pub table-fits : n ≤ 64 → (i left : ℕ) → i ≡ n → totalLength (take i ls) + left ≡ roomOf s → isTextTable s ls n ≡ true
   table-fits k i left h e =
-      let q = ap (λ (m : ℕ). sum (take m ls)) h in
-      let g : sum (take n ls) ≤ roomOf s = omega arith in
-      rw (le-leb n 64 k, le-leb (sum (take n ls)) (roomOf s) g)
+      let q = ap (λ (m : ℕ). totalLength (take m ls)) h in
+      let g : totalLength (take n ls) ≤ roomOf s = omega arith in
+      rw (le-leb n 64 k, le-leb (totalLength (take n ls)) (roomOf s) g)
 
 -- names
 
 module _ (n : Name) (l : List Name) (i : ℕ) (d : Name) (h : i < length l) where
-  pub lacks-here : sameName n (getD l i d) ≡ true → lacks n (drop i l) ≡ false
-  unfolding lacks
-  lacks-here e = ap (lacks n) (drop-cons l i d h) ∙ ap (λ b. not b && lacks n (drop (suc i) l)) e
+  pub lacks-here : sameName n (getD l i d) ≡ true → lacksName n (drop i l) ≡ false
+  unfolding lacksName
+  lacks-here e = ap (lacksName n) (drop-cons l i d h) ∙ ap (λ b. not b && lacksName n (drop (suc i) l)) e
 
-  pub lacks-on : sameName n (getD l i d) ≡ false → lacks n (drop i l) ≡ lacks n (drop (i + 1) l)
-  unfolding lacks
+  pub lacks-on : sameName n (getD l i d) ≡ false → lacksName n (drop i l) ≡ lacksName n (drop (i + 1) l)
+  unfolding lacksName
   lacks-on e =
-      ap (lacks n) (drop-cons l i d h) ∙ ap (λ b. not b && lacks n (drop (suc i) l)) e ∙ ap (λ j. lacks n (drop j l)) (sym (add-one i))
+      ap (lacksName n) (drop-cons l i d h) ∙ ap (λ b. not b && lacksName n (drop (suc i) l)) e ∙ ap (λ j. lacksName n (drop j l)) (sym (add-one i))
 
-pub lacks-end : (n : Name) (l : List Name) (i : ℕ) → length l ≤ i → lacks n (drop i l) ≡ true
-unfolding lacks
+pub lacks-end : (n : Name) (l : List Name) (i : ℕ) → length l ≤ i → lacksName n (drop i l) ≡ true
+unfolding lacksName
 lacks-end n l i h = rw (drop-of-length-le l h)
 
 module _ (l : List Name) (i : ℕ) (d : Name) (h : i < length l) where
-  distinct-cons : allDistinct (drop i l) ≡ (lacks (getD l i d) (drop (i + 1) l) && allDistinct (drop (i + 1) l))
+  distinct-cons : allDistinct (drop i l) ≡ (lacksName (getD l i d) (drop (i + 1) l) && allDistinct (drop (i + 1) l))
   unfolding allDistinct
   distinct-cons =
-      ap allDistinct (drop-cons l i d h) ∙ ap (λ j. lacks (getD l i d) (drop j l) && allDistinct (drop j l)) (sym (add-one i))
+      ap allDistinct (drop-cons l i d h) ∙ ap (λ j. lacksName (getD l i d) (drop j l) && allDistinct (drop j l)) (sym (add-one i))
 
-  pub distinct-on : lacks (getD l i d) (drop (i + 1) l) ≡ true → allDistinct (drop i l) ≡ allDistinct (drop (i + 1) l)
+  pub distinct-on : lacksName (getD l i d) (drop (i + 1) l) ≡ true → allDistinct (drop i l) ≡ allDistinct (drop (i + 1) l)
   distinct-on e = distinct-cons ∙ ap (λ b. b && allDistinct (drop (i + 1) l)) e
 
-  pub distinct-stop : lacks (getD l i d) (drop (i + 1) l) ≡ false → allDistinct (drop i l) ≡ false
+  pub distinct-stop : lacksName (getD l i d) (drop (i + 1) l) ≡ false → allDistinct (drop i l) ≡ false
   distinct-stop e = distinct-cons ∙ ap (λ b. b && allDistinct (drop (i + 1) l)) e
 
 pub distinct-end : (l : List Name) (i : ℕ) → length l ≤ i → allDistinct (drop i l) ≡ true

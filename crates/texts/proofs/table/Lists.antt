@@ -7,15 +7,15 @@ use native.Mathlib.Numerals.{add-one}
 use native.Mathlib.Omega.{arith}
 use lib.ListN.{length, take, drop, getD, set, length-drop}
 use lib.Seq.{take-add, take-take, take-nil, drop-drop, getD-drop, take-at, drop-at, length-take-le, paste, paste-suc, take-paste, drop-paste}
-use Rattle.texts.specs.Table.Table.{zipWith, sum}
-use Rattle.texts.specs.Table.Changes.{without, closed}
+use Rattle.texts.specs.Table.Table.{zipWith, totalLength}
+use Rattle.texts.specs.Table.Changes.{without, closedUp}
 
 -- two columns of one length
 
 module _ {A B C : Type 0} (f : A → B → C) where
   -- a row that is closed up in both is closed up in the whole
-  pub zip-closed : (xs : List A) (ys : List B) (i k : ℕ) → length xs ≡ length ys → zipWith f (closed xs i k) (closed ys i k) ≡ closed (zipWith f xs ys) i k
-  unfolding zipWith closed
+  pub zip-closed : (xs : List A) (ys : List B) (i k : ℕ) → length xs ≡ length ys → zipWith f (closedUp xs i k) (closedUp ys i k) ≡ closedUp (zipWith f xs ys) i k
+  unfolding zipWith closedUp
   zip-closed [] ys i k e = refl
   zip-closed (x ∷ xs) [] i k e = absurd (omega arith)
   zip-closed (x ∷ xs) (y ∷ ys) (suc i) k e = ap (λ l. f x y ∷ l) (zip-closed xs ys i k (omega arith))
@@ -29,31 +29,31 @@ module _ {A B C : Type 0} (f : A → B → C) where
 
 module _ {A : Type 0} where
   -- the row behind the place is moved to it
-  closed-next : (l : List A) (i k : ℕ) (d : A) → suc i < length l → closed l i (suc k) ≡ closed (set l i (getD l (suc i) d)) (suc i) k
-  unfolding closed
+  closed-next : (l : List A) (i k : ℕ) (d : A) → suc i < length l → closedUp l i (suc k) ≡ closedUp (set l i (getD l (suc i) d)) (suc i) k
+  unfolding closedUp
   closed-next [] i k d h = absurd (omega arith)
   closed-next (x ∷ []) i k d h = absurd (omega arith)
   closed-next (x ∷ y ∷ l) zero k d h = refl
   closed-next (x ∷ y ∷ l) (suc i) k d h = ap (λ t. x ∷ t) (closed-next (y ∷ l) i k d (omega arith))
 
   -- none is left to move
-  closed-last : (l : List A) (i : ℕ) → closed l i 0 ≡ l
-  unfolding closed
+  closed-last : (l : List A) (i : ℕ) → closedUp l i 0 ≡ l
+  unfolding closedUp
   closed-last [] i = refl
   closed-last (x ∷ l) zero = refl
   closed-last (x ∷ l) (suc i) = ap (λ t. x ∷ t) (closed-last l i)
 
   -- the same in the numbers of the loop, which goes from i to n
-  pub closed-step : (l : List A) (i n : ℕ) (d : A) → i < n → n < length l → closed l i (n - i) ≡ closed (set l i (getD l (i + 1) d)) (i + 1) (n - (i + 1))
+  pub closed-step : (l : List A) (i n : ℕ) (d : A) → i < n → n < length l → closedUp l i (n - i) ≡ closedUp (set l i (getD l (i + 1) d)) (i + 1) (n - (i + 1))
   closed-step l i n d h k =
       let e : n - i ≡ suc (n - (i + 1)) = omega arith in
       rw (e, add-one i) (closed-next l i (n - suc i) d (omega arith))
 
-  pub closed-done : (l : List A) (i n : ℕ) → n ≤ i → closed l i (n - i) ≡ l
+  pub closed-done : (l : List A) (i n : ℕ) → n ≤ i → closedUp l i (n - i) ≡ l
   closed-done l i n h = let e : n - i ≡ 0 = omega arith in rw e (closed-last l i)
 
-  pub closed-length : (l : List A) (i k : ℕ) → length (closed l i k) ≡ length l
-  unfolding closed
+  pub closed-length : (l : List A) (i k : ℕ) → length (closedUp l i k) ≡ length l
+  unfolding closedUp
   closed-length [] i k = refl
   closed-length (x ∷ l) (suc i) k = ap suc (closed-length l i k)
   closed-length (x ∷ l) zero zero = refl
@@ -61,8 +61,8 @@ module _ {A : Type 0} where
   closed-length (x ∷ y ∷ l) zero (suc k) = ap suc (closed-length (y ∷ l) zero k)
 
   -- what is left is the rows without the one at the place
-  closed-take : (l : List A) (i k n : ℕ) → i + k ≡ n → n < length l → take n (closed l i k) ≡ without i (take (suc n) l)
-  unfolding closed
+  closed-take : (l : List A) (i k n : ℕ) → i + k ≡ n → n < length l → take n (closedUp l i k) ≡ without i (take (suc n) l)
+  unfolding closedUp
   closed-take [] i k n e h = absurd (omega arith)
   closed-take (x ∷ l) (suc i) k zero e h = absurd (omega arith)
   closed-take (x ∷ l) (suc i) k (suc n) e h = ap (λ t. x ∷ t) (closed-take l i k n (omega arith) (omega arith))
@@ -73,7 +73,7 @@ module _ {A : Type 0} where
   closed-take (x ∷ y ∷ l) zero (suc k) (suc n) e h = ap (λ t. y ∷ t) (closed-take (y ∷ l) zero k n (omega arith) (omega arith))
 
   -- the same in the numbers of the code
-  pub closed-rows : (l : List A) (i n : ℕ) → i < n → n ≤ length l → take (n - 1) (closed l i (n - 1 - i)) ≡ without i (take n l)
+  pub closed-rows : (l : List A) (i n : ℕ) → i < n → n ≤ length l → take (n - 1) (closedUp l i (n - 1 - i)) ≡ without i (take n l)
   closed-rows l i n h k =
       let e : n ≡ suc (n - 1) = omega arith in
       closed-take l i (n - 1 - i) (n - 1) (omega arith) (omega arith) ∙ ap (λ m. without i (take m l)) (sym e)
@@ -141,30 +141,30 @@ copy-step d at s j h k = rw (add-one j) (paste-suc d at s j 0 h k)
 
 -- sums
 
-pub sum-append : (xs ys : List ℕ) → sum (xs ++ ys) ≡ sum xs + sum ys
-unfolding sum
-sum-append [] ys = sym (zero-add (sum ys))
-sum-append (x ∷ xs) ys = rw (sum-append xs ys) (sym (add-assoc x (sum xs) (sum ys)))
+pub sum-append : (xs ys : List ℕ) → totalLength (xs ++ ys) ≡ totalLength xs + totalLength ys
+unfolding totalLength
+sum-append [] ys = sym (zero-add (totalLength ys))
+sum-append (x ∷ xs) ys = rw (sum-append xs ys) (sym (add-assoc x (totalLength xs) (totalLength ys)))
 
 -- one length more
-pub sum-step : (l : List ℕ) (i : ℕ) → sum (take (i + 1) l) ≡ sum (take i l) + getD l i 0
-unfolding sum
+pub sum-step : (l : List ℕ) (i : ℕ) → totalLength (take (i + 1) l) ≡ totalLength (take i l) + getD l i 0
+unfolding totalLength
 sum-step l i = rw (add-one i) (go l i)
   where
-    go : (l : List ℕ) (i : ℕ) → sum (take (suc i) l) ≡ sum (take i l) + getD l i 0
+    go : (l : List ℕ) (i : ℕ) → totalLength (take (suc i) l) ≡ totalLength (take i l) + getD l i 0
     go [] zero = refl
     go [] (suc i) = refl
     go (x ∷ l) zero = omega arith
     go (x ∷ l) (suc i) = omega (arith, go l i)
 
-pub sum-mono : (l : List ℕ) (i j : ℕ) → i ≤ j → sum (take i l) ≤ sum (take j l)
+pub sum-mono : (l : List ℕ) (i j : ℕ) → i ≤ j → totalLength (take i l) ≤ totalLength (take j l)
 sum-mono l i j h =
     let e : j ≡ i + (j - i) = omega arith in
     rw (e, take-add i (j - i) l, sum-append (take i l) (take (j - i) (drop i l))) (omega arith)
 
 -- the sum without one length
-pub sum-without : (l : List ℕ) (i : ℕ) → sum (without i l) + getD l i 0 ≡ sum l
-unfolding sum
+pub sum-without : (l : List ℕ) (i : ℕ) → totalLength (without i l) + getD l i 0 ≡ totalLength l
+unfolding totalLength
 sum-without [] zero = refl
 sum-without [] (suc i) = refl
 sum-without (x ∷ l) zero = omega arith

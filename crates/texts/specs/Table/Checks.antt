@@ -14,7 +14,7 @@ use Rattle.rules.specs.Names.{sameName, twoBytes}
 use Rattle.rules.specs.Laws.Refusals.{both}
 use Rattle.rules.specs.Texts.{text, textOf}
 use Rattle.rules.specs.Laws.Texts.{Distinct, found-later, none-first, none-later}
-use Rattle.texts.specs.Table.Table.{zipWith, Row, row, asPair, namesOf, rowsOf, sum, cut, textsOf, Lies}
+use Rattle.texts.specs.Table.Table.{zipWith, TextRow, textRow, asPair, namesOf, textRows, totalLength, cut, textsOf, TextsInvariant}
 use Rattle.texts.specs.Table.Changes.{lesser, roomOf}
 
 -- the columns of names have all their rows
@@ -23,8 +23,8 @@ pub record NameColumns (firsts seconds : List ℕ) : Type 0 where
   pub seconds-long : length seconds ≡ 64
 
 -- at most 64 texts, and no more than 8,192 bytes of them, all within a store of so many
-abbrev pub isTable : (store : ℕ) → (lengths : List ℕ) → (count : ℕ) → Bool
-isTable s ls n = leb n 64 && leb (sum (take n ls)) (roomOf s)
+abbrev pub isTextTable : (store : ℕ) → (lengths : List ℕ) → (count : ℕ) → Bool
+isTextTable s ls n = leb n 64 && leb (totalLength (take n ls)) (roomOf s)
 
 -- both parts of a test hold
 and-true : (a b : Bool) → a ≡ true → b ≡ true → (a && b) ≡ true
@@ -47,37 +47,37 @@ room-most s k a b = go (ltb s 8192)
 
 module _ (st fs ss ks ls : List ℕ) (n : ℕ) where
   -- The texts of columns that pass the test lie within the store.
-  pub table-sound : NameColumns fs ss → length ks ≡ 64 → length ls ≡ 64 → isTable (length st) ls n ≡ true → Lies st fs ss ks ls n
-  table-sound c k l h =
-      let t = both (leb n 64) (leb (sum (take n ls)) (roomOf (length st))) h in
+  pub texts-sound : NameColumns fs ss → length ks ≡ 64 → length ls ≡ 64 → isTextTable (length st) ls n ≡ true → TextsInvariant st fs ss ks ls n
+  texts-sound c k l h =
+      let t = both (leb n 64) (leb (totalLength (take n ls)) (roomOf (length st))) h in
       record {
         names = record { firsts-long = c .firsts-long; seconds-long = c .seconds-long; few = leb-true n 64 (t .0) };
         kinds-long = k;
         lengths-long = l;
-        inside = omega (arith, leb-true (sum (take n ls)) (roomOf (length st)) (t .1), room-least (length st) .0);
+        inside = omega (arith, leb-true (totalLength (take n ls)) (roomOf (length st)) (t .1), room-least (length st) .0);
       }
 
   -- They are at most 8,192 bytes.
-  pub table-short : isTable (length st) ls n ≡ true → sum (take n ls) ≤ 8192
+  pub table-short : isTextTable (length st) ls n ≡ true → totalLength (take n ls) ≤ 8192
   table-short h =
-      let t = both (leb n 64) (leb (sum (take n ls)) (roomOf (length st))) h in
-      omega (arith, leb-true (sum (take n ls)) (roomOf (length st)) (t .1), room-least (length st) .1)
+      let t = both (leb n 64) (leb (totalLength (take n ls)) (roomOf (length st))) h in
+      omega (arith, leb-true (totalLength (take n ls)) (roomOf (length st)) (t .1), room-least (length st) .1)
 
   -- Columns whose texts lie within the store, and are at most 8,192 bytes, pass it.
-  pub table-complete : Lies st fs ss ks ls n → sum (take n ls) ≤ 8192 → isTable (length st) ls n ≡ true
-  table-complete t h =
-      and-true (leb n 64) (leb (sum (take n ls)) (roomOf (length st))) (le-leb n 64 (t .names .few))
-      (le-leb (sum (take n ls)) (roomOf (length st)) (room-most (length st) (sum (take n ls)) (t .inside) h))
+  pub texts-complete : TextsInvariant st fs ss ks ls n → totalLength (take n ls) ≤ 8192 → isTextTable (length st) ls n ≡ true
+  texts-complete t h =
+      and-true (leb n 64) (leb (totalLength (take n ls)) (roomOf (length st))) (le-leb n 64 (t .names .few))
+      (le-leb (totalLength (take n ls)) (roomOf (length st)) (room-most (length st) (totalLength (take n ls)) (t .inside) h))
 
 -- whether none of some names is this one
-unfoldable pub lacks : Name → List Name → Bool
-lacks n [] = true
-lacks n (m ∷ l) = not (sameName n m) && lacks n l
+unfoldable pub lacksName : Name → List Name → Bool
+lacksName n [] = true
+lacksName n (m ∷ l) = not (sameName n m) && lacksName n l
 
 -- whether no two of some names are the same
 unfoldable pub allDistinct : List Name → Bool
 allDistinct [] = true
-allDistinct (n ∷ l) = lacks n l && allDistinct l
+allDistinct (n ∷ l) = lacksName n l && allDistinct l
 
 -- no two of at most 64 texts have one name
 abbrev pub noNameTwice : (firsts seconds : List ℕ) → (count : ℕ) → Bool
@@ -88,41 +88,41 @@ not-true true h = absurd (false≢true h)
 not-true false h = refl
 
 -- the names of rows
-abbrev rowNames : List Row → List Name
+abbrev rowNames : List TextRow → List Name
 rowNames [] = []
 rowNames (r ∷ rs) = r .name ∷ rowNames rs
 
-lacks-sound : (n : Name) (st : List ℕ) (rs : List Row) → lacks n (rowNames rs) ≡ true → textOf n (cut st rs) ≡ none
-unfolding lacks cut textOf firstWhere
+lacks-sound : (n : Name) (st : List ℕ) (rs : List TextRow) → lacksName n (rowNames rs) ≡ true → textOf n (cut st rs) ≡ none
+unfolding lacksName cut textOf firstWhere
 lacks-sound n st [] h = refl
 lacks-sound n st (r ∷ rs) h =
-    let b = both (not (sameName n (r .name))) (lacks n (rowNames rs)) h in
+    let b = both (not (sameName n (r .name))) (lacksName n (rowNames rs)) h in
     found-later n (text (r .name) (r .kind) (take (r .size) st)) (cut (drop (r .size) st) rs) (not-true (sameName n (r .name)) (b .0))
     ∙ lacks-sound n (drop (r .size) st) rs (b .1)
 
-lacks-complete : (n : Name) (st : List ℕ) (rs : List Row) → textOf n (cut st rs) ≡ none → lacks n (rowNames rs) ≡ true
-unfolding lacks cut
+lacks-complete : (n : Name) (st : List ℕ) (rs : List TextRow) → textOf n (cut st rs) ≡ none → lacksName n (rowNames rs) ≡ true
+unfolding lacksName cut
 lacks-complete n st [] h = refl
 lacks-complete n st (r ∷ rs) h =
     let t = text (r .name) (r .kind) (take (r .size) st) in let ts = cut (drop (r .size) st) rs in
-    and-true (not (sameName n (r .name))) (lacks n (rowNames rs)) (ap not (none-first n t ts h))
+    and-true (not (sameName n (r .name))) (lacksName n (rowNames rs)) (ap not (none-first n t ts h))
     (lacks-complete n (drop (r .size) st) rs (none-later n t ts h))
 
-distinct-sound : (st : List ℕ) (rs : List Row) → allDistinct (rowNames rs) ≡ true → Distinct (cut st rs)
+distinct-sound : (st : List ℕ) (rs : List TextRow) → allDistinct (rowNames rs) ≡ true → Distinct (cut st rs)
 unfolding allDistinct cut
 distinct-sound st [] h = tt
 distinct-sound st (r ∷ rs) h =
-    let b = both (lacks (r .name) (rowNames rs)) (allDistinct (rowNames rs)) h in
+    let b = both (lacksName (r .name) (rowNames rs)) (allDistinct (rowNames rs)) h in
     (lacks-sound (r .name) (drop (r .size) st) rs (b .0), distinct-sound (drop (r .size) st) rs (b .1))
 
-distinct-complete : (st : List ℕ) (rs : List Row) → Distinct (cut st rs) → allDistinct (rowNames rs) ≡ true
+distinct-complete : (st : List ℕ) (rs : List TextRow) → Distinct (cut st rs) → allDistinct (rowNames rs) ≡ true
 unfolding allDistinct cut
 distinct-complete st [] h = refl
 distinct-complete st (r ∷ rs) h =
-    and-true (lacks (r .name) (rowNames rs)) (allDistinct (rowNames rs)) (lacks-complete (r .name) (drop (r .size) st) rs (h .0))
+    and-true (lacksName (r .name) (rowNames rs)) (allDistinct (rowNames rs)) (lacks-complete (r .name) (drop (r .size) st) rs (h .0))
     (distinct-complete (drop (r .size) st) rs (h .1))
 
-row-names : (n : ℕ) (ns : List Name) (xs : List (ℕ × ℕ)) → length ns ≡ length xs → rowNames (take n (zipWith row ns xs)) ≡ take n ns
+row-names : (n : ℕ) (ns : List Name) (xs : List (ℕ × ℕ)) → length ns ≡ length xs → rowNames (take n (zipWith textRow ns xs)) ≡ take n ns
 unfolding zipWith
 row-names zero ns xs e = refl
 row-names (suc n) [] xs e = refl
@@ -135,8 +135,8 @@ zip-long f [] ys e = refl
 zip-long f (x ∷ xs) [] e = absurd (omega arith)
 zip-long f (x ∷ xs) (y ∷ ys) e = ap suc (zip-long f xs ys (omega arith))
 
-module _ (st fs ss ks ls : List ℕ) (n : ℕ) (h : Lies st fs ss ks ls n) where
-  names-are : rowNames (rowsOf fs ss ks ls n) ≡ namesOf fs ss n
+module _ (st fs ss ks ls : List ℕ) (n : ℕ) (h : TextsInvariant st fs ss ks ls n) where
+  names-are : rowNames (textRows fs ss ks ls n) ≡ namesOf fs ss n
   names-are =
       row-names n (zipWith twoBytes fs ss) (zipWith asPair ks ls)
       (omega (arith, zip-long twoBytes fs ss (omega arith), zip-long asPair ks ls (omega arith)))
@@ -144,11 +144,11 @@ module _ (st fs ss ks ls : List ℕ) (n : ℕ) (h : Lies st fs ss ks ls n) where
   -- No two texts of columns that pass the test have one name.
   pub names-sound : noNameTwice fs ss n ≡ true → Distinct (textsOf st fs ss ks ls n)
   names-sound e =
-      distinct-sound st (rowsOf fs ss ks ls n)
+      distinct-sound st (textRows fs ss ks ls n)
       (ap allDistinct names-are ∙ both (leb n 64) (allDistinct (namesOf fs ss n)) e .1)
 
   -- The columns of texts of which no two have one name pass it.
   pub names-complete : Distinct (textsOf st fs ss ks ls n) → noNameTwice fs ss n ≡ true
   names-complete d =
       and-true (leb n 64) (allDistinct (namesOf fs ss n)) (le-leb n 64 (h .names .few))
-      (ap allDistinct (sym names-are) ∙ distinct-complete st (rowsOf fs ss ks ls n) d)
+      (ap allDistinct (sym names-are) ∙ distinct-complete st (textRows fs ss ks ls n) d)

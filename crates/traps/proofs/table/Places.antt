@@ -16,7 +16,7 @@ use Rattle.rules.specs.declared.Trap.{Trap}
 use Rattle.rules.specs.Numbers.{equalZ}
 use Rattle.rules.specs.Traps.{someIf, rowOf}
 use Rattle.rules.specs.Laws.Traps.{equal-self, equal-one}
-use Rattle.traps.specs.declared.nearest.Row.{Row}
+use Rattle.traps.specs.declared.nearest.TrapRow.{TrapRow}
 use Rattle.traps.specs.Table.Table.{rowIs}
 
 -- a place below 0, and any other
@@ -39,7 +39,7 @@ above (pos n) f t = record { small = f .sfits; plain = refl; row = λ page. refl
 above (negsuc n) f t = absurd (let e : _≡_ {A = ℕ} 0 1 = cc in omega arith)
 
 -- the rules' row of a place, where `row_of` answered s
-pub row-told : (z : ℤ) (page : ℕ) {r s : Row} → rowIs r ≡ rowOf page z → r ≡ s → rowOf page z ≡ rowIs s
+pub row-told : (z : ℤ) (page : ℕ) {r s : TrapRow} → rowIs r ≡ rowOf page z → r ≡ s → rowOf page z ≡ rowIs s
 row-told z page e k = sym (rw k at e)
 
 -- two places are equal exactly where their bits are

@@ -12,14 +12,14 @@ use Rattle.rules.specs.Numbers.{equalZ}
 use Rattle.rules.specs.Traps.{plant}
 use Rattle.traps.specs.declared.table.Planted.{Planted}
 use Rattle.traps.specs.declared.table.Planting.{Planting}
-use Rattle.traps.specs.declared.nearest.Row.{Row}
-use Rattle.traps.specs.declared.nearest.Row.the-variants.{At, Asleep}
-use Rattle.traps.specs.declared.table.Found.{Found}
-use Rattle.traps.specs.declared.table.Found.the-variants.{Text, Nothing}
+use Rattle.traps.specs.declared.nearest.TrapRow.{TrapRow}
+use Rattle.traps.specs.declared.nearest.TrapRow.the-variants.{At, Asleep}
+use Rattle.traps.specs.declared.table.FoundTrap.{FoundTrap}
+use Rattle.traps.specs.declared.table.FoundTrap.the-variants.{Text, Nothing}
 
 -- what every table keeps to
-abbrev pub Within : Planted → Type 0
-Within p = p .count ≤ 16
+abbrev pub TrapsInvariant : Planted → Type 0
+TrapsInvariant p = p .count ≤ 16
 
 -- no trap is planted
 abbrev pub emptyTable : Planted
@@ -33,11 +33,11 @@ plantedOf p = take (p .count) (p .traps)
 abbrev pub holding : Planted → List Trap → Planted
 holding p ts = record { traps = ts ++ drop (length ts) (p .traps); count = length ts }
 
-abbrev pub rowIs : Row → Option ℕ
+abbrev pub rowIs : TrapRow → Option ℕ
 rowIs (At n) = some n
 rowIs Asleep = none
 
-abbrev pub foundIs : Found → Option Name
+abbrev pub foundIs : FoundTrap → Option Name
 foundIs (Text n) = some n
 foundIs Nothing = none
 

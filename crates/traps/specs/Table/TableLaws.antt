@@ -18,7 +18,7 @@ use Rattle.rules.specs.Traps.{rowOf, isRow, seenAt, nearer, nearestTrap, plant,
 use Rattle.rules.specs.Laws.Traps.{trap, plant-here, plant-on, remove-here, remove-on, seen-first, seen-later, remove-length}
 use Rattle.traps.specs.declared.table.Planted.{Planted}
 use Rattle.traps.specs.declared.table.Planting.{Planting}
-use Rattle.traps.specs.Table.Table.{Within, plantedOf, holding, indexOf, without, keptOr, plantingOf}
+use Rattle.traps.specs.Table.Table.{TrapsInvariant, plantedOf, holding, indexOf, without, keptOr, plantingOf}
 
 -- A loop over the first n of an array is at the next of them,
 pub front-next : {X : Type 0} (l : List X) (n i : ℕ) (d : X) → i < n → n ≤ length l → drop i (take n l) ≡ getD l i d ∷ drop (i + 1) (take n l)
@@ -105,7 +105,7 @@ kept : (p : Planted) (ts a : List Trap) (n : ℕ) → length ts ≡ n → n ≤ 
     → _≡_ {A = Planting} (record { full = false; planted = record { traps = a; count = n } }) (keptOr p ts)
 kept p ts a n e h f = rw (e, le-leb n 16 h, f)
 
-module _ (p : Planted) (sized : length (p .traps) ≡ 16) (w : Within p) where
+module _ (p : Planted) (sized : length (p .traps) ≡ 16) (w : TrapsInvariant p) where
   planted-length : length (plantedOf p) ≡ p .count
   planted-length = length-take-le (p .count) (p .traps) (omega arith)
 
@@ -170,12 +170,12 @@ close-next l at j d h =
     rw (← getD-drop (at + 1) l j d, add-one j) (paste-suc l at (drop (at + 1) l) j d w s)
 
 -- A table that keeps to its bound still does, whatever is planted or removed.
-pub within-plant : (p : Planted) (z : ℤ) (n : Name) → Within p → Within (plantingOf p z n .planted)
+pub within-plant : (p : Planted) (z : ℤ) (n : Name) → TrapsInvariant p → TrapsInvariant (plantingOf p z n .planted)
 within-plant p z n w = go (leb (length (plant z n (plantedOf p))) 16) refl
   where
-    go : (b : Bool) → leb (length (plant z n (plantedOf p))) 16 ≡ b → Within (plantingOf p z n .planted)
+    go : (b : Bool) → leb (length (plant z n (plantedOf p))) 16 ≡ b → TrapsInvariant (plantingOf p z n .planted)
     go true e = rw e (leb-true (length (plant z n (plantedOf p))) 16 e)
     go false e = rw e w
 
-pub within-remove : (p : Planted) (z : ℤ) → Within p → Within (holding p (removeTrap z (plantedOf p)))
-within-remove p z w = omega (arith, remove-length z (plantedOf p), length-take (p .count) (p .traps))
+pub traps-within-remove : (p : Planted) (z : ℤ) → TrapsInvariant p → TrapsInvariant (holding p (removeTrap z (plantedOf p)))
+traps-within-remove p z w = omega (arith, remove-length z (plantedOf p), length-take (p .count) (p .traps))

@@ -2,7 +2,7 @@ use mathlib.Core.Path.{ap}
 use denote.Ref.{now}
 use Rattle.settings.specs.Layout.Layouts.{printerOf}
 use Rattle.state.specs.Statuses.{wholeOf}
-use Rattle.record.specs.Turns.{placeIn}
+use Rattle.record.specs.Turns.{coreIn}
 use Rattle.record.proofs.Turns.{item-worked}
 use borrow.Author.Needs.{needs}
 use Rattle.call_loop.proofs.item_work.work.Statement.{statement}
@@ -29,7 +29,7 @@ returns c =
     let p = c .before .before .before .before .before .before .before .before .before .before .before .before .before .before .before .before .before .before .ten-to-the-inch in
     let r = c .before .before .before .before .work .result in
     let e = c .turn-after .ensures in (
-      (λ g k. item-worked (r .status) (a .source) (r .way) (r .written) (r .stored) (placeIn (c .turn-after .result)) (ap placeIn e) g _ _ _ _ _ _ _ _ _ _ _ _ _ k
+      (λ g k. item-worked (r .status) (a .source) (r .way) (r .written) (r .stored) (coreIn (c .turn-after .result)) (ap coreIn e) g _ _ _ _ _ _ _ _ _ _ _ _ _ k
           (printerOf (p .result)) (p .ensures .is) (wholeOf (a .status) (now (a .cells)) (now (a .arena)) (now (a .ends)) (now (a .store)) (now (a .text-firsts)) (now (a .text-seconds)) (now (a .kinds)) (now (a .lengths)) (now (a .firsts)) (now (a .seconds)) (now (a .values)) (now (a .steps))) (h .short) (h .numbered) (h .ready) (c .before .before .before .before .work .ensures)),
       ap (λ t. t .stop) e,
       ap (λ t. t .taken) e,

@@ -7,7 +7,7 @@ use Rattle.settings.specs.Layout.Layouts.{printerOf}
 use Rattle.state.specs.Whole.{stateIn}
 use Rattle.state.specs.Statuses.{wholeOf}
 use Rattle.record.specs.View.{sourced}
-use Rattle.record.specs.Turns.{placeIn}
+use Rattle.record.specs.Turns.{coreIn}
 use Rattle.record.proofs.Turns.{line-dealt}
 use borrow.Author.Needs.{needs}
 use Rattle.call_loop.proofs.source_input.deal_line.Statement.{statement}
@@ -34,7 +34,7 @@ returns c =
     let p = c .before .before .before .before .before .before .before .before .before .before .before .before .before .before .before .before .before .before .ten-to-the-inch in
     let r = c .before .before .before .before .deal .result in
     let e = c .turn-after .ensures in (
-      (λ g k. line-dealt _ (r .status) (a .source) (r .way) (r .written) (placeIn (c .turn-after .result)) (ap placeIn e) g _ _ _ _ _ _ _ _ _ _ _ _ _ k
+      (λ g k. line-dealt _ (r .status) (a .source) (r .way) (r .written) (coreIn (c .turn-after .result)) (ap coreIn e) g _ _ _ _ _ _ _ _ _ _ _ _ _ k
           (λ s. deal (printerOf (p .result)) [] (now (a .line)) s) q (now (a .line)) (now (a .row))
           (ap (λ v. deal v [] (now (a .line)) (stateIn q (sourced (a .source) g))) (sym (p .ensures .is))) (c .before .before .before .before .before .before .before .before .before .before .before .before .before .before .before .before .before .before .before .before .before .pre) (c .before .before .before .before .deal .ensures)),
       ap (λ t. t .stop) e,

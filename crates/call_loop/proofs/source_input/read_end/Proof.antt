@@ -7,7 +7,7 @@ use lib.Seq.{length-take-le}
 use denote.Ref.{now}
 use Rattle.fill.proofs.words.Parts.{part-zero}
 use Rattle.page.specs.declared.springs.Way.the-variants as way
-use Rattle.record.specs.Turns.{resting, placeIn, placeAfter}
+use Rattle.record.specs.Turns.{resting, coreIn, coreAfter}
 use Rattle.record.proofs.Taking.{may-deal, end-stands, end-dealt}
 use borrow.Author.Needs.{needs}
 use Rattle.call_loop.proofs.source_input.read_end.Statement.{statement}
@@ -23,8 +23,8 @@ returns : tie.Need-returns
 returns c =
     let a = c .before .before .before .before .before .args in
     let e = c .turn-after .ensures in (
-      end-stands (resting (a .status) (a .source)) (now (a .gathered)) (now (a .cells)) (now (a .row)) (now (a .arena)) (now (a .ends)) (now (a .text-firsts)) (now (a .text-seconds)) (now (a .kinds)) (now (a .lengths)) (now (a .firsts)) (now (a .seconds)) (now (a .values)) (now (a .steps)) (now (a .store)) (c .before .before .before .before .before .pre) (placeIn (c .turn-after .result))
-          (ap placeIn e ∙ ap (λ v. placeAfter (a .status) v way.On 0) (c .before .before .before .emptied .ensures)) (c .before .if1 .taken),
+      end-stands (resting (a .status) (a .source)) (now (a .gathered)) (now (a .cells)) (now (a .row)) (now (a .arena)) (now (a .ends)) (now (a .text-firsts)) (now (a .text-seconds)) (now (a .kinds)) (now (a .lengths)) (now (a .firsts)) (now (a .seconds)) (now (a .values)) (now (a .steps)) (now (a .store)) (c .before .before .before .before .before .pre) (coreIn (c .turn-after .result))
+          (ap coreIn e ∙ ap (λ v. coreAfter (a .status) v way.On 0) (c .before .before .before .emptied .ensures)) (c .before .if1 .taken),
       ap (λ t. t .stop) e,
       ap (λ t. t .taken) e,
     )

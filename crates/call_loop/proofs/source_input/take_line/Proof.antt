@@ -2,7 +2,7 @@ use native.Mathlib.Omega.{arith}
 use mathlib.Core.Path.{ap, _∙_}
 use denote.Ref.{now}
 use Rattle.fill.proofs.words.Parts.{part-zero}
-use Rattle.record.specs.Turns.{recordOf, resting, placeIn}
+use Rattle.record.specs.Turns.{recordOf, resting, coreIn}
 use Rattle.record.proofs.Taking.{may-deal-ended, more-taken, refused-taken, ended-taken}
 use borrow.Author.Needs.{needs}
 use Rattle.call_loop.proofs.source_input.take_line.Statement.{statement}
@@ -51,7 +51,7 @@ returns c =
     let d = c .before .before .before .before .before .gather in
     let e = c .turn-after .ensures in (
       more-taken (resting (a .status) (a .source)) (now (a .gathered)) (now (a .cells)) (now (a .row)) (now (a .arena)) (now (a .ends)) (now (a .text-firsts)) (now (a .text-seconds)) (now (a .kinds)) (now (a .lengths)) (now (a .firsts)) (now (a .seconds)) (now (a .values)) (now (a .steps)) (now (a .store)) (c .before .before .before .before .before .before .before .before .before .pre .0) (now (a .block)) (a .taken) (d .result) _ (d .ensures) (c .before .enum-told .given .1)
-          (placeIn (c .turn-after .result)) (ap placeIn e) _ (ap (λ t. t .taken) e),
+          (coreIn (c .turn-after .result)) (ap coreIn e) _ (ap (λ t. t .taken) e),
       ap (λ t. t .stop) e,
     )
 
@@ -61,7 +61,7 @@ returns-2 c =
     let d = c .before .before .before .before .before .before .gather in
     let e = c .turn-after2 .ensures in (
       refused-taken (resting (a .status) (a .source)) (now (a .gathered)) (now (a .cells)) (now (a .row)) (now (a .arena)) (now (a .ends)) (now (a .text-firsts)) (now (a .text-seconds)) (now (a .kinds)) (now (a .lengths)) (now (a .firsts)) (now (a .seconds)) (now (a .values)) (now (a .steps)) (now (a .store)) (c .before .before .before .before .before .before .before .before .before .before .pre .0) (now (a .block)) (a .taken) (d .result) _ (d .ensures) _ (c .before .before .why .given .1)
-          (placeIn (c .turn-after2 .result)) (ap placeIn e) _ (ap (λ t. t .taken) e),
+          (coreIn (c .turn-after2 .result)) (ap coreIn e) _ (ap (λ t. t .taken) e),
       ap (λ t. t .stop) e,
     )
 
@@ -74,7 +74,7 @@ returns-3 c =
     let d = c .before .before .before .before .before .before .before .before .before .before .before .before .before .before .before .before .before .before .before .before .before .before .before .before .gather in
     let y = c .before .before .deal-line in (
       ended-taken (resting (a .status) (a .source)) (now (a .gathered)) (now (a .cells)) (now (a .row)) (now (a .arena)) (now (a .ends)) (now (a .text-firsts)) (now (a .text-seconds)) (now (a .kinds)) (now (a .lengths)) (now (a .firsts)) (now (a .seconds)) (now (a .values)) (now (a .steps)) (now (a .store)) (c .before .before .before .before .before .before .before .before .before .before .before .before .before .before .before .before .before .before .before .before .before .before .before .before .before .before .before .before .pre .0) (now (a .block)) (a .taken) (d .result) _ (d .ensures) (c .before .before .before .before .before .before .before .before .before .before .before .before .before .before .before .before .before .before .before .before .enum-told2 .given .1) _ (c .before .before .before .before .before .before .before .before .before .before .before .before .before .before .before .before .before .slice .ensures ∙ part-zero _ _) (c .before .before .before .before .before .before .before .before .before .before .before .before .before .before .before .before .emptied .result) (c .before .before .before .before .before .before .before .before .before .before .before .before .before .before .before .before .emptied .ensures)
-          (λ k. recordOf (placeIn (y .result)) k _ _ _ _ _ _ _ _ _ _ _ _) _ (y .ensures .0) _ (y .ensures .2),
+          (λ k. recordOf (coreIn (y .result)) k _ _ _ _ _ _ _ _ _ _ _ _) _ (y .ensures .0) _ (y .ensures .2),
       y .ensures .1,
     )
 

@@ -8,7 +8,7 @@ use borrow.Author.Needs.{needs}
 use Rattle.traps.specs.Table.Table.{plantedOf}
 use Rattle.settings.specs.Layout.Layouts.{printerOf}
 use Rattle.line_syntax.specs.Lines.Places.{argument-is}
-use Rattle.composition.specs.PageRows.Desk.{desk, stateAt}
+use Rattle.composition.specs.PageRows.PageState.{pageState, stateAt}
 use Rattle.composition.proofs.page_rows.Work.{same-work}
 use Rattle.composition.specs.BreakRequests.Acting.{actBy, act-by}
 use Rattle.composition.proofs.break_requests.act.Statement.{statement}
@@ -28,7 +28,7 @@ act-on-requires c κs =
 returns : tie.Need-returns
 returns c =
     let y = c .before .before .before .before .before .before .before .before .before .before .before .before in let a = y .args in
-    let d = desk (a .layout) (a .page) (a .collected) (now (a .cells)) (a .stack) (now (a .arena)) (now (a .ends)) in
+    let d = pageState (a .layout) (a .page) (a .collected) (now (a .cells)) (a .stack) (now (a .arena)) (now (a .ends)) in
     let e = c .before .before .before .before .argument .ensures ∙ argument-is 0 (c .before .before .before .before .before .before .before .before .arguments .ensures) in
     same-work (now (a .firsts)) (now (a .seconds)) (a .texts) (a .planted) d _ _ (a .page) _ _ _ _ (c .act-on .ensures)
     (λ ts x. ap (λ (l : List ℕ). actBy (printerOf (a .printer)) (a .request) l (stateAt ts (plantedOf (a .planted)) d x)) e ∙ act-by (printerOf (a .printer)) (a .request) (now (a .line)) _)

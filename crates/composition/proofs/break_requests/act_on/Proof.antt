@@ -4,7 +4,7 @@ use denote.Ref.{now}
 use borrow.Author.Needs.{needs}
 use Rattle.rules.specs.Acts.{setLine}
 use Rattle.settings.specs.Layout.Layouts.{printerOf}
-use Rattle.composition.specs.PageRows.Desk.{desk}
+use Rattle.composition.specs.PageRows.PageState.{pageState}
 use Rattle.composition.proofs.page_rows.Settling.{settle-works}
 use Rattle.composition.proofs.page_rows.Work.{stays, same-work}
 use Rattle.composition.proofs.break_requests.Works.{page-above}
@@ -41,7 +41,7 @@ settle-requires c κs = search needs
 returns : tie.Need-returns
 returns c =
     let y = c .before .before .before .before in let a = y .args in let b = y .pre .0 in
-    let d = desk (a .layout) (a .page) (a .collected) (now (a .cells)) (a .stack) (now (a .arena)) (now (a .ends)) in
+    let d = pageState (a .layout) (a .page) (a .collected) (now (a .cells)) (a .stack) (now (a .arena)) (now (a .ends)) in
     rw (c .before .enum-told .given .1, c .stay .ensures)
     (stays (now (a .firsts)) (now (a .seconds)) (a .texts) (a .planted) d _ (a .page) _ (now (a .row)) (b .sound) (b .items) (b .long) (λ ts x. refl))
 
@@ -51,14 +51,14 @@ returns-2 c = rw (c .before .before .before .before .enum-told2 .given .1) (c .s
 returns-3 : tie.Need-returns-3
 returns-3 c =
     let y = c .before .before .before .before .before .before .before in let a = y .args in
-    let d = desk (a .layout) (a .page) (a .collected) (now (a .cells)) (a .stack) (now (a .arena)) (now (a .ends)) in
+    let d = pageState (a .layout) (a .page) (a .collected) (now (a .cells)) (a .stack) (now (a .arena)) (now (a .ends)) in
     rw (c .before .before .before .before .enum-told3 .given .1)
     (same-work (now (a .firsts)) (now (a .seconds)) (a .texts) (a .planted) d _ _ (a .page) _ _ _ _ (c .eject .ensures) (λ ts x. refl))
 
 returns-4 : tie.Need-returns-4
 returns-4 c =
     let y = c .before .before .before .before .before .before in let a = y .args in let b = y .pre .0 in
-    let d = desk (a .layout) (a .page) (a .collected) (now (a .cells)) (a .stack) (now (a .arena)) (now (a .ends)) in let r = c .before .before .before .request .given .0 in let h = c .before .set-line .ensures in
+    let d = pageState (a .layout) (a .page) (a .collected) (now (a .cells)) (a .stack) (now (a .arena)) (now (a .ends)) in let r = c .before .before .before .request .given .0 in let h = c .before .set-line .ensures in
     rw (c .before .before .before .request .given .1, c .settle .ensures)
     (settle-works (now (a .firsts)) (now (a .seconds)) (a .texts) (a .planted) d (now (a .row)) (b .sound) (b .items) (b .long) (λ x. setLine (printerOf (a .printer)) (r .0) (now (a .argument)) (x .layout)) (c .before .set-line .result) (λ ts x. h .is) (h .limits) (page-above (a .printer) (r .0) (a .planted) d (now (a .argument)) (c .before .set-line .result) (b .sound) h))
 

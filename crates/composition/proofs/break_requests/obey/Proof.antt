@@ -5,7 +5,7 @@ use borrow.Author.Needs.{needs}
 use Rattle.traps.specs.Table.Table.{plantedOf}
 use Rattle.settings.specs.Layout.Layouts.{printerOf}
 use Rattle.page.specs.Springs.Held.{Plain}
-use Rattle.composition.specs.PageRows.Desk.{desk}
+use Rattle.composition.specs.PageRows.PageState.{pageState}
 use Rattle.composition.proofs.page_rows.Work.{same-work}
 use Rattle.composition.specs.BreakRequests.Obeying.{line-plain, request-plain}
 use Rattle.composition.proofs.break_requests.Works.{starts-is, breaks-is, acts-is}
@@ -26,7 +26,7 @@ start-requires c κs =
 returns : tie.Need-returns
 returns c =
     let y = c .before .before .before .before .before .before .before .before in let a = y .args in
-    let d = desk (a .layout) (a .page) (a .collected) (now (a .cells)) (a .stack) (now (a .arena)) (now (a .ends)) in
+    let d = pageState (a .layout) (a .page) (a .collected) (now (a .cells)) (a .stack) (now (a .arena)) (now (a .ends)) in
     same-work (now (a .firsts)) (now (a .seconds)) (a .texts) (a .planted) d _ _ (a .page) _ _ _ _ (c .start .ensures)
     (λ ts x. rw (c .before .before .before .before .held-line .ensures) (starts-is (printerOf (a .printer)) (a .request) (now (a .line)) d (plantedOf (a .planted)) ts x (a .period) (a .name) (sym (c .before .before .before .before .before .before .starts-first .ensures) ∙ c .before .before .before .before .before .if1 .taken)))
 
@@ -44,7 +44,7 @@ break-line-requires c κs =
 returns-2 : tie.Need-returns-2
 returns-2 c =
     let y = c .before .before .before .before .before .before .before .before .before .before in let a = y .args in
-    let d = desk (a .layout) (a .page) (a .collected) (now (a .cells)) (a .stack) (now (a .arena)) (now (a .ends)) in
+    let d = pageState (a .layout) (a .page) (a .collected) (now (a .cells)) (a .stack) (now (a .arena)) (now (a .ends)) in
     same-work (now (a .firsts)) (now (a .seconds)) (a .texts) (a .planted) d _ _ (a .page) _ _ _ _ (c .break-line .ensures)
     (λ ts x. rw (c .before .before .before .before .held-request .ensures) (breaks-is (printerOf (a .printer)) (a .request) (now (a .line)) d (plantedOf (a .planted)) ts x (a .period) (a .name) (sym (c .before .before .before .before .before .before .before .before .starts-first .ensures) ∙ c .before .before .before .before .before .before .before .if1 .left) (sym (c .before .before .before .before .before .before .breaks .ensures) ∙ c .before .before .before .before .before .if2 .taken)))
 
@@ -54,7 +54,7 @@ act-requires c κs = search needs
 returns-3 : tie.Need-returns-3
 returns-3 c =
     let y = c .before .before .before .before .before .before .before .before .before .before in let a = y .args in
-    let d = desk (a .layout) (a .page) (a .collected) (now (a .cells)) (a .stack) (now (a .arena)) (now (a .ends)) in
+    let d = pageState (a .layout) (a .page) (a .collected) (now (a .cells)) (a .stack) (now (a .arena)) (now (a .ends)) in
     same-work (now (a .firsts)) (now (a .seconds)) (a .texts) (a .planted) d _ _ (a .page) _ _ _ _ (c .act .ensures)
     (λ ts x. acts-is (printerOf (a .printer)) (a .request) (now (a .line)) d (plantedOf (a .planted)) ts x (a .period) (a .name) (sym (c .before .before .before .before .before .before .before .before .starts-first .ensures) ∙ c .before .before .before .before .before .before .before .if1 .left) (sym (c .before .before .before .before .before .before .breaks .ensures) ∙ c .before .before .before .before .before .if2 .left))
 

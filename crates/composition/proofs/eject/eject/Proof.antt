@@ -12,7 +12,7 @@ use Rattle.traps.specs.Table.Table.{plantedOf}
 use Rattle.page.specs.Position.Landing.{pageOf}
 use Rattle.page.specs.Springs.Held.{heldOf, Plain}
 use Rattle.rules.specs.Rows as rule
-use Rattle.composition.specs.PageRows.Desk.{desk}
+use Rattle.composition.specs.PageRows.PageState.{pageState}
 use Rattle.composition.proofs.page_rows.Work.{rows-few, left-plain, eject-other, eject-is, stays, same-work}
 use Rattle.composition.proofs.eject.eject.Statement.{statement}
 use Rattle.composition.proofs.eject.eject.Tie as tie
@@ -23,7 +23,7 @@ lead-to-requires c κs = search needs
 returns : tie.Need-returns
 returns c =
     let y = c .before .before .before in let a = y .args in
-    let d = desk (a .layout) (a .page) (a .collected) (now (a .cells)) (a .stack) (now (a .arena)) (now (a .ends)) in
+    let d = pageState (a .layout) (a .page) (a .collected) (now (a .cells)) (a .stack) (now (a .arena)) (now (a .ends)) in
     rw (c .lead-to .ensures)
     (stays (now (a .firsts)) (now (a .seconds)) (a .texts) (a .planted) d _ (a .page) _ _ (y .pre .sound) (y .pre .items) (y .pre .long) (λ ts x. eject-other d (plantedOf (a .planted)) ts x (a .from) (ne-eqb _ _ (c .before .if1 .taken))))
 
@@ -45,7 +45,7 @@ blank-requires c κs =
 returns-2 : tie.Need-returns-2
 returns-2 c =
     let y = c .before .before .before .before .before .before .before .before .before .before in let a = y .args in
-    let d = desk (a .layout) (a .page) (a .collected) (now (a .cells)) (a .stack) (now (a .arena)) (now (a .ends)) in
+    let d = pageState (a .layout) (a .page) (a .collected) (now (a .cells)) (a .stack) (now (a .arena)) (now (a .ends)) in
     let r = c .before .before .before .before .before .before .rows-below in let h = c .before .before .before .before .before .left-of in
     same-work (now (a .firsts)) (now (a .seconds)) (a .texts) (a .planted) d _ (λ ts s. rule.blank (downOf (r .result)) (heldOf ts (h .result) []) s) (a .page) _ _ _ _ (c .blank .ensures)
     (λ ts x. rw (h .ensures) (eject-is d (plantedOf (a .planted)) ts x (a .from) (downOf (r .result)) _ (eq-eqb _ _ (c .before .before .before .before .before .before .before .before .if1 .left)) (r .ensures)))

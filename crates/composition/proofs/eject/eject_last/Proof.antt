@@ -7,7 +7,7 @@ use Rattle.measure.specs.Counts.{downOf}
 use Rattle.traps.specs.Table.Table.{plantedOf}
 use Rattle.page.specs.Position.Landing.{pageOf}
 use Rattle.rules.specs.Rows as rule
-use Rattle.composition.specs.PageRows.Desk.{desk}
+use Rattle.composition.specs.PageRows.PageState.{pageState}
 use Rattle.composition.proofs.page_rows.Work.{rows-few, eject-last-is, same-work}
 use Rattle.composition.proofs.eject.eject_last.Statement.{statement}
 use Rattle.composition.proofs.eject.eject_last.Tie as tie
@@ -27,7 +27,7 @@ blank-requires c κs =
 returns : tie.Need-returns
 returns c =
     let y = c .before .before .before .before .before .before .before in let a = y .args in
-    let d = desk (a .layout) (a .page) (a .collected) (now (a .cells)) (a .stack) (now (a .arena)) (now (a .ends)) in
+    let d = pageState (a .layout) (a .page) (a .collected) (now (a .cells)) (a .stack) (now (a .arena)) (now (a .ends)) in
     let r = c .before .before .before .before .before .rows-below in
     same-work (now (a .firsts)) (now (a .seconds)) (a .texts) (a .planted) d _ (λ ts s. rule.blank (downOf (r .result)) [] s) (a .page) _ _ _ _ (c .blank .ensures)
     (λ ts x. eject-last-is d (plantedOf (a .planted)) ts x (downOf (r .result)) (r .ensures))

@@ -12,11 +12,11 @@ use Rattle.rules.specs.Filling.{Word, words, leads, after, place, gapAfter}
 use Rattle.rules.specs.TextLines.{fills, textWay}
 use Rattle.traps.specs.Table.Table.{plantedOf}
 use Rattle.texts.specs.Table.Table.{textsOf}
-use Rattle.fill.specs.Words.Parts.{part}
-use Rattle.fill.specs.Collected.Filled.{lineOf}
-use Rattle.fill.specs.Words.Words.{nextOf}
+use Rattle.fill.specs.Words.Parts.{bytesBetween}
+use Rattle.fill.specs.Collected.Filled.{collectedLine}
+use Rattle.fill.specs.Words.Words.{wordsFrom}
 use Rattle.page.proofs.springs.Stacks.{fits-few}
-use Rattle.composition.specs.PageRows.Desk.{desk, stateAt}
+use Rattle.composition.specs.PageRows.PageState.{pageState, stateAt}
 use Rattle.composition.specs.Filling.Words.{Follows}
 use Rattle.composition.proofs.filling.Works.{worked-as}
 use Rattle.composition.proofs.filling.Fills.{filled-from, line-behind, line-new, line-none}
@@ -38,9 +38,9 @@ stay-requires c κs = search needs
 returns : tie.Need-returns
 returns c =
     let y = c .before .before .before .before in let a = y .args in let b = y .pre .0 in
-    let d = desk (a .layout) (a .page) (a .collected) (now (a .cells)) (a .stack) (now (a .arena)) (now (a .ends)) in
-    let l = part (now (a .line)) 0 (a .to) in
-    let e : words l ≡ [] = sym (c .before .before .before .next-word .ensures .0) ∙ ap (nextOf (now (a .line)) (a .to)) (c .before .enum-told .given .1) in
+    let d = pageState (a .layout) (a .page) (a .collected) (now (a .cells)) (a .stack) (now (a .arena)) (now (a .ends)) in
+    let l = bytesBetween (now (a .line)) 0 (a .to) in
+    let e : words l ≡ [] = sym (c .before .before .before .next-word .ensures .0) ∙ ap (wordsFrom (now (a .line)) (a .to)) (c .before .enum-told .given .1) in
     rw (c .stay .ensures) (record {
       is = λ st ks ls i x.
           let ts = textsOf st (now (a .firsts)) (now (a .seconds)) ks ls (a .texts) in
@@ -59,7 +59,7 @@ count-requires : tie.Need-count-requires
 count-requires c κs = search needs
 
 -- the gap behind the line as a plain number
-gap-is : (c : tie.After-count) → c .count .result ≡ gapAfter (words (part (now (c .before .before .before .before .before .before .args .line)) 0 (c .before .before .before .before .before .before .args .to)))
+gap-is : (c : tie.After-count) → c .count .result ≡ gapAfter (words (bytesBetween (now (c .before .before .before .before .before .before .args .line)) 0 (c .before .before .before .before .before .before .args .to)))
 gap-is c = c .count .ensures ∙ ap acrossOf (c .before .gap-after .ensures .0)
 
 gap-small : (c : tie.After-count) → c .count .result ≤ 2
@@ -90,14 +90,14 @@ fill-placed-requires c κs =
 returns-2 : tie.Need-returns-2
 returns-2 c =
     let k = c .before .before .before .before .before .before .before .before .before .before in let y = k .before .before .before .before .before .before in let a = y .args in let p = c .before .before .before .before .before .place .ensures in let n = c .before .before .before .before .before .before .before .as-cells in let t = c .before .before .before .before .before .before .before .before .before .if1 .taken in
-    let d = desk (a .layout) (a .page) (a .collected) (now (a .cells)) (a .stack) (now (a .arena)) (now (a .ends)) in
+    let d = pageState (a .layout) (a .page) (a .collected) (now (a .cells)) (a .stack) (now (a .arena)) (now (a .ends)) in
     let f = k .before .before .before .found .given in
-    let l = part (now (a .line)) 0 (a .to) in
-    let e = sym (k .before .before .before .before .before .next-word .ensures .0) ∙ ap (nextOf (now (a .line)) (a .to)) (f .1) in
+    let l = bytesBetween (now (a .line)) 0 (a .to) in
+    let e = sym (k .before .before .before .before .before .next-word .ensures .0) ∙ ap (wordsFrom (now (a .line)) (a .to)) (f .1) in
     let q : leads (words l) ≡ false = subst (λ (v : Bool). Follows v (words l)) t (y .pre .2) in
     worked-as _ (now (a .firsts)) (now (a .seconds)) (a .texts) (a .planted) d _ (a .layout) (a .collected) _ _ _ _ _ (c .fill-placed .ensures)
     (λ ts x. line-behind ts (plantedOf (a .planted)) (a .layout) (a .page) (a .collected) (now (a .cells)) (a .stack) (now (a .arena)) (now (a .ends)) (k .count .result) x l _ (words l) _ _ _ e t q (gap-is k)
-    (p .is (acrossOf (a .collected .indent)) (a .collected .next) ∙ ap (λ (v : Cells). place (lineOf (acrossOf (a .collected .indent)) (acrossOf (a .collected .room)) (now (a .cells)) (a .collected .length) (a .collected .next)) (after (acrossOf v) (words l))) (n .ensures)))
+    (p .is (acrossOf (a .collected .indent)) (a .collected .next) ∙ ap (λ (v : Cells). place (collectedLine (acrossOf (a .collected .indent)) (acrossOf (a .collected .room)) (now (a .cells)) (a .collected .length) (a .collected .next)) (after (acrossOf v) (words l))) (n .ensures)))
 
 fill-new-requires : tie.Need-fill-new-requires
 fill-new-requires c κs =
@@ -107,10 +107,10 @@ fill-new-requires c κs =
 returns-3 : tie.Need-returns-3
 returns-3 c =
     let k = c .before .before .before .before .before .before .before in let y = k .before .before .before .before .before .before in let a = y .args in
-    let d = desk (a .layout) (a .page) (a .collected) (now (a .cells)) (a .stack) (now (a .arena)) (now (a .ends)) in
+    let d = pageState (a .layout) (a .page) (a .collected) (now (a .cells)) (a .stack) (now (a .arena)) (now (a .ends)) in
     let f = k .before .before .before .found .given in
-    let l = part (now (a .line)) 0 (a .to) in
-    let e = sym (k .before .before .before .before .before .next-word .ensures .0) ∙ ap (nextOf (now (a .line)) (a .to)) (f .1) in
+    let l = bytesBetween (now (a .line)) 0 (a .to) in
+    let e = sym (k .before .before .before .before .before .next-word .ensures .0) ∙ ap (wordsFrom (now (a .line)) (a .to)) (f .1) in
     worked-as _ (now (a .firsts)) (now (a .seconds)) (a .texts) (a .planted) d _ (a .layout) (a .collected) (now (a .cells)) _ _ _ _ (c .fill-new .ensures)
     (λ ts x. line-new ts (plantedOf (a .planted)) (a .layout) (a .page) (a .collected) (now (a .cells)) (a .stack) (now (a .arena)) (now (a .ends)) (k .count .result) x l (words l) _ _ _ e (c .before .before .before .before .before .before .if1 .left) (gap-is k))
 

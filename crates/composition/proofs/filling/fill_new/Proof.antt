@@ -11,11 +11,11 @@ use Rattle.rules.specs.Bytes.{fixedBlank}
 use Rattle.rules.specs.Settings as rule
 use Rattle.rules.specs.Filling.{words}
 use Rattle.traps.specs.Table.Table.{plantedOf}
-use Rattle.fill.specs.Words.Parts.{part}
+use Rattle.fill.specs.Words.Parts.{bytesBetween}
 use Rattle.settings.specs.Layout.Layouts.{layoutOf}
 use Rattle.settings.specs.Layout.LayoutLaws.{indent-most}
 use Rattle.composition.specs.declared.page_rows.Collected.{Collected}
-use Rattle.composition.specs.PageRows.Desk.{desk}
+use Rattle.composition.specs.PageRows.PageState.{pageState}
 use Rattle.composition.specs.Filling.Words.{leadingWord}
 use Rattle.composition.proofs.filling.Works.{written-front, worked-as}
 use Rattle.composition.proofs.filling.Fills.{line-begun, filled-from, begun-filled}
@@ -64,12 +64,12 @@ returns : tie.Need-returns
 returns c =
     let y = c .before .before .before .before .before .before .before .before .before .before .before .before in let a = y .args in let b = y .pre .0 in let q = y .pre .1 in
     let n = c .before .before .before .before .before .before .before .begin-line in let u = c .before .before .before .before .before .before .before .before .before .begun in let r = c .before .before .before .before .before .before .before .before .before .before .room-now in let i = c .before .before .before .before .before .before .before .before .before .before .before .indent-now in let p = c .before .before .before .before .before .place-others .ensures in
-    let d = desk (a .layout) (a .page) (a .collected) (now (a .cells)) (a .stack) (now (a .arena)) (now (a .ends)) in
+    let d = pageState (a .layout) (a .page) (a .collected) (now (a .cells)) (a .stack) (now (a .arena)) (now (a .ends)) in
     let fresh : Collected = record { there = true; indent = i .result; room = r .result; length = n .result; next = 1 } in
-    let bs = part (now (a .line)) (a .found .from) (a .found .to) in
+    let bs = bytesBetween (now (a .line)) (a .found .from) (a .found .to) in
     worked-as _ (now (a .firsts)) (now (a .seconds)) (a .texts) (a .planted) d _ (u .result) fresh _ _ _ _ _ (c .fill-placed .ensures)
     (λ ts x. begun-filled ts (plantedOf (a .planted)) (a .layout) (a .page) (a .collected) (now (a .cells)) (a .stack) (now (a .arena)) (now (a .ends)) (a .gap) x (u .result) fresh _
-    (leadingWord (acrossOf (a .lead)) bs) (words (part (now (a .line)) (a .found .to) (a .to))) _ _ (y .pre .2) (u .ensures .is) (p .is (acrossOf (i .result)) 1)
+    (leadingWord (acrossOf (a .lead)) bs) (words (bytesBetween (now (a .line)) (a .found .to) (a .to))) _ _ (y .pre .2) (u .ensures .is) (p .is (acrossOf (i .result)) 1)
     (line-begun (layoutOf (a .layout)) (i .result) (r .result) _ (n .result) 1 1 0 (replicate (acrossOf (a .lead)) fixedBlank ++ bs) (i .ensures) (r .ensures .is) (written-front _ _ _ _ (n .ensures .0) (omega (arith, n .ensures .1 .few, b .sound .line .long))) refl))
 
 pub fill-new-spec : {M : Type 1} → statement M

@@ -5,7 +5,7 @@ use borrow.Author.Needs.{needs}
 use Rattle.measure.specs.Counts.{acrossOf}
 use Rattle.fill.specs.declared.collected.Placed.the-variants as placed
 use Rattle.page.proofs.springs.Stacks.{fits-few}
-use Rattle.composition.specs.Filling.Words.{Filled}
+use Rattle.composition.specs.Filling.Words.{WordsFilled}
 use Rattle.composition.proofs.filling.Fills.{collected-all}
 use Rattle.composition.proofs.filling.fill_placed.Statement.{statement}
 use Rattle.composition.proofs.filling.fill_placed.Tie as tie
@@ -25,7 +25,7 @@ overflow-requires c κs = let y = c .before .before .before .before .before .bef
 returns : tie.Need-returns
 returns c =
     let y = c .before .before .before .before in let a = y .args in let b = y .pre .0 in let n = c .before .before .placed .given in
-    let f : Filled (now (a .line)) (a .to) (now (a .cells)) (acrossOf (a .collected .room)) (a .gap) (placed.All (n .0 .0)) = rw (n .1) at (y .pre .1) in
+    let f : WordsFilled (now (a .line)) (a .to) (now (a .cells)) (acrossOf (a .collected .room)) (a .gap) (placed.All (n .0 .0)) = rw (n .1) at (y .pre .1) in
     rw (c .collect .ensures, n .1) (record {
       is = λ st ks ls i x. collected-all _ _ (a .layout) (a .page) (a .collected) (now (a .cells)) (now (a .line)) (now (a .row)) (a .stack) (now (a .arena)) (now (a .ends)) (n .0 .0) (a .gap) (a .to) x;
       good = λ st ks ls i g. g;

@@ -9,11 +9,11 @@ use Rattle.rules.specs.Filling.{Word, words, place, leads}
 use Rattle.rules.specs.TextLines.{fill}
 use Rattle.traps.specs.Table.Table.{plantedOf}
 use Rattle.texts.specs.Table.Table.{textsOf}
-use Rattle.fill.specs.Words.Parts.{part}
-use Rattle.fill.specs.Collected.Filled.{lineOf}
-use Rattle.fill.specs.Words.Words.{nextOf}
+use Rattle.fill.specs.Words.Parts.{bytesBetween}
+use Rattle.fill.specs.Collected.Filled.{collectedLine}
+use Rattle.fill.specs.Words.Words.{wordsFrom}
 use Rattle.page.proofs.springs.Stacks.{fits-few}
-use Rattle.composition.specs.PageRows.Desk.{desk, stateAt}
+use Rattle.composition.specs.PageRows.PageState.{pageState, stateAt}
 use Rattle.composition.proofs.filling.Works.{worked-as}
 use Rattle.composition.proofs.filling.Fills.{filled-from, first-gap, behind-filled}
 use Rattle.composition.proofs.filling.fill_rest.Statement.{statement}
@@ -35,9 +35,9 @@ returns : tie.Need-returns
 unfolding fill
 returns c =
     let y = c .before .before .before .before in let a = y .args in let b = y .pre .0 in
-    let e : words (part (now (a .line)) 0 (a .to)) ≡ [] = sym (c .before .before .before .next-word .ensures .0) ∙ ap (nextOf (now (a .line)) (a .to)) (c .before .enum-told .given .1) in
+    let e : words (bytesBetween (now (a .line)) 0 (a .to)) ≡ [] = sym (c .before .before .before .next-word .ensures .0) ∙ ap (wordsFrom (now (a .line)) (a .to)) (c .before .enum-told .given .1) in
     rw (c .stay .ensures) (record {
-      is = λ st ks ls i x. sym (ap (λ (v : List Word). fill v (a .gap) (stateAt (textsOf st (now (a .firsts)) (now (a .seconds)) ks ls (a .texts)) (plantedOf (a .planted)) (desk (a .layout) (a .page) (a .collected) (now (a .cells)) (a .stack) (now (a .arena)) (now (a .ends))) x)) e);
+      is = λ st ks ls i x. sym (ap (λ (v : List Word). fill v (a .gap) (stateAt (textsOf st (now (a .firsts)) (now (a .seconds)) ks ls (a .texts)) (plantedOf (a .planted)) (pageState (a .layout) (a .page) (a .collected) (now (a .cells)) (a .stack) (now (a .arena)) (now (a .ends))) x)) e);
       good = λ st ks ls i g. g;
       sound = b .sound;
       fits = fits-few (a .stack) (now (a .ends)) (b .items);
@@ -64,13 +64,13 @@ fill-placed-requires c κs =
 returns-2 : tie.Need-returns-2
 returns-2 c =
     let y = c .before .before .before .before .before .before .before .before .before .before .before .before .before in let a = y .args in let p = c .before .before .before .before .before .place-others .ensures in
-    let d = desk (a .layout) (a .page) (a .collected) (now (a .cells)) (a .stack) (now (a .arena)) (now (a .ends)) in
+    let d = pageState (a .layout) (a .page) (a .collected) (now (a .cells)) (a .stack) (now (a .arena)) (now (a .ends)) in
     let f = c .before .before .before .before .before .before .before .before .before .before .found .given in
-    let e = sym (c .before .before .before .before .before .before .before .before .before .before .before .before .next-word .ensures .0) ∙ ap (nextOf (now (a .line)) (a .to)) (f .1) in
+    let e = sym (c .before .before .before .before .before .before .before .before .before .before .before .before .next-word .ensures .0) ∙ ap (wordsFrom (now (a .line)) (a .to)) (f .1) in
     worked-as _ (now (a .firsts)) (now (a .seconds)) (a .texts) (a .planted) d _ (a .layout) (a .collected) _ _ _ _ _ (c .fill-placed .ensures)
     (λ ts x. ap (λ (v : List Word). fill v (a .gap) (stateAt ts (plantedOf (a .planted)) d x)) e
     ∙ behind-filled ts (plantedOf (a .planted)) (a .layout) (a .page) (a .collected) (now (a .cells)) (a .stack) (now (a .arena)) (now (a .ends)) (a .gap) x _ _ _ _ (c .before .before .before .before .before .before .before .before .if1 .taken)
-    (p .is (acrossOf (a .collected .indent)) (a .collected .next) ∙ ap (place (lineOf (acrossOf (a .collected .indent)) (acrossOf (a .collected .room)) (now (a .cells)) (a .collected .length) (a .collected .next))) e))
+    (p .is (acrossOf (a .collected .indent)) (a .collected .next) ∙ ap (place (collectedLine (acrossOf (a .collected .indent)) (acrossOf (a .collected .room)) (now (a .cells)) (a .collected .length) (a .collected .next))) e))
 
 fill-new-requires : tie.Need-fill-new-requires
 fill-new-requires c κs =
@@ -80,9 +80,9 @@ fill-new-requires c κs =
 returns-3 : tie.Need-returns-3
 returns-3 c =
     let y = c .before .before .before .before .before .before .before .before .before .before in let a = y .args in
-    let d = desk (a .layout) (a .page) (a .collected) (now (a .cells)) (a .stack) (now (a .arena)) (now (a .ends)) in
+    let d = pageState (a .layout) (a .page) (a .collected) (now (a .cells)) (a .stack) (now (a .arena)) (now (a .ends)) in
     let f = c .before .before .before .before .before .before .before .found .given in
-    let e = sym (c .before .before .before .before .before .before .before .before .before .next-word .ensures .0) ∙ ap (nextOf (now (a .line)) (a .to)) (f .1) in
+    let e = sym (c .before .before .before .before .before .before .before .before .before .next-word .ensures .0) ∙ ap (wordsFrom (now (a .line)) (a .to)) (f .1) in
     worked-as _ (now (a .firsts)) (now (a .seconds)) (a .texts) (a .planted) d _ (a .layout) (a .collected) (now (a .cells)) _ _ _ _ (c .fill-new .ensures)
     (λ ts x. ap (λ (v : List Word). fill v (a .gap) (stateAt ts (plantedOf (a .planted)) d x)) e
     ∙ first-gap ts (plantedOf (a .planted)) (a .layout) (a .page) (a .collected) (now (a .cells)) (a .stack) (now (a .arena)) (now (a .ends)) (a .gap) x _ _ _ (c .before .before .before .before .before .if1 .left))

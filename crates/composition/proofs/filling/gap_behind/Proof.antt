@@ -3,7 +3,7 @@ use mathlib.Core.Path.{sym, _∙_}
 use borrow.Author.Needs.{needs}
 use denote.Ref.{now}
 use Rattle.rules.specs.Filling.{words}
-use Rattle.fill.specs.Words.Parts.{part}
+use Rattle.fill.specs.Words.Parts.{bytesBetween}
 use Rattle.composition.proofs.filling.Fills.{gap-none, gap-some}
 use Rattle.composition.proofs.filling.gap_behind.Statement.{statement}
 use Rattle.composition.proofs.filling.gap_behind.Tie as tie
@@ -12,10 +12,10 @@ is-blank-requires : tie.Need-is-blank-requires
 is-blank-requires c κs = search needs
 
 returns : tie.Need-returns
-returns c = let a = c .before .before .args in gap-none (words (part (now (a .line)) (a .at) (a .to))) (a .gap) (sym (c .before .is-blank .ensures) ∙ c .if1 .taken)
+returns c = let a = c .before .before .args in gap-none (words (bytesBetween (now (a .line)) (a .at) (a .to))) (a .gap) (sym (c .before .is-blank .ensures) ∙ c .if1 .taken)
 
 returns-2 : tie.Need-returns-2
-returns-2 c = let a = c .before .before .args in gap-some (words (part (now (a .line)) (a .at) (a .to))) (a .gap) (sym (c .before .is-blank .ensures) ∙ c .if1 .left)
+returns-2 c = let a = c .before .before .args in gap-some (words (bytesBetween (now (a .line)) (a .at) (a .to))) (a .gap) (sym (c .before .is-blank .ensures) ∙ c .if1 .left)
 
 pub gap-behind-spec : {M : Type 1} → statement M
 gap-behind-spec = tie.close (tie.spec is-blank-requires returns returns-2)

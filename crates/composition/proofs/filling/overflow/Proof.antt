@@ -11,14 +11,14 @@ use Rattle.rules.specs.Settings as rule
 use Rattle.rules.specs.Filling.{words, fullRow}
 use Rattle.rules.specs.TextLines.{nextGap}
 use Rattle.traps.specs.Table.Table.{plantedOf}
-use Rattle.fill.specs.Words.Parts.{part}
-use Rattle.fill.specs.Collected.Filled.{lineOf}
+use Rattle.fill.specs.Words.Parts.{bytesBetween}
+use Rattle.fill.specs.Collected.Filled.{collectedLine}
 use Rattle.fill.proofs.unfilled.Layouts.{full-is}
 use Rattle.settings.specs.Layout.Layouts.{layoutOf}
 use Rattle.settings.specs.Layout.LayoutLaws.{indent-most}
 use Rattle.page.specs.Springs.Held.{Plain}
 use Rattle.composition.specs.declared.page_rows.Collected.{Collected}
-use Rattle.composition.specs.PageRows.Desk.{desk}
+use Rattle.composition.specs.PageRows.PageState.{pageState}
 use Rattle.composition.specs.Filling.Words.{othersHeld}
 use Rattle.composition.proofs.filling.Works.{written-front, moves-on}
 use Rattle.composition.proofs.filling.Fills.{others-plain, gap-small, line-begun, part-short, overflowed}
@@ -52,7 +52,7 @@ slice-requires c κs = let p = c .before .before .before .before .before .before
 down-requires : tie.Need-down-requires
 down-requires c κs =
     let y = c .before .before .before .before .before .before .before .before .before .before .before .before .before .before .before .before .before .before .before in let b = y .pre .0 in let p = y .pre .1 .places in
-    let h : Plain (othersHeld (words (part (now (y .args .line)) (y .args .o .to) (y .args .to))) (y .args .gap)) = others-plain (words (part (now (y .args .line)) (y .args .o .to) (y .args .to))) (y .args .gap) (y .pre .1 .small) in (
+    let h : Plain (othersHeld (words (bytesBetween (now (y .args .line)) (y .args .o .to) (y .args .to))) (y .args .gap)) = others-plain (words (bytesBetween (now (y .args .line)) (y .args .o .to) (y .args .to))) (y .args .gap) (y .pre .1 .small) in (
       record { above = rw (ap (λ (v : rule.Layout). v .page) (c .before .before .before .before .before .before .begun .ensures .is)) (b .sound .above); short = c .before .before .before .before .before .before .begun .ensures .limits .page-most; few = b .sound .few },
       record { columns = b .sound .columns; few = b .items; short = rw (c .before .before .slice .ensures) (part-short (now (y .args .line)) (y .args .o .to) (y .args .to) p) },
       rw (c .before .before .before .before .others-held .ensures) h,
@@ -65,20 +65,20 @@ lead-to-requires c κs = search needs
 returns : tie.Need-returns
 returns c =
     let y = c .before .before .before .before .before .before .before .before .before .before .before .before .before .before .before .before .before .before .before .before .before in let a = y .args in let b = y .pre .0 in let q = y .pre .1 in
-    let d = desk (a .layout) (a .page) (a .collected) (now (a .cells)) (a .stack) (now (a .arena)) (now (a .ends)) in
-    let ws = words (part (now (a .line)) (a .o .to) (a .to)) in
+    let d = pageState (a .layout) (a .page) (a .collected) (now (a .cells)) (a .stack) (now (a .arena)) (now (a .ends)) in
+    let ws = words (bytesBetween (now (a .line)) (a .o .to) (a .to)) in
     let w = c .before .before .before .before .before .before .before .before .before .before .before .before .before .before .full-row in let n = c .before .before .before .before .before .before .before .before .before .before .before .before .begin-line in let i = c .before .before .before .before .before .before .before .before .before .before .before .indent-now in let r = c .before .before .before .before .before .before .before .before .before .before .room-now in let g = c .before .before .before .before .before .before .before .before .before .gap-behind in
     let u = c .before .before .before .before .before .before .before .before .begun in let h = c .before .before .before .before .before .before .others-held in let l = c .before .before .before .before .slice in let m = c .before .down in
     let fresh : Collected = record { there = true; indent = i .result; room = r .result; length = n .result; next = g .result } in
     rw (c .lead-to .ensures)
     (moves-on _ (now (a .firsts)) (now (a .seconds)) (a .texts) (a .planted) d (u .result) fresh _ (h .result) (now (l .result)) 1 (m .result) _ _ (m .ensures)
-    (fullRow (layoutOf (a .layout)) (lineOf (acrossOf (a .collected .indent)) (acrossOf (a .collected .room)) (now (a .cells)) (a .o .length) (a .collected .next)))
+    (fullRow (layoutOf (a .layout)) (collectedLine (acrossOf (a .collected .indent)) (acrossOf (a .collected .room)) (now (a .cells)) (a .o .length) (a .collected .next)))
     _ (w .result)
     (written-front _ _ _ _ (w .ensures .0) (omega (arith, w .ensures .1, b .long)) ∙ full-is (layoutOf (a .layout)) (now (a .cells)) (a .o .length) (acrossOf (a .collected .indent)) (acrossOf (a .collected .room)) (a .collected .next))
     (w .ensures .1) (w .ensures .0 .long ∙ b .long)
     (λ ts x. overflowed ts (plantedOf (a .planted)) (a .layout) (u .result) (a .page) (a .collected) fresh (now (a .cells)) _ (now (a .line)) (a .stack) (now (a .arena)) (now (a .ends)) (a .o) (a .gap) (a .to) (h .result) (now (l .result)) _ x
     (u .ensures .is) (h .ensures) (l .ensures)
-    (ap some (line-begun (layoutOf (a .layout)) (i .result) (r .result) _ (n .result) (g .result) (nextGap ws (a .gap)) (acrossOf (a .o .gap)) (part (now (a .line)) (a .o .from) (a .o .to)) (i .ensures) (r .ensures .is) (written-front _ _ _ _ (n .ensures .0) (omega (arith, n .ensures .1 .few, q .collected .long))) (g .ensures)))
+    (ap some (line-begun (layoutOf (a .layout)) (i .result) (r .result) _ (n .result) (g .result) (nextGap ws (a .gap)) (acrossOf (a .o .gap)) (bytesBetween (now (a .line)) (a .o .from) (a .o .to)) (i .ensures) (r .ensures .is) (written-front _ _ _ _ (n .ensures .0) (omega (arith, n .ensures .1 .few, q .collected .long))) (g .ensures)))
     refl)
     (u .ensures .limits) (b .sound .numbered) (b .sound .few)
     (record { long = n .ensures .1 .long; few = n .ensures .1 .few; narrow = omega (arith, r .ensures .most) })

@@ -3,8 +3,8 @@ use native.Mathlib.Omega.{arith}
 use lib.ListN.{drop}
 use denote.Ref.{now}
 use borrow.Author.Needs.{needs}
-use Rattle.line_syntax.specs.declared.conditions.Condition.the-variants.{Holds, Fails, Malformed}
-use Rattle.composition.specs.PageRows.Desk.{desk}
+use Rattle.line_syntax.specs.declared.conditions.ConditionResult.the-variants.{Holds, Fails, Malformed}
+use Rattle.composition.specs.PageRows.PageState.{pageState}
 use Rattle.composition.proofs.page_rows.Work.{stays}
 use Rattle.composition.proofs.no_break_requests.Follows.{all-from, if-none, if-holds, follows-on}
 use Rattle.composition.proofs.no_break_requests.decide.Statement.{statement}
@@ -19,7 +19,7 @@ stay-requires c κs = search needs
 returns : tie.Need-returns
 returns c =
     let y = c .before .before .before .before in let a = y .args in let b = y .pre .0 in
-    let d = desk (a .layout) (a .page) (a .collected) (now (a .cells)) (a .stack) (now (a .arena)) (now (a .ends)) in
+    let d = pageState (a .layout) (a .page) (a .collected) (now (a .cells)) (a .stack) (now (a .arena)) (now (a .ends)) in
     rw (c .stay .ensures)
     (stays (now (a .firsts)) (now (a .seconds)) (a .texts) (a .planted) d _ (a .page) _ (now (a .row)) (b .sound) (b .items) (b .long)
     (λ ts x. if-none (a .printer) (now (a .line)) _ (c .before .before .condition-at .ensures) _ (c .before .if1 .taken)))
@@ -80,7 +80,7 @@ returns-2 c =
 returns-3 : tie.Need-returns-3
 returns-3 c =
     let y = c .before .before .before .before .before .before .before .before in let a = y .args in let b = y .pre .0 in
-    let d = desk (a .layout) (a .page) (a .collected) (now (a .cells)) (a .stack) (now (a .arena)) (now (a .ends)) in
+    let d = pageState (a .layout) (a .page) (a .collected) (now (a .cells)) (a .stack) (now (a .arena)) (now (a .ends)) in
     let p = c .before .before .before .before .before .before .condition-at in
     let h = c .before .before .before .holds in let e = c .before .enum-told2 .given .1 in
     rw (c .stay3 .ensures)
@@ -90,7 +90,7 @@ returns-3 c =
 returns-4 : tie.Need-returns-4
 returns-4 c =
     let y = c .before .before .before .before .before .before .before .before in let a = y .args in let b = y .pre .0 in
-    let d = desk (a .layout) (a .page) (a .collected) (now (a .cells)) (a .stack) (now (a .arena)) (now (a .ends)) in
+    let d = pageState (a .layout) (a .page) (a .collected) (now (a .cells)) (a .stack) (now (a .arena)) (now (a .ends)) in
     let p = c .before .before .before .before .before .before .condition-at in
     let h = c .before .before .before .holds in let e = c .before .enum-told3 .given .1 in
     rw (c .stay4 .ensures)

@@ -4,7 +4,7 @@ use denote.Ref.{now}
 use borrow.Author.Needs.{needs}
 use Rattle.measure.specs.Counts.{downOf}
 use Rattle.rules.specs.Rows as rule
-use Rattle.composition.specs.PageRows.Desk.{desk}
+use Rattle.composition.specs.PageRows.PageState.{pageState}
 use Rattle.composition.proofs.page_rows.Work.{moves}
 use Rattle.composition.proofs.page_rows.blank.Statement.{statement}
 use Rattle.composition.proofs.page_rows.blank.Tie as tie
@@ -21,7 +21,7 @@ lead-to-requires c κs = search needs
 returns : tie.Need-returns
 returns c =
     let y = c .before .before .before .before .before .before .before .before in let a = y .args in let b = y .pre .0 in
-    let d = desk (a .layout) (a .page) (a .collected) (now (a .cells)) (a .stack) (now (a .arena)) (now (a .ends)) in
+    let d = pageState (a .layout) (a .page) (a .collected) (now (a .cells)) (a .stack) (now (a .arena)) (now (a .ends)) in
     let w = c .before .before .before .before .blank-rows .ensures in
     rw (c .lead-to .ensures)
     (moves (now (a .firsts)) (now (a .seconds)) (a .texts) (a .planted) d _ _ (rule.down (downOf (a .rows))) (a .collected) (a .held) (now (a .bytes)) _ _ _ _ _ _ (c .before .down .ensures) (w .0) (w .1) (b .long)

@@ -5,11 +5,11 @@ use Prim.Native.Nat.{ℕ}
 use denote.Ref.{now}
 use borrow.Author.Needs.{needs}
 use Rattle.measure.specs.Counts.{acrossOf}
-use Rattle.rules.specs.State.{again, text}
+use Rattle.rules.specs.State.{again, plainText}
 use Rattle.rules.specs.Rows.{break}
 use Rattle.traps.specs.Table.Table.{plantedOf}
-use Rattle.fill.specs.Collected.Filled.{lineOf}
-use Rattle.composition.specs.PageRows.Desk.{desk, stateAt}
+use Rattle.fill.specs.Collected.Filled.{collectedLine}
+use Rattle.composition.specs.PageRows.PageState.{pageState, stateAt}
 use Rattle.composition.proofs.filling.Works.{worked-as}
 use Rattle.composition.proofs.filling.Fills.{part-short}
 use Rattle.composition.proofs.text_lines.break_first.Statement.{statement}
@@ -26,8 +26,8 @@ break-line-requires c κs =
 returns : tie.Need-returns
 returns c =
     let y = c .before .before .before .before .before .before in let a = y .args in
-    worked-as _ (now (a .firsts)) (now (a .seconds)) (a .texts) (a .planted) (desk (a .layout) (a .page) (a .collected) (now (a .cells)) (a .stack) (now (a .arena)) (now (a .ends))) _ (a .layout) (a .collected) (now (a .cells)) _ _ _ _ (c .break-line .ensures)
-    (λ ts x. sym (ap (λ (v : List ℕ). break (lineOf (acrossOf (a .collected .indent)) (acrossOf (a .collected .room)) (now (a .cells)) (a .collected .length) (a .collected .next)) (again (text v) ∷ []) (stateAt ts (plantedOf (a .planted)) (desk (a .layout) (a .page) (a .collected) (now (a .cells)) (a .stack) (now (a .arena)) (now (a .ends))) x)) (c .before .before .before .before .slice .ensures)))
+    worked-as _ (now (a .firsts)) (now (a .seconds)) (a .texts) (a .planted) (pageState (a .layout) (a .page) (a .collected) (now (a .cells)) (a .stack) (now (a .arena)) (now (a .ends))) _ (a .layout) (a .collected) (now (a .cells)) _ _ _ _ (c .break-line .ensures)
+    (λ ts x. sym (ap (λ (v : List ℕ). break (collectedLine (acrossOf (a .collected .indent)) (acrossOf (a .collected .room)) (now (a .cells)) (a .collected .length) (a .collected .next)) (again (plainText v) ∷ []) (stateAt ts (plantedOf (a .planted)) (pageState (a .layout) (a .page) (a .collected) (now (a .cells)) (a .stack) (now (a .arena)) (now (a .ends))) x)) (c .before .before .before .before .slice .ensures)))
 
 pub break-first-spec : {M : Type 1} → statement M
 break-first-spec = tie.close (tie.spec slice-requires break-line-requires returns)

@@ -6,12 +6,12 @@ use borrow.Author.Needs.{needs}
 use Rattle.rules.specs.Settings as rule
 use Rattle.rules.specs.Filling.{words, standingRow}
 use Rattle.traps.specs.Table.Table.{plantedOf}
-use Rattle.fill.specs.Words.Parts.{part}
+use Rattle.fill.specs.Words.Parts.{bytesBetween}
 use Rattle.fill.proofs.unfilled.Layouts.{standing-is}
 use Rattle.settings.specs.Layout.Layouts.{layoutOf}
 use Rattle.settings.specs.Layout.LayoutLaws.{indent-most}
 use Rattle.page.specs.declared.springs.Held.the-variants as held
-use Rattle.composition.specs.PageRows.Desk.{desk}
+use Rattle.composition.specs.PageRows.PageState.{pageState}
 use Rattle.composition.proofs.filling.Works.{written-front, moves-on}
 use Rattle.composition.proofs.filling.Fills.{part-short, line-stands}
 use Rattle.composition.proofs.text_lines.stand.Statement.{statement}
@@ -52,8 +52,8 @@ lead-to-requires c κs = search needs
 returns : tie.Need-returns
 returns c =
     let y = c .before .before .before .before .before .before .before .before .before .before .before .before .before .before .before in let a = y .args in let b = y .pre .0 in
-    let d = desk (a .layout) (a .page) (a .collected) (now (a .cells)) (a .stack) (now (a .arena)) (now (a .ends)) in
-    let ws = words (part (now (a .line)) 0 (a .to)) in
+    let d = pageState (a .layout) (a .page) (a .collected) (now (a .cells)) (a .stack) (now (a .arena)) (now (a .ends)) in
+    let ws = words (bytesBetween (now (a .line)) 0 (a .to)) in
     let i = c .before .before .before .before .before .before .before .before .before .before .before .indent-now in let r = c .before .before .before .before .before .before .before .before .before .before .room-now in let w = c .before .before .before .before .before .before .before .before .standing-row in let u = c .before .before .before .before .before .before .before .counted in let l = c .before .before .before .before .slice in let m = c .before .down in
     let t = written-front _ _ _ _ (w .ensures .0) (omega (arith, w .ensures .1, b .long)) in
     rw (c .lead-to .ensures)
@@ -61,7 +61,7 @@ returns c =
     (standingRow (layoutOf (a .layout)) ws) _ (w .result)
     (rw (i .ensures, r .ensures .is) at t ∙ standing-is (layoutOf (a .layout)) ws)
     (w .ensures .1) (w .ensures .0 .long ∙ b .long)
-    (λ ts x. line-stands ts (plantedOf (a .planted)) (a .layout) (a .page) (a .collected) (now (a .cells)) (a .stack) (now (a .arena)) (now (a .ends)) 0 x (u .result) ws (part (now (a .line)) 0 (a .to)) (standingRow (layoutOf (a .layout)) ws) (now (l .result)) (u .ensures .is) refl)
+    (λ ts x. line-stands ts (plantedOf (a .planted)) (a .layout) (a .page) (a .collected) (now (a .cells)) (a .stack) (now (a .arena)) (now (a .ends)) 0 x (u .result) ws (bytesBetween (now (a .line)) 0 (a .to)) (standingRow (layoutOf (a .layout)) ws) (now (l .result)) (u .ensures .is) refl)
     (u .ensures .limits) (b .sound .numbered) (b .sound .few) (b .sound .line) (b .sound .indent) (b .sound .next))
 
 pub stand-spec : {M : Type 1} → statement M

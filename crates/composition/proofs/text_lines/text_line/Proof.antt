@@ -4,8 +4,8 @@ use native.Mathlib.Omega.{arith}
 use denote.Ref.{now}
 use borrow.Author.Needs.{needs}
 use Rattle.traps.specs.Table.Table.{plantedOf}
-use Rattle.fill.specs.Words.Parts.{part}
-use Rattle.composition.specs.PageRows.Desk.{desk}
+use Rattle.fill.specs.Words.Parts.{bytesBetween}
+use Rattle.composition.specs.PageRows.PageState.{pageState}
 use Rattle.composition.proofs.filling.Works.{worked-as}
 use Rattle.composition.proofs.filling.Fills.{part-short, text-starts, text-blank, text-words}
 use Rattle.composition.proofs.text_lines.text_line.Statement.{statement}
@@ -22,8 +22,8 @@ start-requires c κs =
 returns : tie.Need-returns
 returns c =
     let y = c .before .before .before .before .before .before .before .before .before in let a = y .args in
-    worked-as _ (now (a .firsts)) (now (a .seconds)) (a .texts) (a .planted) (desk (a .layout) (a .page) (a .collected) (now (a .cells)) (a .stack) (now (a .arena)) (now (a .ends))) _ (a .layout) (a .collected) (now (a .cells)) _ _ _ _ (c .start .ensures)
-    (λ ts x. text-starts ts (plantedOf (a .planted)) (a .layout) (a .page) (a .collected) (now (a .cells)) (a .stack) (now (a .arena)) (now (a .ends)) 0 x (part (now (a .line)) 0 (a .to)) _ (c .before .before .before .before .before .slice .ensures) (omega (arith, c .before .before .before .before .before .before .before .if1 .taken)))
+    worked-as _ (now (a .firsts)) (now (a .seconds)) (a .texts) (a .planted) (pageState (a .layout) (a .page) (a .collected) (now (a .cells)) (a .stack) (now (a .arena)) (now (a .ends))) _ (a .layout) (a .collected) (now (a .cells)) _ _ _ _ (c .start .ensures)
+    (λ ts x. text-starts ts (plantedOf (a .planted)) (a .layout) (a .page) (a .collected) (now (a .cells)) (a .stack) (now (a .arena)) (now (a .ends)) 0 x (bytesBetween (now (a .line)) 0 (a .to)) _ (c .before .before .before .before .before .slice .ensures) (omega (arith, c .before .before .before .before .before .before .before .if1 .taken)))
 
 is-blank-requires : tie.Need-is-blank-requires
 is-blank-requires c κs = search needs
@@ -36,8 +36,8 @@ blank-line-requires c κs =
 returns-2 : tie.Need-returns-2
 returns-2 c =
     let y = c .before .before .before .before .before .before .before .before .before in let a = y .args in
-    worked-as _ (now (a .firsts)) (now (a .seconds)) (a .texts) (a .planted) (desk (a .layout) (a .page) (a .collected) (now (a .cells)) (a .stack) (now (a .arena)) (now (a .ends))) _ (a .layout) (a .collected) (now (a .cells)) _ _ _ _ (c .blank-line .ensures)
-    (λ ts x. text-blank ts (plantedOf (a .planted)) (a .layout) (a .page) (a .collected) (now (a .cells)) (a .stack) (now (a .arena)) (now (a .ends)) 0 x (part (now (a .line)) 0 (a .to)) (omega (arith, c .before .before .before .before .before .before .before .if1 .left)) (sym (c .before .before .before .before .before .before .is-blank .ensures) ∙ c .before .before .before .before .before .if2 .taken))
+    worked-as _ (now (a .firsts)) (now (a .seconds)) (a .texts) (a .planted) (pageState (a .layout) (a .page) (a .collected) (now (a .cells)) (a .stack) (now (a .arena)) (now (a .ends))) _ (a .layout) (a .collected) (now (a .cells)) _ _ _ _ (c .blank-line .ensures)
+    (λ ts x. text-blank ts (plantedOf (a .planted)) (a .layout) (a .page) (a .collected) (now (a .cells)) (a .stack) (now (a .arena)) (now (a .ends)) 0 x (bytesBetween (now (a .line)) 0 (a .to)) (omega (arith, c .before .before .before .before .before .before .before .if1 .left)) (sym (c .before .before .before .before .before .before .is-blank .ensures) ∙ c .before .before .before .before .before .if2 .taken))
 
 word-line-requires : tie.Need-word-line-requires
 word-line-requires c κs = search needs
@@ -45,8 +45,8 @@ word-line-requires c κs = search needs
 returns-3 : tie.Need-returns-3
 returns-3 c =
     let y = c .before .before .before .before .before .before .before .before .before in let a = y .args in
-    worked-as _ (now (a .firsts)) (now (a .seconds)) (a .texts) (a .planted) (desk (a .layout) (a .page) (a .collected) (now (a .cells)) (a .stack) (now (a .arena)) (now (a .ends))) _ (a .layout) (a .collected) (now (a .cells)) _ _ _ _ (c .word-line .ensures)
-    (λ ts x. text-words ts (plantedOf (a .planted)) (a .layout) (a .page) (a .collected) (now (a .cells)) (a .stack) (now (a .arena)) (now (a .ends)) 0 x (part (now (a .line)) 0 (a .to)) (omega (arith, c .before .before .before .before .before .before .before .if1 .left)) (sym (c .before .before .before .before .before .before .is-blank .ensures) ∙ c .before .before .before .before .before .if2 .left))
+    worked-as _ (now (a .firsts)) (now (a .seconds)) (a .texts) (a .planted) (pageState (a .layout) (a .page) (a .collected) (now (a .cells)) (a .stack) (now (a .arena)) (now (a .ends))) _ (a .layout) (a .collected) (now (a .cells)) _ _ _ _ (c .word-line .ensures)
+    (λ ts x. text-words ts (plantedOf (a .planted)) (a .layout) (a .page) (a .collected) (now (a .cells)) (a .stack) (now (a .arena)) (now (a .ends)) 0 x (bytesBetween (now (a .line)) 0 (a .to)) (omega (arith, c .before .before .before .before .before .before .before .if1 .left)) (sym (c .before .before .before .before .before .before .is-blank .ensures) ∙ c .before .before .before .before .before .if2 .left))
 
 pub text-line-spec : {M : Type 1} → statement M
 text-line-spec =

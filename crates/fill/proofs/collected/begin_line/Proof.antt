@@ -5,7 +5,7 @@ use native.Mathlib.Omega.{arith}
 use denote.Ref.{now}
 use lib.Seq.{length-sets}
 use Rattle.rules.specs.Laws.Filling.{printed-length}
-use Rattle.fill.specs.Words.Parts.{part}
+use Rattle.fill.specs.Words.Parts.{bytesBetween}
 use Rattle.fill.proofs.collected.Writing.{part-width, begin-cells, begin-length}
 use Rattle.fill.proofs.collected.begin_line.Statement.{statement}
 use Rattle.fill.proofs.collected.begin_line.Tie as tie
@@ -36,7 +36,7 @@ returns c =
       record {
         long = w .long ∙ rw e (simp length-sets (p .pre .2));
         ordered = omega arith;
-        few = omega (arith, w .end, n .ensures, p .pre .0, p .pre .1, printed-length (part (now (a .line)) (a .from) (a .to)), part-width (now (a .line)) (a .from) (a .to) (omega (arith, p .pre .0)));
+        few = omega (arith, w .end, n .ensures, p .pre .0, p .pre .1, printed-length (bytesBetween (now (a .line)) (a .from) (a .to)), part-width (now (a .line)) (a .from) (a .to) (omega (arith, p .pre .0)));
       },
     )
 

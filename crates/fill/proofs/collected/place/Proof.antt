@@ -6,7 +6,7 @@ use denote.Ref.{now}
 use Prim.Native.Nat.{_-_, _<_}
 use Rattle.rules.specs.Filling.{width}
 use Rattle.rules.specs.Laws.Filling.{gapCells-length}
-use Rattle.fill.specs.Words.Parts.{part}
+use Rattle.fill.specs.Words.Parts.{bytesBetween}
 use Rattle.fill.proofs.collected.Writing.{part-width}
 use Rattle.fill.proofs.collected.Placing.{Placing, placing-start, placed-all, placed-full, placing-next, word-width, word-some}
 use Rattle.fill.proofs.collected.place.Statement.{statement}
@@ -46,7 +46,7 @@ count-requires-3 c κs = search needs
 -- the word that is read, and that it is one
 wide : (c : tie.After-count3 Inv-loop μ-loop)
     → let a = c .before .before .before .before .before .before .before .before .args in
-    c .count3 .result ≡ width (part (now (a .line)) (c .before .before .before .before .loop .from) (c .before .before .word-end .result .to))
+    c .count3 .result ≡ width (bytesBetween (now (a .line)) (c .before .before .before .before .loop .from) (c .before .before .word-end .result .to))
 wide c =
     let o = c .before .before .before .before in
     let s = o .before .before .before .before in

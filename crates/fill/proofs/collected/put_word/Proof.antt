@@ -8,15 +8,15 @@ use lib.ListN.{length, length-set}
 use lib.Seq.{sets}
 use Rattle.rules.specs.Filling.{printed}
 use Rattle.rules.specs.Laws.Filling.{printed-length}
-use Rattle.fill.specs.Words.Parts.{part}
+use Rattle.fill.specs.Words.Parts.{bytesBetween}
 use Rattle.fill.proofs.collected.Writing.{write-mark, write-byte, count-mark, count-byte, printed-end}
 use Rattle.fill.proofs.collected.put_word.Statement.{statement}
 use Rattle.fill.proofs.collected.put_word.Tie as tie
 
 abbrev Inv-loop : tie.InvT-loop
 Inv-loop line from to buffer₀ at i₀ n₀ buffer i n =
-    (from ≤ i) × (i ≤ to) × (length buffer ≡ length buffer₀) × (sets buffer₀ at (printed (part line from to)) ≡ sets buffer n (printed (part line i to)))
-    × (at + length (printed (part line from to)) ≡ n + length (printed (part line i to)))
+    (from ≤ i) × (i ≤ to) × (length buffer ≡ length buffer₀) × (sets buffer₀ at (printed (bytesBetween line from to)) ≡ sets buffer n (printed (bytesBetween line i to)))
+    × (at + length (printed (bytesBetween line from to)) ≡ n + length (printed (bytesBetween line i to)))
 
 abbrev μ-loop : tie.MeasureT-loop
 μ-loop line from to buffer₀ at i₀ n₀ buffer i n = to - i
@@ -26,7 +26,7 @@ room : (c : tie.After-shown Inv-loop μ-loop) → c .before .before .before .bef
 room c =
     let l = c .before .before .before .before .loop in
     let a = c .before .before .before .before .before .before .args in
-    omega (arith, l .inv .4, l .inv .2, c .before .before .before .before .before .before .pre .1, printed-length (part (now (a .line)) (a .from) (a .to)), count-byte (now (a .line)) (l .buffer) (l .n) (l .i) (a .to) (omega arith) (c .before .before .before .loop-test .taken) (c .before .if1 .left))
+    omega (arith, l .inv .4, l .inv .2, c .before .before .before .before .before .before .pre .1, printed-length (bytesBetween (now (a .line)) (a .from) (a .to)), count-byte (now (a .line)) (l .buffer) (l .n) (l .i) (a .to) (omega arith) (c .before .before .before .loop-test .taken) (c .before .if1 .left))
 
 loop-holds : tie.Need-loop-holds Inv-loop μ-loop
 loop-holds c = (search needs, search needs, refl, refl, refl)

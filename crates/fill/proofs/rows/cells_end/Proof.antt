@@ -9,14 +9,14 @@ use lib.ListN.{replicate}
 use borrow.Author.Tests.{not-true, not-false}
 use Rattle.rules.specs.Bytes.{space}
 use Rattle.rules.specs.Filling.{spread, trimmed}
-use Rattle.fill.specs.Words.Parts.{part}
+use Rattle.fill.specs.Words.Parts.{bytesBetween}
 use Rattle.fill.proofs.unfilled.Spreading.{end-more}
 use Rattle.fill.proofs.rows.cells_end.Statement.{statement}
 use Rattle.fill.proofs.rows.cells_end.Tie as tie
 
 abbrev Inv-loop : tie.InvT-loop
 Inv-loop cells length i₀ i =
-    (i ≤ length) × ((n each few : ℕ) → trimmed (replicate n space ++ spread each few (part cells 0 length)) ≡ trimmed (replicate n space ++ spread each few (part cells 0 i)))
+    (i ≤ length) × ((n each few : ℕ) → trimmed (replicate n space ++ spread each few (bytesBetween cells 0 length)) ≡ trimmed (replicate n space ++ spread each few (bytesBetween cells 0 i)))
 
 abbrev μ-loop : tie.MeasureT-loop
 μ-loop cells length i₀ i = i

@@ -5,13 +5,13 @@ use native.Mathlib.Omega.{arith}
 use denote.Ref.{now}
 use Prim.Native.Nat.{_+_, _-_, _≤_}
 use Rattle.rules.specs.Filling.{gaps}
-use Rattle.fill.specs.Words.Parts.{part}
+use Rattle.fill.specs.Words.Parts.{bytesBetween}
 use Rattle.fill.proofs.unfilled.Spreading.{gaps-more, gaps-other, gaps-end}
 use Rattle.fill.proofs.rows.count_gaps.Statement.{statement}
 use Rattle.fill.proofs.rows.count_gaps.Tie as tie
 
 abbrev Inv-loop : tie.InvT-loop
-Inv-loop cells length i₀ n₀ i n = (i ≤ length) × (n ≤ i) × (gaps (part cells 0 length) ≡ n + gaps (part cells i length))
+Inv-loop cells length i₀ n₀ i n = (i ≤ length) × (n ≤ i) × (gaps (bytesBetween cells 0 length) ≡ n + gaps (bytesBetween cells i length))
 
 abbrev μ-loop : tie.MeasureT-loop
 μ-loop cells length i₀ n₀ i n = length - i

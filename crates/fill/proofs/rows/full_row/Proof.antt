@@ -7,7 +7,7 @@ use Prim.Native.Nat.{ℕ, _+_, _≤_}
 use lib.ListN.{length}
 use Rattle.rules.specs.Filling.{row, adjusted}
 use Rattle.measure.specs.Counts.{acrossOf}
-use Rattle.fill.specs.Collected.Filled.{lineOf}
+use Rattle.fill.specs.Collected.Filled.{collectedLine}
 use Rattle.fill.proofs.unfilled.Rows.{adjusted-short, adjusted-same, written-as}
 use Rattle.fill.proofs.rows.full_row.Statement.{statement}
 use Rattle.fill.proofs.rows.full_row.Tie as tie
@@ -38,7 +38,7 @@ put-row-requires c κs =
 returns : tie.Need-returns
 returns c =
     let a = c .before .before .before .before .before .before .args in
-    let s = c .before .before .share-of .ensures ∙ ap (λ (r : ℕ). adjusted (a .adjusting) (lineOf 0 r (now (a .cells)) (a .length) 1)) (c .before .before .before .count3 .ensures) ∙ adjusted-same (a .adjusting) 0 (acrossOf (a .indent)) (acrossOf (a .room)) (now (a .cells)) (a .length) 1 1 in
+    let s = c .before .before .share-of .ensures ∙ ap (λ (r : ℕ). adjusted (a .adjusting) (collectedLine 0 r (now (a .cells)) (a .length) 1)) (c .before .before .before .count3 .ensures) ∙ adjusted-same (a .adjusting) 0 (acrossOf (a .indent)) (acrossOf (a .room)) (now (a .cells)) (a .length) 1 1 in
     (written-as (λ i. row (c .before .before .before .before .before .count .ensures i + c .before .before .before .before .count2 .ensures i) (s i)) (c .put-row .ensures .0), c .put-row .ensures .1)
 
 pub full-row-spec : {M : Type 1} → statement M

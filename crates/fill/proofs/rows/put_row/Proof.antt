@@ -7,14 +7,14 @@ use lib.ListN.{length, replicate}
 use Prim.Native.Nat.{_≤_, _<_}
 use lib.Seq.{length-sets}
 use Rattle.rules.specs.Filling.{spread}
-use Rattle.fill.specs.Words.Parts.{part}
+use Rattle.fill.specs.Words.Parts.{bytesBetween}
 use Rattle.fill.proofs.unfilled.Rows.{row-done, row-alone, cells-none, cells-row, cells-short}
 use Rattle.fill.proofs.rows.put_row.Statement.{statement}
 use Rattle.fill.proofs.rows.put_row.Tie as tie
 
 -- the cells up to the last that is no blank are no longer
 short : (c : tie.Else1) → let a = c .before .before .args in
-    length (spread (a .each) (a .few) (part (now (a .cells)) 0 (c .before .cells-end .result))) ≤ length (spread (a .each) (a .few) (part (now (a .cells)) 0 (a .length)))
+    length (spread (a .each) (a .few) (bytesBetween (now (a .cells)) 0 (c .before .cells-end .result))) ≤ length (spread (a .each) (a .few) (bytesBetween (now (a .cells)) 0 (a .length)))
 short c = let a = c .before .before .args in cells-short (now (a .cells)) (a .length) (c .before .cells-end .result) (omega arith) (c .before .cells-end .ensures) (a .blanks) (a .each) (a .few) (omega arith)
 
 -- the newline has a place

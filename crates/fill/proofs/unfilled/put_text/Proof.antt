@@ -7,13 +7,13 @@ use Prim.Native.Nat.{_≤_, _<_}
 use lib.Seq.{length-sets}
 use Rattle.rules.specs.Filling.{printed, width}
 use Rattle.rules.specs.Laws.Filling.{printed-length}
-use Rattle.fill.specs.Words.Parts.{part}
+use Rattle.fill.specs.Words.Parts.{bytesBetween}
 use Rattle.fill.proofs.unfilled.Rows.{row-done, row-alone, text-none, text-row, text-short}
 use Rattle.fill.proofs.unfilled.put_text.Statement.{statement}
 use Rattle.fill.proofs.unfilled.put_text.Tie as tie
 
 -- what is printed up to the last byte of which more than a blank is printed is no longer
-short : (c : tie.Else1) → let a = c .before .before .args in width (part (now (a .line)) (a .at) (c .before .text-end .result)) ≤ length (printed (part (now (a .line)) (a .at) (a .to)))
+short : (c : tie.Else1) → let a = c .before .before .args in width (bytesBetween (now (a .line)) (a .at) (c .before .text-end .result)) ≤ length (printed (bytesBetween (now (a .line)) (a .at) (a .to)))
 short c =
     let a = c .before .before .args in
     text-short (now (a .line)) (a .at) (a .to) (c .before .text-end .result) (omega arith) (c .before .text-end .ensures) (a .blanks) (omega (arith, c .if1 .left, c .before .text-end .ensures .low))
@@ -22,7 +22,7 @@ short c =
 below : (c : tie.After-put-word) → c .put-word .result < 872
 below c =
     let a = c .before .before .before .before .before .before .args in
-    omega (arith, c .put-word .ensures .end, printed-length (part (now (a .line)) (a .at) (c .before .before .before .before .before .text-end .result)), short (c .before .before .before .before), c .before .before .before .before .before .before .pre .1 .fits)
+    omega (arith, c .put-word .ensures .end, printed-length (bytesBetween (now (a .line)) (a .at) (c .before .before .before .before .before .text-end .result)), short (c .before .before .before .before), c .before .before .before .before .before .before .pre .1 .fits)
 
 text-end-requires : tie.Need-text-end-requires
 text-end-requires c κs = search needs

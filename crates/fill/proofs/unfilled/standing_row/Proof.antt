@@ -7,7 +7,7 @@ use Prim.Native.Nat.{_+_, _-_, _≤_}
 use Rattle.rules.specs.Filling.{words, row, left, width, span}
 use Rattle.measure.specs.Counts.{acrossOf}
 use Rattle.rules.specs.Laws.Filling.{printed-length}
-use Rattle.fill.specs.Words.Parts.{part}
+use Rattle.fill.specs.Words.Parts.{bytesBetween}
 use Rattle.fill.specs.Unfilled.Lines.{oneIf}
 use Rattle.fill.proofs.collected.Writing.{part-width}
 use Rattle.fill.proofs.unfilled.Rows.{left-few, standing-bytes, standing-width, written-as}
@@ -15,10 +15,10 @@ use Rattle.fill.proofs.unfilled.standing_row.Statement.{statement}
 use Rattle.fill.proofs.unfilled.standing_row.Tie as tie
 
 -- the left blanks and the line have a place
-wide : (c : tie.After-left-blanks) → c .left-blanks .result + width (part (now (c .before .before .before .args .line)) (c .before .before .before .args .at) (c .before .before .trim-end .result)) ≤ 512
+wide : (c : tie.After-left-blanks) → c .left-blanks .result + width (bytesBetween (now (c .before .before .before .args .line)) (c .before .before .before .args .at) (c .before .before .trim-end .result)) ≤ 512
 wide c =
     let a = c .before .before .before .args in
-    let w = width (part (now (a .line)) (a .at) (c .before .before .trim-end .result)) in
+    let w = width (bytesBetween (now (a .line)) (a .at) (c .before .before .trim-end .result)) in
     omega (
       arith,
       c .left-blanks .ensures,
@@ -57,14 +57,14 @@ put-text-requires c κs =
     let a = c .before .before .before .before .before .before .args in
     let t = c .before .before .before .before .before .trim-end in (
       record { long = c .before .before .before .before .before .before .pre .0 .long; ordered = t .ensures .1 .0; few = omega (arith, c .before .before .before .before .before .before .pre .0, t .ensures .1) },
-      record { long = c .before .before .before .before .before .before .pre .2 .long; fits = omega (arith, wide (c .before .before .before), c .before .count3 .ensures, c .before .before .count2 .ensures, c .before .before .before .before .before .before .pre .2 .narrow, printed-length (part (now (a .line)) (a .at) (t .result))) },
+      record { long = c .before .before .before .before .before .before .pre .2 .long; fits = omega (arith, wide (c .before .before .before), c .before .count3 .ensures, c .before .before .count2 .ensures, c .before .before .before .before .before .before .pre .2 .narrow, printed-length (bytesBetween (now (a .line)) (a .at) (t .result))) },
     )
 
 returns : tie.Need-returns
 returns c =
     let a = c .before .before .before .before .before .before .before .args in
     let t = c .before .before .before .before .before .before .trim-end in
-    let l : c .before .before .before .before .left-blanks .result ≡ left (oneIf (a .centred)) (acrossOf (a .room) - span (words (part (now (a .line)) (a .at) (a .to)))) =
+    let l : c .before .before .before .before .left-blanks .result ≡ left (oneIf (a .centred)) (acrossOf (a .room) - span (words (bytesBetween (now (a .line)) (a .at) (a .to)))) =
     c .before .before .before .before .left-blanks .ensures ∙ (λ i. left (oneIf (a .centred)) (c .before .before .before .before .before .count .ensures i - standing-width (now (a .line)) (a .at) (a .to) (t .result) (t .ensures .0) i)) in
     (written-as (λ i. row (c .before .before .before .count2 .ensures i + c .before .before .count3 .ensures i + l i) (standing-bytes (now (a .line)) (a .at) (a .to) (t .result) (t .ensures .0) i)) (c .put-text .ensures .0), c .put-text .ensures .1)
 

@@ -9,14 +9,14 @@ use lib.ListN.{replicate}
 use borrow.Author.Tests.{not-true, not-false}
 use Rattle.rules.specs.Bytes.{space}
 use Rattle.rules.specs.Filling.{printed, trimmed}
-use Rattle.fill.specs.Words.Parts.{part}
+use Rattle.fill.specs.Words.Parts.{bytesBetween}
 use Rattle.fill.proofs.unfilled.Rows.{text-more}
 use Rattle.fill.proofs.unfilled.text_end.Statement.{statement}
 use Rattle.fill.proofs.unfilled.text_end.Tie as tie
 
 abbrev Inv-loop : tie.InvT-loop
 Inv-loop line at to i₀ i =
-    (at ≤ i) × (i ≤ to) × ((n : ℕ) → trimmed (replicate n space ++ printed (part line at to)) ≡ trimmed (replicate n space ++ printed (part line at i)))
+    (at ≤ i) × (i ≤ to) × ((n : ℕ) → trimmed (replicate n space ++ printed (bytesBetween line at to)) ≡ trimmed (replicate n space ++ printed (bytesBetween line at i)))
 
 abbrev μ-loop : tie.MeasureT-loop
 μ-loop line at to i₀ i = i - at

@@ -4,14 +4,14 @@ use mathlib.Core.Path.{_≡_, refl, sym, _∙_}
 use native.Mathlib.Omega.{arith}
 use denote.Ref.{now}
 use Prim.Native.Nat.{_+_, _-_, _≤_}
-use Rattle.fill.specs.Words.Parts.{part}
+use Rattle.fill.specs.Words.Parts.{bytesBetween}
 use Rattle.fill.specs.Words.Words.{spaces}
 use Rattle.fill.proofs.words.Words.{spaces-more, spaces-stop, spaces-end}
 use Rattle.fill.proofs.words.skip_spaces.Statement.{statement}
 use Rattle.fill.proofs.words.skip_spaces.Tie as tie
 
 abbrev Inv-loop : tie.InvT-loop
-Inv-loop line at to i₀ i = (at ≤ i) × (i ≤ to) × (at + spaces (part line at to) ≡ i + spaces (part line i to))
+Inv-loop line at to i₀ i = (at ≤ i) × (i ≤ to) × (at + spaces (bytesBetween line at to) ≡ i + spaces (bytesBetween line i to))
 
 abbrev μ-loop : tie.MeasureT-loop
 μ-loop line at to i₀ i = to - i

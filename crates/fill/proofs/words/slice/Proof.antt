@@ -1,7 +1,7 @@
 -- `fill::words::slice` meets its contract. Assumes nothing.
 use mathlib.Core.Path.{refl}
 use borrow.Author.Needs.{needs}
-use Rattle.fill.specs.Words.Parts.{part}
+use Rattle.fill.specs.Words.Parts.{bytesBetween}
 use Rattle.fill.proofs.words.slice.Statement.{statement}
 use Rattle.fill.proofs.words.slice.Tie as tie
 
@@ -15,7 +15,7 @@ part-result-end : tie.Need-part-result-end
 part-result-end c = search needs
 
 returns : tie.Need-returns
-unfolding part
+unfolding bytesBetween
 returns c = refl
 
 pub slice-spec : {M : Type 1} → statement M

@@ -5,13 +5,13 @@ use native.Mathlib.Omega.{arith}
 use denote.Ref.{now}
 use Prim.Native.Nat.{_-_, _≤_}
 use Rattle.rules.specs.Filling.{trimmed}
-use Rattle.fill.specs.Words.Parts.{part}
+use Rattle.fill.specs.Words.Parts.{bytesBetween}
 use Rattle.fill.proofs.words.Ends.{trim-more, trim-stop, trim-none}
 use Rattle.fill.proofs.words.trim_end.Statement.{statement}
 use Rattle.fill.proofs.words.trim_end.Tie as tie
 
 abbrev Inv-loop : tie.InvT-loop
-Inv-loop line at to i₀ i = (at ≤ i) × (i ≤ to) × (trimmed (part line at to) ≡ trimmed (part line at i))
+Inv-loop line at to i₀ i = (at ≤ i) × (i ≤ to) × (trimmed (bytesBetween line at to) ≡ trimmed (bytesBetween line at i))
 
 abbrev μ-loop : tie.MeasureT-loop
 μ-loop line at to i₀ i = i - at

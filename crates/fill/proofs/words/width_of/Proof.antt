@@ -6,13 +6,13 @@ use denote.Ref.{now}
 use Prim.Native.Nat.{_+_, _-_, _≤_}
 use Rattle.measure.specs.Counts.{cellsAcross}
 use Rattle.rules.specs.Filling.{width}
-use Rattle.fill.specs.Words.Parts.{part}
+use Rattle.fill.specs.Words.Parts.{bytesBetween}
 use Rattle.fill.proofs.words.Words.{width-next, width-done}
 use Rattle.fill.proofs.words.width_of.Statement.{statement}
 use Rattle.fill.proofs.words.width_of.Tie as tie
 
 abbrev Inv-loop : tie.InvT-loop
-Inv-loop line at to i₀ n₀ i n = (at ≤ i) × (i ≤ to) × (n ≤ i) × (width (part line at to) ≡ n + width (part line i to))
+Inv-loop line at to i₀ n₀ i n = (at ≤ i) × (i ≤ to) × (n ≤ i) × (width (bytesBetween line at to) ≡ n + width (bytesBetween line i to))
 
 abbrev μ-loop : tie.MeasureT-loop
 μ-loop line at to i₀ n₀ i n = to - i

@@ -6,15 +6,15 @@ use denote.Ref.{now}
 use Prim.Native.Nat.{_+_, _-_, _≤_}
 use lib.ListN.{length}
 use Rattle.measure.specs.Counts.{cellsAcross}
-use Rattle.fill.specs.Words.Parts.{part}
-use Rattle.fill.specs.Words.Words.{run}
+use Rattle.fill.specs.Words.Parts.{bytesBetween}
+use Rattle.fill.specs.Words.Words.{runLength}
 use Rattle.fill.proofs.words.Words.{runWidth, run-more, run-stop, run-end, width-more, width-stop, width-end}
 use Rattle.fill.proofs.words.word_end.Statement.{statement}
 use Rattle.fill.proofs.words.word_end.Tie as tie
 
 abbrev Inv-loop : tie.InvT-loop
 Inv-loop line at to i₀ width₀ i width =
-    (at ≤ i) × (i ≤ to) × (at + run (part line at to) ≡ i + run (part line i to)) × (runWidth (part line at to) ≡ width + runWidth (part line i to)) × (width ≤ i)
+    (at ≤ i) × (i ≤ to) × (at + runLength (bytesBetween line at to) ≡ i + runLength (bytesBetween line i to)) × (runWidth (bytesBetween line at to) ≡ width + runWidth (bytesBetween line i to)) × (width ≤ i)
 
 abbrev μ-loop : tie.MeasureT-loop
 μ-loop line at to i₀ width₀ i width = to - i

@@ -11,16 +11,16 @@ use Rattle.texts.specs.Lines.Lines.{nextLine}
 use Rattle.settings.specs.Layout.Layouts.{printerOf}
 use Rattle.input_stack.specs.Stack.Frames.{topBytes, topEnds}
 use Rattle.state.specs.Statuses.{wholeOf}
-use Rattle.formatter.specs.StoredLines.WorkLaws.{read-did, sound-valued, shows}
+use Rattle.formatter.specs.StoredLines.WorkLaws.{read-refines, sound-valued, shows}
 use borrow.Author.Needs.{needs}
 use Rattle.formatter.proofs.stored_text.deal_stored.Statement.{statement}
 use Rattle.formatter.proofs.stored_text.deal_stored.Tie as tie
 
 load-ends-requires : tie.Need-load-ends-requires
-load-ends-requires c κs = let y = (c .before .before .before .before .before .before .before) in let a = y .args in let b = y .pre .0 in (y .pre .2 .some, y .pre .2 .few, b .sound .sheet .columns .ends-long, search needs)
+load-ends-requires c κs = let y = (c .before .before .before .before .before .before .before) in let a = y .args in let b = y .pre .0 in (y .pre .2 .some, y .pre .2 .few, b .sound .pageState .columns .ends-long, search needs)
 
 top-bytes-requires : tie.Need-top-bytes-requires
-top-bytes-requires c κs = let y = (c .before .before .before .before .before .before .before .before .before .before .before) in let a = y .args in let b = y .pre .0 in (y .pre .2, b .sound .sheet .columns .long)
+top-bytes-requires c κs = let y = (c .before .before .before .before .before .before .before .before .before .before .before) in let a = y .args in let b = y .pre .0 in (y .pre .2, b .sound .pageState .columns .long)
 
 slice-aggregate-read : tie.Need-slice-aggregate-read
 slice-aggregate-read c = search needs
@@ -35,7 +35,7 @@ same-length : tie.Need-same-length
 same-length c = search needs
 
 returns : tie.Need-returns
-returns c = let y = (c .before .before .before .before .before .before .before .before .before .before .before .before .before .before .before .before .before .before .before .before .before .before .before .before .before .before .before .before .before .before .before .before .before .before .before .before .before .before .before .before .before .before) in let a = y .args in let b = y .pre .0 in read-did (printerOf (a .printer)) (wholeOf (a .status) (now (a .cells)) (now (a .arena)) (now (a .ends)) (now (a .store)) (now (a .text-firsts)) (now (a .text-seconds)) (now (a .kinds)) (now (a .lengths)) (now (a .firsts)) (now (a .seconds)) (now (a .values)) (now (a .steps))) (argumentsOf (topBytes (a .status .stack) (now (a .arena)) (now (a .ends))) (topEnds (a .status .stack) (now (a .ends))) (a .count)) _ (nextLine [] (now (a .store)) (a .top)) _ _ _ _ (ap₂ (λ (l e : List ℕ). argumentsOf l e (a .count)) (c .before .before .before .before .before .before .before .before .before .before .before .before .before .before .before .before .before .before .before .before .before .before .before .before .before .before .before .before .before .before .top-bytes .ensures) (c .before .before .before .before .before .before .before .before .before .before .before .before .before .before .before .before .before .before .before .before .before .before .before .before .before .before .before .before .before .before .before .before .before .before .load-ends .ensures)) refl (c .before .before .before .before .before .before .before .before .before .before .before .before .before .before .before .before .before .read .ensures) _ _ _ _ (c .before .before .finish .ensures)
+returns c = let y = (c .before .before .before .before .before .before .before .before .before .before .before .before .before .before .before .before .before .before .before .before .before .before .before .before .before .before .before .before .before .before .before .before .before .before .before .before .before .before .before .before .before .before) in let a = y .args in let b = y .pre .0 in read-refines (printerOf (a .printer)) (wholeOf (a .status) (now (a .cells)) (now (a .arena)) (now (a .ends)) (now (a .store)) (now (a .text-firsts)) (now (a .text-seconds)) (now (a .kinds)) (now (a .lengths)) (now (a .firsts)) (now (a .seconds)) (now (a .values)) (now (a .steps))) (argumentsOf (topBytes (a .status .stack) (now (a .arena)) (now (a .ends))) (topEnds (a .status .stack) (now (a .ends))) (a .count)) _ (nextLine [] (now (a .store)) (a .top)) _ _ _ _ (ap₂ (λ (l e : List ℕ). argumentsOf l e (a .count)) (c .before .before .before .before .before .before .before .before .before .before .before .before .before .before .before .before .before .before .before .before .before .before .before .before .before .before .before .before .before .before .top-bytes .ensures) (c .before .before .before .before .before .before .before .before .before .before .before .before .before .before .before .before .before .before .before .before .before .before .before .before .before .before .before .before .before .before .before .before .before .before .load-ends .ensures)) refl (c .before .before .before .before .before .before .before .before .before .before .before .before .before .before .before .before .before .read .ensures) _ _ _ _ (c .before .before .finish .ensures)
 
 pub deal-stored-spec : {M : Type 1} → statement M
 deal-stored-spec =

@@ -6,13 +6,13 @@ use native.Mathlib.Omega.{arith}
 use denote.Ref.{now}
 use borrow.Author.Needs.{needs}
 use Rattle.input_stack.specs.declared.stack.Entry.{Entry}
-use Rattle.input_stack.specs.Stack.Frames.{isCalled, calledTo}
+use Rattle.input_stack.specs.Stack.Frames.{isCalled, calledBelow}
 use Rattle.input_stack.proofs.stack.Laws.{called-step, called-none}
 use Rattle.input_stack.proofs.stack.is_on_stack.Statement.{statement}
 use Rattle.input_stack.proofs.stack.is_on_stack.Tie as tie
 
 abbrev Inv-loop : tie.InvT-loop
-Inv-loop ends name i₀ i = (i ≤ i₀) × (calledTo name ends i₀ ≡ calledTo name ends i)
+Inv-loop ends name i₀ i = (i ≤ i₀) × (calledBelow name ends i₀ ≡ calledBelow name ends i)
 
 abbrev μ-loop : tie.MeasureT-loop
 μ-loop ends name i₀ i = i
@@ -31,11 +31,11 @@ is-called-requires c κs = search needs
 
 -- where the comparison gave v, the text lies on the stack if it lies below the place that was compared, or if v is true
 step : (c : tie.After-is-called Inv-loop μ-loop) (v : Bool) → c .is-called .result ≡ v → let l = c .before .before .before in let a = l .before .args in
-    calledTo (a .name) (now (a .ends)) (a .stack .depth) ≡ v || calledTo (a .name) (now (a .ends)) (l .loop .i - 1)
+    calledBelow (a .name) (now (a .ends)) (a .stack .depth) ≡ v || calledBelow (a .name) (now (a .ends)) (l .loop .i - 1)
 step c v e =
     let l = c .before .before .before in let a = l .before .args in
     l .loop .inv .1 ∙ called-step (a .name) (now (a .ends)) (l .loop .i) (omega arith)
-    ∙ ap (λ (b : Bool). b || calledTo (a .name) (now (a .ends)) (l .loop .i - 1))
+    ∙ ap (λ (b : Bool). b || calledBelow (a .name) (now (a .ends)) (l .loop .i - 1))
     (ap (λ (x : Entry). isCalled (a .name) (x .what)) (sym (c .before .entry-at .ensures)) ∙ sym (c .is-called .ensures) ∙ e)
 
 returns : tie.Need-returns Inv-loop μ-loop

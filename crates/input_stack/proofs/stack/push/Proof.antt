@@ -5,7 +5,7 @@ use native.Mathlib.Omega.{arith}
 use lib.ListN.{length}
 use denote.Ref.{now}
 use borrow.Author.Needs.{needs}
-use Rattle.input_stack.specs.Frames.Words.{wordsOf}
+use Rattle.input_stack.specs.Frames.Words.{itemWords}
 use Rattle.input_stack.proofs.stack.Laws.{pushed, entered-length}
 use Rattle.input_stack.proofs.stack.push.Statement.{statement}
 use Rattle.input_stack.proofs.stack.push.Tie as tie
@@ -34,7 +34,7 @@ add-put-ends c = search needs
 put-ends-requires : tie.Need-put-ends-requires
 put-ends-requires c κs =
     let y = c .before .before .before .before .before .before in let a = y .args in let e = c .before .put-entry .ensures .0 in
-    (omega (arith, y .pre .1), ap length e ∙ entered-length (now (a .ends)) (a .stack .depth * 13) (wordsOf (a .what)) (length (now (a .bytes))) ∙ y .pre .0 .ends-long, y .pre .3)
+    (omega (arith, y .pre .1), ap length e ∙ entered-length (now (a .ends)) (a .stack .depth * 13) (itemWords (a .what)) (length (now (a .bytes))) ∙ y .pre .0 .ends-long, y .pre .3)
 
 add-t11 : tie.Need-add-t11
 add-t11 c = search needs

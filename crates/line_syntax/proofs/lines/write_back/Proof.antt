@@ -3,14 +3,14 @@ use Prim.Native.Nat.{_-_, _≤_}
 use native.Mathlib.Omega.{arith}
 use lib.ListN.{length, take}
 use Rattle.rules.specs.Escapes.{escaped}
-use Rattle.line_syntax.specs.Lines.Backs.{Put}
+use Rattle.line_syntax.specs.Lines.Backs.{PutBack}
 use Rattle.line_syntax.proofs.lines.BackLaws.{put-none, back-room, back-again, back-whole}
 use borrow.Author.Needs.{needs}
 use Rattle.line_syntax.proofs.lines.write_back.Statement.{statement}
 use Rattle.line_syntax.proofs.lines.write_back.Tie as tie
 
 abbrev Inv-loop : tie.InvT-loop
-Inv-loop bytes out₀ n₀ i₀ out n i = (i ≤ length bytes) × Put (escaped (take i bytes)) out₀ 0 n out
+Inv-loop bytes out₀ n₀ i₀ out n i = (i ≤ length bytes) × PutBack (escaped (take i bytes)) out₀ 0 n out
 
 abbrev μ-loop : tie.MeasureT-loop
 μ-loop bytes out₀ n₀ i₀ out n i = length bytes - i

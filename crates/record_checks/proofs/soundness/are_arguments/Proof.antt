@@ -5,14 +5,14 @@ use mathlib.Core.Path.{_≡_, sym, _∙_}
 use native.Mathlib.Omega.{arith}
 use lib.ListN.{length, take, drop, getD}
 use denote.Ref.{now}
-use Rattle.record_checks.specs.Soundness.Checks.{inOrder, areArguments}
+use Rattle.record_checks.specs.Soundness.Checks.{endsInOrder, areArguments}
 use Rattle.record_checks.proofs.soundness.Walks.{given, given-long, given-at, order-before, order-past, order-on, order-end, arguments-many, arguments-few}
 use Rattle.record_checks.proofs.soundness.are_arguments.Statement.{statement}
 use Rattle.record_checks.proofs.soundness.are_arguments.Tie as tie
 
 abbrev Inv-loop : tie.InvT-loop
 Inv-loop ends frame count size given at from₀ i₀ from i =
-    (i ≤ count) × (areArguments (take 9 (drop (frame * 13 + 4) ends)) count size ≡ inOrder from size (drop i (take count (take 9 (drop (frame * 13 + 4) ends)))))
+    (i ≤ count) × (areArguments (take 9 (drop (frame * 13 + 4) ends)) count size ≡ endsInOrder from size (drop i (take count (take 9 (drop (frame * 13 + 4) ends)))))
 
 abbrev μ-loop : tie.MeasureT-loop
 μ-loop ends frame count size given at from₀ i₀ from i = count - i

@@ -6,13 +6,13 @@ use lib.ListN.{length, take, getD}
 use lib.Seq.{sets, take-all}
 use borrow.Author.Count.{below-more}
 use Rattle.traps.proofs.table.Places.{sized}
-use Rattle.record_words.specs.Decoding.Words.{trapWords, Named, blank}
+use Rattle.record_words.specs.Decoding.Words.{trapWords, TwoByteName, blankTrap}
 use Rattle.record_words.proofs.encoding.Puts.{trap-step}
 use Rattle.record_words.proofs.encoding.put_planted.Statement.{statement}
 use Rattle.record_words.proofs.encoding.put_planted.Tie as tie
 
 abbrev Inv-loop : tie.InvT-loop
-Inv-loop words₀ planted i₀ words i = (i ≤ 16) × (words ≡ sets words₀ 36 (trapWords (take i (planted .traps)))) × ((k : ℕ) → k < i → Named (getD (planted .traps) k blank .name))
+Inv-loop words₀ planted i₀ words i = (i ≤ 16) × (words ≡ sets words₀ 36 (trapWords (take i (planted .traps)))) × ((k : ℕ) → k < i → TwoByteName (getD (planted .traps) k blankTrap .name))
 
 abbrev μ-loop : tie.MeasureT-loop
 μ-loop words₀ planted i₀ words i = 16 - i

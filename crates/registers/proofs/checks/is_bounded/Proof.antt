@@ -9,7 +9,7 @@ use borrow.Author.Needs.{needs}
 use denote.Ref.{now}
 use mir.Syntax.{w32}
 use mir.Facts.{toZ-ofZ}
-use Rattle.registers.specs.Checks.Checks.{isWithin, allWithin, isBounded}
+use Rattle.registers.specs.Checks.Checks.{inBounds, allWithin, isBounded}
 use Rattle.registers.proofs.checks.CheckLaws.{pairsOf, within-on, value-stop, step-stop, within-end, bounded-many, bounded-few}
 use Rattle.registers.proofs.checks.is_bounded.Statement.{statement}
 use Rattle.registers.proofs.checks.is_bounded.Tie as tie
@@ -23,13 +23,13 @@ abbrev μ-loop : tie.MeasureT-loop
 -- whether the value and the step in the row are within the bounds, where the test gave v
 
 value-is : (c : tie.After-is-within Inv-loop μ-loop) (v : Bool) → c .is-within .result ≡ v
-    → let l = c .before .before .before in let s = l .before .before in isWithin (getD (now (s .args .values)) (l .loop .i) (pos 0)) ≡ v
+    → let l = c .before .before .before in let s = l .before .before in inBounds (getD (now (s .args .values)) (l .loop .i) (pos 0)) ≡ v
 value-is c v e =
     let l = c .before .before .before in let s = l .before .before in
     sym (rw (toZ-ofZ {w = w32} {z = getD (now (s .args .values)) (l .loop .i) (pos 0)} (record { sfits = c .before .value .given })) at (c .is-within .ensures)) ∙ e
 
 step-is : (c : tie.After-is-within2 Inv-loop μ-loop) (v : Bool) → c .is-within2 .result ≡ v
-    → let l = c .before .before .before .before .before .before in let s = l .before .before in isWithin (getD (now (s .args .steps)) (l .loop .i) (pos 0)) ≡ v
+    → let l = c .before .before .before .before .before .before in let s = l .before .before in inBounds (getD (now (s .args .steps)) (l .loop .i) (pos 0)) ≡ v
 step-is c v e =
     let l = c .before .before .before .before .before .before in let s = l .before .before in
     sym (rw (toZ-ofZ {w = w32} {z = getD (now (s .args .steps)) (l .loop .i) (pos 0)} (record { sfits = c .before .step .given })) at (c .is-within2 .ensures)) ∙ e

@@ -14,14 +14,14 @@ use Rattle.registers.specs.declared.table.Order.{Order}
 use Rattle.registers.specs.declared.table.Order.the-variants.{Earlier, Same, Later}
 use Rattle.registers.specs.Table.Columns.{Names, namesOf}
 use Rattle.registers.specs.Table.Places.{orderOf}
-use Rattle.registers.specs.Checks.Checks.{isEarlier, inOrder, isTable}
+use Rattle.registers.specs.Checks.Checks.{isEarlier, inOrder, isRegisterTable}
 use Rattle.registers.proofs.table.Laws.{namesOf-length}
 use Rattle.registers.proofs.checks.CheckLaws.{order-on, order-stop, order-end, rows-order, names-of, table-many, table-few}
 use Rattle.registers.proofs.checks.is_table.Statement.{statement}
 use Rattle.registers.proofs.checks.is_table.Tie as tie
 
 abbrev Inv-loop : tie.InvT-loop
-Inv-loop firsts seconds count i₀ next₀ i next = (next ≡ i + 1) × (isTable firsts seconds count ≡ inOrder (drop i (namesOf firsts seconds count)))
+Inv-loop firsts seconds count i₀ next₀ i next = (next ≡ i + 1) × (isRegisterTable firsts seconds count ≡ inOrder (drop i (namesOf firsts seconds count)))
 
 abbrev μ-loop : tie.MeasureT-loop
 μ-loop firsts seconds count i₀ next₀ i next = count - next
@@ -46,7 +46,7 @@ row c v e =
     (c .order-at .result) v (c .order-at .ensures) e
 
 stop : (c : tie.After-order-at Inv-loop μ-loop) (v : Order) → c .order-at .result ≡ v → isEarlier (orderOf v) ≡ false
-    → let s = c .before .before .before .before .before .before in isTable (now (s .args .firsts)) (now (s .args .seconds)) (s .args .count) ≡ false
+    → let s = c .before .before .before .before .before .before in isRegisterTable (now (s .args .firsts)) (now (s .args .seconds)) (s .args .count) ≡ false
 stop c v e f =
     let l = c .before .before .before .before in let s = l .before .before in
     l .loop .inv .1

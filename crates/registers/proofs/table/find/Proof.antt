@@ -12,13 +12,13 @@ use Rattle.rules.specs.Names.{twoBytes}
 use Rattle.registers.specs.declared.table.Order.{Order}
 use Rattle.registers.specs.declared.table.Order.the-variants.{Earlier, Same, Later}
 use Rattle.registers.specs.Table.Columns.{namesOf}
-use Rattle.registers.specs.Table.Places.{place, orderOf}
+use Rattle.registers.specs.Table.Places.{registerPlace, orderOf}
 use Rattle.registers.proofs.table.Laws.{further, further-0, place-earlier, place-same, place-later, place-end, namesOf-length, row-order}
 use Rattle.registers.proofs.table.find.Statement.{statement}
 use Rattle.registers.proofs.table.find.Tie as tie
 
 abbrev Inv-loop : tie.InvT-loop
-Inv-loop firsts seconds count name i₀ i = (i ≤ count) × (place name (namesOf firsts seconds count) ≡ further i (place name (drop i (namesOf firsts seconds count))))
+Inv-loop firsts seconds count name i₀ i = (i ≤ count) × (registerPlace name (namesOf firsts seconds count) ≡ further i (registerPlace name (drop i (namesOf firsts seconds count))))
 
 abbrev μ-loop : tie.MeasureT-loop
 μ-loop firsts seconds count name i₀ i = count - i

@@ -8,15 +8,15 @@ use denote.Ref.{now}
 use mir.Syntax.{w32}
 use mir.Facts.{toZ-ofZ}
 use borrow.Author.Needs.{needs}
-use Rattle.registers.specs.declared.table.Place.the-variants.{At}
+use Rattle.registers.specs.declared.table.RegisterPlace.the-variants.{At}
 use Rattle.registers.specs.Table.Columns.{namesOf}
-use Rattle.registers.specs.Table.Places.{place}
+use Rattle.registers.specs.Table.Places.{registerPlace}
 use Rattle.registers.proofs.table.Laws.{found-row, found-lookup, not-lookup}
 use Rattle.registers.proofs.table.look_up.Statement.{statement}
 use Rattle.registers.proofs.table.look_up.Tie as tie
 
 -- the name's place, and its row
-found : (c : tie.After-i) → let s = c .before .before .before in place (s .args .name) (namesOf (now (s .args .firsts)) (now (s .args .seconds)) (s .args .count)) ≡ At (c .i .given .0 .0)
+found : (c : tie.After-i) → let s = c .before .before .before in registerPlace (s .args .name) (namesOf (now (s .args .firsts)) (now (s .args .seconds)) (s .args .count)) ≡ At (c .i .given .0 .0)
 found c = sym (c .before .before .find .ensures) ∙ c .i .given .1
 
 row : (c : tie.After-i) → c .i .given .0 .0 < 64

@@ -5,16 +5,16 @@ use native.Mathlib.Omega.{arith}
 use denote.Ref.{now}
 use mir.Facts.{toZ-ofZ}
 use borrow.Author.Needs.{needs}
-use Rattle.registers.specs.declared.table.Place.the-variants.{At, Not}
+use Rattle.registers.specs.declared.table.RegisterPlace.the-variants.{At, Not}
 use Rattle.registers.specs.Table.Columns.{namesOf}
-use Rattle.registers.specs.Table.Places.{place}
+use Rattle.registers.specs.Table.Places.{registerPlace}
 use Rattle.registers.proofs.table.Laws.{found-row, not-row, set-old, set-new, set-full}
 use Rattle.registers.proofs.table.set.Statement.{statement}
 use Rattle.registers.proofs.table.set.Tie as tie
 
 -- the name's place, and its row
 found : (c : tie.After-i) → let s = c .before .before .before .before .before in
-    place (s .args .name) (namesOf (now (s .args .firsts)) (now (s .args .seconds)) (s .args .count)) ≡ At (c .i .given .0 .0)
+    registerPlace (s .args .name) (namesOf (now (s .args .firsts)) (now (s .args .seconds)) (s .args .count)) ≡ At (c .i .given .0 .0)
 found c = sym (c .before .before .find .ensures) ∙ c .i .given .1
 
 row : (c : tie.After-i) → c .i .given .0 .0 < 64
@@ -23,7 +23,7 @@ row c = let s = c .before .before .before .before .before in
 
 -- the place where it belongs
 missing : (c : tie.After-i2) → let s = c .before .before .before .before .before in
-    place (s .args .name) (namesOf (now (s .args .firsts)) (now (s .args .seconds)) (s .args .count)) ≡ Not (c .i2 .given .0 .0)
+    registerPlace (s .args .name) (namesOf (now (s .args .firsts)) (now (s .args .seconds)) (s .args .count)) ≡ Not (c .i2 .given .0 .0)
 missing c = sym (c .before .before .find .ensures) ∙ c .i2 .given .1
 
 place-fits : (c : tie.After-i2) → c .i2 .given .0 .0 ≤ c .before .before .before .before .before .args .count

@@ -8,16 +8,16 @@ use denote.Ref.{now}
 use mir.Syntax.{w32}
 use mir.Facts.{toZ-ofZ}
 use borrow.Author.Needs.{needs, sfits-of}
-use Rattle.registers.specs.declared.table.Place.the-variants.{At}
+use Rattle.registers.specs.declared.table.RegisterPlace.the-variants.{At}
 use Rattle.registers.specs.Table.Columns.{namesOf}
-use Rattle.registers.specs.Table.Places.{place}
-use Rattle.registers.specs.Table.Answers.{numberOf, turnedOf}
+use Rattle.registers.specs.Table.Places.{registerPlace}
+use Rattle.registers.specs.Table.Answers.{steppedNumber, turnedOf}
 use Rattle.registers.proofs.table.Laws.{found-row, step-is, step-bad, step-none}
 use Rattle.registers.proofs.table.step.Statement.{statement}
 use Rattle.registers.proofs.table.step.Tie as tie
 
 -- the name's place, and its row
-found : (c : tie.After-i) → let s = c .before .before .before in place (s .args .name) (namesOf (now (s .args .firsts)) (now (s .args .seconds)) (s .args .count)) ≡ At (c .i .given .0 .0)
+found : (c : tie.After-i) → let s = c .before .before .before in registerPlace (s .args .name) (namesOf (now (s .args .firsts)) (now (s .args .seconds)) (s .args .count)) ≡ At (c .i .given .0 .0)
 found c = sym (c .before .before .find .ensures) ∙ c .i .given .1
 
 row : (c : tie.After-i) → c .i .given .0 .0 < 64
@@ -26,7 +26,7 @@ row c = let s = c .before .before .before in
 
 -- what the row's value turns to
 turned-is : (c : tie.After-turned) → let p = c .before .before .before .before in let s = p .before .before .before in
-    numberOf (c .turned .result) ≡ turnedOf (s .args .turn) (getD (now (s .args .values)) (p .i .given .0 .0) (pos 0)) (getD (now (s .args .steps)) (p .i .given .0 .0) (pos 0))
+    steppedNumber (c .turned .result) ≡ turnedOf (s .args .turn) (getD (now (s .args .values)) (p .i .given .0 .0) (pos 0)) (getD (now (s .args .steps)) (p .i .given .0 .0) (pos 0))
 turned-is c =
     let p = c .before .before .before .before in let s = p .before .before .before in
     rw (
@@ -74,12 +74,12 @@ returns : tie.Need-returns
 returns c =
     let q = c .before .before .before in let p = q .before .before .before .before in let s = p .before .before .before in
     rw (toZ-ofZ {w = w32} {z = c .before .new .given .0 .0} (sfits-of (c .known-told2 .given .0 .1)))
-    (step-is (now (s .args .firsts)) (now (s .args .seconds)) (now (s .args .values)) (now (s .args .steps)) (s .args .count) (s .pre) (s .args .name) (p .i .given .0 .0) (s .args .turn) (c .before .new .given .0 .0) (found p) (ap numberOf (sym (c .before .new .given .1)) ∙ turned-is q))
+    (step-is (now (s .args .firsts)) (now (s .args .seconds)) (now (s .args .values)) (now (s .args .steps)) (s .args .count) (s .pre) (s .args .name) (p .i .given .0 .0) (s .args .turn) (c .before .new .given .0 .0) (found p) (ap steppedNumber (sym (c .before .new .given .1)) ∙ turned-is q))
 
 returns-2 : tie.Need-returns-2
 returns-2 c =
     let q = c .before .before in let p = q .before .before .before .before in let s = p .before .before .before in
-    step-bad (now (s .args .firsts)) (now (s .args .seconds)) (now (s .args .values)) (now (s .args .steps)) (s .args .count) (s .pre) (s .args .name) (p .i .given .0 .0) (s .args .turn) (found p) (ap numberOf (sym (c .enum-told .given .1)) ∙ turned-is q)
+    step-bad (now (s .args .firsts)) (now (s .args .seconds)) (now (s .args .values)) (now (s .args .steps)) (s .args .count) (s .pre) (s .args .name) (p .i .given .0 .0) (s .args .turn) (found p) (ap steppedNumber (sym (c .enum-told .given .1)) ∙ turned-is q)
 
 returns-3 : tie.Need-returns-3
 returns-3 c =

@@ -4,7 +4,7 @@ use native.Mathlib.Omega.{arith}
 use mir.Syntax.{w32}
 use mir.Facts.{toZ-ofZ}
 use borrow.Author.Needs.{sfits-of, needs}
-use Rattle.requests.specs.Nr.Registers.{newNumbersOf, writes}
+use Rattle.requests.specs.Nr.Registers.{newNumbersOf, assignsTo}
 use Rattle.requests.proofs.nr.RegisterLaws.{same, refuses, no-value, read-only, malformed, stored, full}
 use Rattle.requests.proofs.nr.write_register.Statement.{statement}
 use Rattle.requests.proofs.nr.write_register.Tie as tie
@@ -13,7 +13,7 @@ returns : tie.Need-returns
 returns c =
     let s = c .before .before .before in
     same (s .args .firsts .now) (s .args .seconds .now) (s .args .values .now) (s .args .steps .now) (s .args .count) (s .pre .table)
-    (writes (s .args .printer) (s .args .value .now) (s .args .step .now) (s .args .name))
+    (assignsTo (s .args .printer) (s .args .value .now) (s .args .step .now) (s .args .name))
     (λ x. no-value (s .args .printer) (s .args .value .now) (s .args .step .now) (s .args .name) (c .if1 .taken) _)
 
 read-only-requires : tie.Need-read-only-requires
@@ -23,7 +23,7 @@ returns-2 : tie.Need-returns-2
 returns-2 c =
     let s = c .before .before .before .before .before in
     refuses (s .args .firsts .now) (s .args .seconds .now) (s .args .values .now) (s .args .steps .now) (s .args .count) (s .pre .table)
-    (writes (s .args .printer) (s .args .value .now) (s .args .step .now) (s .args .name)) 7
+    (assignsTo (s .args .printer) (s .args .value .now) (s .args .step .now) (s .args .name)) 7
     (λ x. read-only (s .args .printer) (s .args .value .now) (s .args .step .now) (s .args .name) (omega (arith, c .before .before .if1 .left)) (sym (c .if2 .taken) ∙ c .before .read-only .ensures) _)
 
 old-numbers-requires : tie.Need-old-numbers-requires

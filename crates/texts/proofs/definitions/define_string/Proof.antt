@@ -7,9 +7,9 @@ use lib.Dec.{ltb}
 use lib.ListN.{length, take, getD}
 use denote.Ref.{now}
 use borrow.Author.Tests.{ltb-true, ltb-false}
-use Rattle.texts.specs.declared.table.Place.the-variants.{At, Not}
-use Rattle.texts.specs.Table.Table.{namesOf, sum}
-use Rattle.texts.specs.Table.Places.{placeOf}
+use Rattle.texts.specs.declared.table.TextPlace.the-variants.{At, Not}
+use Rattle.texts.specs.Table.Table.{namesOf, totalLength}
+use Rattle.texts.specs.Table.Places.{textPlace}
 use Rattle.texts.specs.Table.Changes.{roomOf}
 use Rattle.texts.proofs.table.Laws.{found-row}
 use Rattle.texts.proofs.table.Lists.{sum-step, sum-mono}
@@ -19,38 +19,38 @@ use Rattle.texts.proofs.definitions.define_string.Statement.{statement}
 use Rattle.texts.proofs.definitions.define_string.Tie as tie
 
 -- the name's place, and its row
-found : (c : tie.After-i) → let s = c .before .before .before .before .before .before .before .before .before .before in placeOf (s .args .name) (namesOf (now (s .args .firsts)) (now (s .args .seconds)) (s .args .count)) ≡ At (c .i .given .0 .0)
+found : (c : tie.After-i) → let s = c .before .before .before .before .before .before .before .before .before .before in textPlace (s .args .name) (namesOf (now (s .args .firsts)) (now (s .args .seconds)) (s .args .count)) ≡ At (c .i .given .0 .0)
 found c = sym (c .before .before .find .ensures) ∙ c .i .given .1
 
 row : (c : tie.After-i) → c .i .given .0 .0 < c .before .before .before .before .before .before .before .before .before .before .args .count
 row c = let s = c .before .before .before .before .before .before .before .before .before .before in found-row _ _ _ _ _ _ (s .pre) (s .args .name) (c .i .given .0 .0) (found c)
 
 -- it has none
-missing : (c : tie.After-enum-told) → let s = c .before .before .before .before .before .before .before .before .before .before in placeOf (s .args .name) (namesOf (now (s .args .firsts)) (now (s .args .seconds)) (s .args .count)) ≡ Not
+missing : (c : tie.After-enum-told) → let s = c .before .before .before .before .before .before .before .before .before .before in textPlace (s .args .name) (namesOf (now (s .args .firsts)) (now (s .args .seconds)) (s .args .count)) ≡ Not
 missing c = sym (c .before .before .find .ensures) ∙ c .enum-told .given .1
 
 -- the old text is a part of what is live
-part : (c : tie.After-i) → let s = c .before .before .before .before .before .before .before .before .before .before in getD (now (s .args .lengths)) (c .i .given .0 .0) 0 ≤ sum (take (s .args .count) (now (s .args .lengths)))
+part : (c : tie.After-i) → let s = c .before .before .before .before .before .before .before .before .before .before in getD (now (s .args .lengths)) (c .i .given .0 .0) 0 ≤ totalLength (take (s .args .count) (now (s .args .lengths)))
 part c =
     let s = c .before .before .before .before .before .before .before .before .before .before in let l = now (s .args .lengths) in let i = c .i .given .0 .0 in
     omega (arith, sum-step l i, sum-mono l (i + 1) (s .args .count) (omega (arith, row c)))
 
 -- whether the string is too long in place of the old text, and behind all texts
 over : (c : tie.After-too-long) (t : Bool) → c .too-long .result ≡ t → let p = c .before .before .before in let s = p .before .before .before .before .before .before .before .before .before .before in
-    ltb (roomOf (length (now (s .args .store)))) (sum (take (s .args .count) (now (s .args .lengths))) - getD (now (s .args .lengths)) (p .i .given .0 .0) 0 + length (now (s .args .text))) ≡ t
+    ltb (roomOf (length (now (s .args .store)))) (totalLength (take (s .args .count) (now (s .args .lengths))) - getD (now (s .args .lengths)) (p .i .given .0 .0) 0 + length (now (s .args .text))) ≡ t
 over c t e = let p = c .before .before .before in rw (← p .before .before .before .before .before .room-of .ensures, ← p .before .before .before .before .before .before .start-of .ensures) (sym (c .too-long .ensures) ∙ e)
 
 over-new : (c : tie.After-too-long2) (t : Bool) → c .too-long2 .result ≡ t → let s = c .before .before .before .before .before .before .before .before .before .before .before .before in
-    ltb (roomOf (length (now (s .args .store)))) (sum (take (s .args .count) (now (s .args .lengths))) + length (now (s .args .text))) ≡ t
+    ltb (roomOf (length (now (s .args .store)))) (totalLength (take (s .args .count) (now (s .args .lengths))) + length (now (s .args .text))) ≡ t
 over-new c t e = rw (← c .before .before .before .before .before .before .before .room-of .ensures, ← c .before .before .before .before .before .before .before .before .start-of .ensures) (sym (c .too-long2 .ensures) ∙ e)
 
 -- it is not
 fits : (c : tie.After-too-long) → c .too-long .result ≡ false → let p = c .before .before .before in let s = p .before .before .before .before .before .before .before .before .before .before in
-    sum (take (s .args .count) (now (s .args .lengths))) - getD (now (s .args .lengths)) (p .i .given .0 .0) 0 + length (now (s .args .text)) ≤ roomOf (length (now (s .args .store)))
+    totalLength (take (s .args .count) (now (s .args .lengths))) - getD (now (s .args .lengths)) (p .i .given .0 .0) 0 + length (now (s .args .text)) ≤ roomOf (length (now (s .args .store)))
 fits c e = ltb-false _ _ (over c false e)
 
 fits-new : (c : tie.After-too-long2) → c .too-long2 .result ≡ false → let s = c .before .before .before .before .before .before .before .before .before .before .before .before in
-    sum (take (s .args .count) (now (s .args .lengths))) + length (now (s .args .text)) ≤ roomOf (length (now (s .args .store)))
+    totalLength (take (s .args .count) (now (s .args .lengths))) + length (now (s .args .text)) ≤ roomOf (length (now (s .args .store)))
 fits-new c e = ltb-false _ _ (over-new c false e)
 
 start-of-requires : tie.Need-start-of-requires

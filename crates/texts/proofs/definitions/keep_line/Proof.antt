@@ -7,7 +7,7 @@ use lib.Dec.{ltb}
 use lib.ListN.{length, take}
 use denote.Ref.{now}
 use borrow.Author.Tests.{ltb-true, ltb-false}
-use Rattle.texts.specs.Table.Table.{sum}
+use Rattle.texts.specs.Table.Table.{totalLength}
 use Rattle.texts.specs.Table.Changes.{roomOf}
 use Rattle.texts.proofs.definitions.EntryLaws.{room-small, keep-refused, kept-line}
 use borrow.Author.Needs.{needs}
@@ -16,12 +16,12 @@ use Rattle.texts.proofs.definitions.keep_line.Tie as tie
 
 -- whether the line is too long behind the body
 over : (c : tie.After-too-long) (t : Bool) → c .too-long .result ≡ t → let s = c .before .before .before .before .before in
-    ltb (roomOf (length (now (s .args .store)))) (sum (take (s .args .count) (now (s .args .lengths))) + s .args .opened + (length (now (s .args .line)) + 1)) ≡ t
+    ltb (roomOf (length (now (s .args .store)))) (totalLength (take (s .args .count) (now (s .args .lengths))) + s .args .opened + (length (now (s .args .line)) + 1)) ≡ t
 over c t e = rw (← c .before .room-of .ensures, ← c .before .before .start-of .ensures) (sym (c .too-long .ensures) ∙ e)
 
 -- it is not
 fits : (c : tie.After-too-long) → c .too-long .result ≡ false → let s = c .before .before .before .before .before in
-    sum (take (s .args .count) (now (s .args .lengths))) + s .args .opened + (length (now (s .args .line)) + 1) ≤ roomOf (length (now (s .args .store)))
+    totalLength (take (s .args .count) (now (s .args .lengths))) + s .args .opened + (length (now (s .args .line)) + 1) ≤ roomOf (length (now (s .args .store)))
 fits c e = ltb-false _ _ (over c false e)
 
 start-of-requires : tie.Need-start-of-requires

@@ -3,9 +3,9 @@ use Prim.Native.Nat.{_<_}
 use mathlib.Core.Path.{_≡_, sym, _∙_}
 use native.Mathlib.Omega.{arith}
 use denote.Ref.{now}
-use Rattle.texts.specs.declared.table.Place.the-variants.{At, Not}
+use Rattle.texts.specs.declared.table.TextPlace.the-variants.{At, Not}
 use Rattle.texts.specs.Table.Table.{namesOf}
-use Rattle.texts.specs.Table.Places.{placeOf}
+use Rattle.texts.specs.Table.Places.{textPlace}
 use mathlib.Core.List.{[]}
 use Rattle.texts.proofs.table.Laws.{found-row}
 use Rattle.texts.proofs.definitions.EntryLaws.{open-old, open-new, open-65}
@@ -14,14 +14,14 @@ use Rattle.texts.proofs.definitions.open_macro.Statement.{statement}
 use Rattle.texts.proofs.definitions.open_macro.Tie as tie
 
 -- the name's place, and its row
-found : (c : tie.After-i) → let s = c .before .before .before .before .before .before in placeOf (s .args .name) (namesOf (now (s .args .firsts)) (now (s .args .seconds)) (s .args .count)) ≡ At (c .i .given .0 .0)
+found : (c : tie.After-i) → let s = c .before .before .before .before .before .before in textPlace (s .args .name) (namesOf (now (s .args .firsts)) (now (s .args .seconds)) (s .args .count)) ≡ At (c .i .given .0 .0)
 found c = sym (c .before .before .find .ensures) ∙ c .i .given .1
 
 row : (c : tie.After-i) → c .i .given .0 .0 < c .before .before .before .before .before .before .args .count
 row c = let s = c .before .before .before .before .before .before in found-row _ _ _ _ _ _ (s .pre) (s .args .name) (c .i .given .0 .0) (found c)
 
 -- it has none
-missing : (c : tie.After-enum-told) → let s = c .before .before .before .before .before .before in placeOf (s .args .name) (namesOf (now (s .args .firsts)) (now (s .args .seconds)) (s .args .count)) ≡ Not
+missing : (c : tie.After-enum-told) → let s = c .before .before .before .before .before .before in textPlace (s .args .name) (namesOf (now (s .args .firsts)) (now (s .args .seconds)) (s .args .count)) ≡ Not
 missing c = sym (c .before .before .find .ensures) ∙ c .enum-told .given .1
 
 find-requires : tie.Need-find-requires

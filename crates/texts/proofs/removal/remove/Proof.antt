@@ -3,9 +3,9 @@ use Prim.Native.Nat.{_<_}
 use mathlib.Core.Path.{_≡_, refl, sym, _∙_}
 use native.Mathlib.Omega.{arith}
 use denote.Ref.{now}
-use Rattle.texts.specs.declared.table.Place.the-variants.{At}
+use Rattle.texts.specs.declared.table.TextPlace.the-variants.{At}
 use Rattle.texts.specs.Table.Table.{namesOf}
-use Rattle.texts.specs.Table.Places.{placeOf}
+use Rattle.texts.specs.Table.Places.{textPlace}
 use Rattle.texts.proofs.table.Laws.{found-row}
 use Rattle.texts.proofs.table.ChangeLaws.{remove-found, remove-not}
 use borrow.Author.Needs.{needs}
@@ -13,7 +13,7 @@ use Rattle.texts.proofs.removal.remove.Statement.{statement}
 use Rattle.texts.proofs.removal.remove.Tie as tie
 
 -- the name's place, and its row
-found : (c : tie.After-i) → let s = c .before .before .before .before .before .before in placeOf (s .args .name) (namesOf (now (s .args .firsts)) (now (s .args .seconds)) (s .args .count)) ≡ At (c .i .given .0 .0)
+found : (c : tie.After-i) → let s = c .before .before .before .before .before .before in textPlace (s .args .name) (namesOf (now (s .args .firsts)) (now (s .args .seconds)) (s .args .count)) ≡ At (c .i .given .0 .0)
 found c = sym (c .before .before .find .ensures) ∙ c .i .given .1
 
 row : (c : tie.After-i) → c .i .given .0 .0 < c .before .before .before .before .before .before .args .count

@@ -3,7 +3,7 @@ use Prim.Native.Nat.{_≤_, _+_}
 use native.Mathlib.Omega.{arith}
 use lib.ListN.{length, take}
 use denote.Ref.{now}
-use Rattle.texts.specs.Table.Table.{sum}
+use Rattle.texts.specs.Table.Table.{totalLength}
 use Rattle.texts.proofs.table.ChangeLaws.{starts-rise, taken-out}
 use borrow.Author.Needs.{needs}
 use Rattle.texts.proofs.removal.take_out.Statement.{statement}
@@ -11,7 +11,7 @@ use Rattle.texts.proofs.removal.take_out.Tie as tie
 
 -- the starts of the text, of the next one and of what follows all
 rise : (s : tie.Start) → let l = now (s .args .lengths) in
-    (sum (take (s .args .i) l) ≤ sum (take (s .args .i + 1) l)) × (sum (take (s .args .i + 1) l) ≤ sum (take (s .args .count) l)) × (sum (take (s .args .count) l) ≤ length (now (s .args .store)))
+    (totalLength (take (s .args .i) l) ≤ totalLength (take (s .args .i + 1) l)) × (totalLength (take (s .args .i + 1) l) ≤ totalLength (take (s .args .count) l)) × (totalLength (take (s .args .count) l) ≤ length (now (s .args .store)))
 rise s = let r = starts-rise _ _ _ _ _ _ (s .pre .0) (s .args .i) (s .pre .1) in (r .0, r .1, s .pre .0 .inside)
 
 start-of-requires : tie.Need-start-of-requires

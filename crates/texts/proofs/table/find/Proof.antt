@@ -10,13 +10,13 @@ use denote.Ref.{now}
 use Rattle.rules.specs.declared.Name.{Name}
 use Rattle.rules.specs.Names.{twoBytes, sameName}
 use Rattle.texts.specs.Table.Table.{namesOf}
-use Rattle.texts.specs.Table.Places.{placeOf}
+use Rattle.texts.specs.Table.Places.{textPlace}
 use Rattle.texts.proofs.table.Laws.{further, further-0, place-here, place-on, place-end, namesOf-length, row-same}
 use Rattle.texts.proofs.table.find.Statement.{statement}
 use Rattle.texts.proofs.table.find.Tie as tie
 
 abbrev Inv-loop : tie.InvT-loop
-Inv-loop firsts seconds count name i₀ i = (i ≤ count) × (placeOf name (namesOf firsts seconds count) ≡ further i (placeOf name (drop i (namesOf firsts seconds count))))
+Inv-loop firsts seconds count name i₀ i = (i ≤ count) × (textPlace name (namesOf firsts seconds count) ≡ further i (textPlace name (drop i (namesOf firsts seconds count))))
 
 abbrev μ-loop : tie.MeasureT-loop
 μ-loop firsts seconds count name i₀ i = count - i

@@ -5,7 +5,7 @@ use native.Mathlib.Omega.{arith}
 use lib.ListN.{take}
 use borrow.Author.Needs.{needs}
 use denote.Ref.{now}
-use Rattle.texts.specs.Table.Table.{sum}
+use Rattle.texts.specs.Table.Table.{totalLength}
 use Rattle.texts.specs.Table.Changes.{roomOf}
 use Rattle.texts.proofs.table.Lists.{sum-step}
 use Rattle.texts.proofs.table.CheckLaws.{table-many, table-over, table-fits}
@@ -13,7 +13,7 @@ use Rattle.texts.proofs.table.is_table.Statement.{statement}
 use Rattle.texts.proofs.table.is_table.Tie as tie
 
 abbrev Inv-loop : tie.InvT-loop
-Inv-loop store lengths count left₀ i₀ left i = (i ≤ count) × (sum (take i lengths) + left ≡ roomOf store)
+Inv-loop store lengths count left₀ i₀ left i = (i ≤ count) × (totalLength (take i lengths) + left ≡ roomOf store)
 
 abbrev μ-loop : tie.MeasureT-loop
 μ-loop store lengths count left₀ i₀ left i = count - i
@@ -25,7 +25,7 @@ room-of-requires : tie.Need-room-of-requires Inv-loop μ-loop
 room-of-requires c κs = search needs
 
 loop-holds : tie.Need-loop-holds Inv-loop μ-loop
-unfolding sum
+unfolding totalLength
 loop-holds c = (omega arith, omega (arith, c .room-of .ensures))
 
 mul-wide : tie.Need-mul-wide Inv-loop μ-loop

@@ -10,14 +10,14 @@ use denote.Ref.{now}
 use Rattle.rules.specs.declared.Name.{Name}
 use Rattle.rules.specs.Names.{twoBytes, sameName}
 use Rattle.texts.specs.Table.Table.{namesOf}
-use Rattle.texts.specs.Table.Checks.{lacks}
+use Rattle.texts.specs.Table.Checks.{lacksName}
 use Rattle.texts.proofs.table.Laws.{namesOf-length, row-same}
 use Rattle.texts.proofs.table.CheckLaws.{lacks-here, lacks-on, lacks-end}
 use Rattle.texts.proofs.table.lacks_name.Statement.{statement}
 use Rattle.texts.proofs.table.lacks_name.Tie as tie
 
 abbrev Inv-loop : tie.InvT-loop
-Inv-loop firsts seconds place count name i₀ i = lacks name (drop place (namesOf firsts seconds count)) ≡ lacks name (drop i (namesOf firsts seconds count))
+Inv-loop firsts seconds place count name i₀ i = lacksName name (drop place (namesOf firsts seconds count)) ≡ lacksName name (drop i (namesOf firsts seconds count))
 
 abbrev μ-loop : tie.MeasureT-loop
 μ-loop firsts seconds place count name i₀ i = count - i

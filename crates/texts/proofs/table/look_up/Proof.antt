@@ -5,15 +5,15 @@ use native.Mathlib.Omega.{arith}
 use lib.ListN.{length, take, getD}
 use borrow.Author.Needs.{needs}
 use denote.Ref.{now}
-use Rattle.texts.specs.declared.table.Place.the-variants.{At}
-use Rattle.texts.specs.Table.Table.{namesOf, sum}
-use Rattle.texts.specs.Table.Places.{placeOf}
+use Rattle.texts.specs.declared.table.TextPlace.the-variants.{At}
+use Rattle.texts.specs.Table.Table.{namesOf, totalLength}
+use Rattle.texts.specs.Table.Places.{textPlace}
 use Rattle.texts.proofs.table.Laws.{found-row, found-text, not-text, text-inside}
 use Rattle.texts.proofs.table.look_up.Statement.{statement}
 use Rattle.texts.proofs.table.look_up.Tie as tie
 
 -- the name's place, its row, and that its text lies in the store
-found : (c : tie.After-i) → let s = c .before .before .before .before in placeOf (s .args .name) (namesOf (now (s .args .firsts)) (now (s .args .seconds)) (s .args .count)) ≡ At (c .i .given .0 .0)
+found : (c : tie.After-i) → let s = c .before .before .before .before in textPlace (s .args .name) (namesOf (now (s .args .firsts)) (now (s .args .seconds)) (s .args .count)) ≡ At (c .i .given .0 .0)
 found c = sym (c .before .before .find .ensures) ∙ c .i .given .1
 
 row : (c : tie.After-i) → (c .i .given .0 .0 < c .before .before .before .before .args .count) × (c .i .given .0 .0 < 64)
@@ -21,7 +21,7 @@ row c = let s = c .before .before .before .before in
     let r = found-row (now (s .args .store)) (now (s .args .firsts)) (now (s .args .seconds)) (now (s .args .kinds)) (now (s .args .lengths)) (s .args .count) (s .pre) (s .args .name) (c .i .given .0 .0) (found c) in
     (r, omega (arith, s .pre .names .few, r))
 
-lies : (c : tie.After-i) → let s = c .before .before .before .before in sum (take (c .i .given .0 .0) (now (s .args .lengths))) + getD (now (s .args .lengths)) (c .i .given .0 .0) 0 ≤ length (now (s .args .store))
+lies : (c : tie.After-i) → let s = c .before .before .before .before in totalLength (take (c .i .given .0 .0) (now (s .args .lengths))) + getD (now (s .args .lengths)) (c .i .given .0 .0) 0 ≤ length (now (s .args .store))
 lies c = let s = c .before .before .before .before in
     text-inside (now (s .args .store)) (now (s .args .firsts)) (now (s .args .seconds)) (now (s .args .kinds)) (now (s .args .lengths)) (s .args .count) (s .pre) (c .i .given .0 .0) (row c .0)
 

@@ -9,7 +9,7 @@ use denote.Ref.{now}
 use Rattle.rules.specs.declared.Name.{Name}
 use Rattle.rules.specs.Names.{twoBytes}
 use Rattle.texts.specs.Table.Table.{Names, namesOf}
-use Rattle.texts.specs.Table.Checks.{lacks, allDistinct, noNameTwice}
+use Rattle.texts.specs.Table.Checks.{lacksName, allDistinct, noNameTwice}
 use Rattle.texts.proofs.table.Laws.{namesOf-length, namesOf-at}
 use Rattle.texts.proofs.table.CheckLaws.{distinct-on, distinct-stop, distinct-end, names-of, twice-many, twice-few}
 use Rattle.texts.proofs.table.no_name_twice.Statement.{statement}
@@ -34,12 +34,12 @@ names-long c = let s = c .before in namesOf-length (now (s .args .firsts)) (now 
 -- whether the rows behind the row at i lack its name, where the search gave v
 rest : (c : tie.After-lacks-name Inv-loop μ-loop) (v : Bool) → c .lacks-name .result ≡ v
     → let l = c .before .before .before .before in let s = l .before .before in
-    lacks (getD (table s) (l .loop .i) (twoBytes 0 0)) (drop (l .loop .i + 1) (table s)) ≡ v
+    lacksName (getD (table s) (l .loop .i) (twoBytes 0 0)) (drop (l .loop .i + 1) (table s)) ≡ v
 rest c v e =
     let l = c .before .before .before .before in let s = l .before .before in
     let n = twoBytes (getD (now (s .args .firsts)) (l .loop .i) 0) (getD (now (s .args .seconds)) (l .loop .i) 0) in
-    let given : c .lacks-name .result ≡ lacks n (drop (l .loop .i + 1) (table s)) = c .lacks-name .ensures in
-    ap (λ m. lacks m (drop (l .loop .i + 1) (table s))) (namesOf-at (now (s .args .firsts)) (now (s .args .seconds)) (s .args .count) (columns (l .before)) (l .loop .i) (omega arith))
+    let given : c .lacks-name .result ≡ lacksName n (drop (l .loop .i + 1) (table s)) = c .lacks-name .ensures in
+    ap (λ m. lacksName m (drop (l .loop .i + 1) (table s))) (namesOf-at (now (s .args .firsts)) (now (s .args .seconds)) (s .args .count) (columns (l .before)) (l .loop .i) (omega arith))
     ∙ sym given ∙ e
 
 returns : tie.Need-returns Inv-loop μ-loop

@@ -5,13 +5,13 @@ use native.Mathlib.Omega.{arith}
 use lib.ListN.{take, getD}
 use borrow.Author.Needs.{needs}
 use denote.Ref.{now}
-use Rattle.texts.specs.Table.Table.{sum}
+use Rattle.texts.specs.Table.Table.{totalLength}
 use Rattle.texts.proofs.table.Lists.{sum-step, sum-mono}
 use Rattle.texts.proofs.table.start_of.Statement.{statement}
 use Rattle.texts.proofs.table.start_of.Tie as tie
 
 abbrev Inv-loop : tie.InvT-loop
-Inv-loop lengths k total₀ i₀ total i = (i ≤ k) × (total ≡ sum (take i lengths))
+Inv-loop lengths k total₀ i₀ total i = (i ≤ k) × (total ≡ totalLength (take i lengths))
 
 abbrev μ-loop : tie.MeasureT-loop
 μ-loop lengths k total₀ i₀ total i = k - i
@@ -24,7 +24,7 @@ grown c =
     omega (arith, s .pre .fits, sum-step (now (s .args .lengths)) (l .loop .i), sum-mono (now (s .args .lengths)) (l .loop .i + 1) (s .args .k) (omega arith))
 
 loop-holds : tie.Need-loop-holds Inv-loop μ-loop
-unfolding sum
+unfolding totalLength
 loop-holds c = (search needs, refl)
 
 mul-total : tie.Need-mul-total Inv-loop μ-loop
@@ -54,7 +54,7 @@ returns : tie.Need-returns Inv-loop μ-loop
 returns c =
     let l = c .before in let s = l .before in
     let e : l .loop .i ≡ s .args .k = omega arith in
-    l .loop .inv .1 ∙ ap (λ (i : ℕ). sum (take i (now (s .args .lengths)))) e
+    l .loop .inv .1 ∙ ap (λ (i : ℕ). totalLength (take i (now (s .args .lengths)))) e
 
 pub start-of-spec : {M : Type 1} → statement M
 start-of-spec =

@@ -2,13 +2,13 @@
 use mathlib.Core.Path.{_≡_}
 use borrow.Author.Needs.{needs}
 use Rattle.rules.specs.Traps.{rowOf}
-use Rattle.traps.specs.declared.nearest.Row.{Row}
+use Rattle.traps.specs.declared.nearest.TrapRow.{TrapRow}
 use Rattle.traps.specs.Table.Table.{rowIs}
 use Rattle.traps.proofs.table.Places.{row-told}
 use Rattle.traps.proofs.nearest.stands_at.Statement.{statement}
 use Rattle.traps.proofs.nearest.stands_at.Tie as tie
 
-row-is : {s : Row} (c : tie.After-row-of) → c .row-of .result ≡ s → rowOf (c .before .args .page) (c .before .args .trap .place .0) ≡ rowIs s
+row-is : {s : TrapRow} (c : tie.After-row-of) → c .row-of .result ≡ s → rowOf (c .before .args .page) (c .before .args .trap .place .0) ≡ rowIs s
 row-is c = row-told (c .before .args .trap .place .0) (c .before .args .page) (c .row-of .ensures)
 
 row-of-requires : tie.Need-row-of-requires

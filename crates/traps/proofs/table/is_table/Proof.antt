@@ -4,14 +4,14 @@ use mathlib.Core.Path.{_≡_, sym, _∙_}
 use mathlib.Core.Bool.{Bool, true, false}
 use native.Mathlib.Omega.{arith}
 use lib.ListN.{length, take, drop, getD}
-use Rattle.traps.specs.Table.Checks.{lacks, single, isTable}
+use Rattle.traps.specs.Table.Checks.{lacksPlace, single, isTrapTable}
 use Rattle.traps.proofs.table.Places.{sized, blank}
 use Rattle.traps.proofs.table.CheckLaws.{single-on, single-stop, single-end, table-many, table-few}
 use Rattle.traps.proofs.table.is_table.Statement.{statement}
 use Rattle.traps.proofs.table.is_table.Tie as tie
 
 abbrev Inv-loop : tie.InvT-loop
-Inv-loop p traps count i₀ i = (i ≤ count) × (isTable p ≡ single (drop i (take count traps)))
+Inv-loop p traps count i₀ i = (i ≤ count) × (isTrapTable p ≡ single (drop i (take count traps)))
 
 abbrev μ-loop : tie.MeasureT-loop
 μ-loop p traps count i₀ i = count - i
@@ -22,7 +22,7 @@ long c = sized _ (c .args .p .traps) 16 (c .good .0 .1 .1 .0 .1 .0 .1)
 -- whether the traps behind the one at i lack its place, where the search gave v
 rest : (c : tie.After-lacks-place Inv-loop μ-loop) (v : Bool) → c .lacks-place .result ≡ v
     → let l = c .before .before .before in let a = l .before .before .before .args in
-    lacks (getD (a .p .traps) (l .loop .i) blank .place .0) (drop (l .loop .i + 1) (take (a .p .count) (a .p .traps))) ≡ v
+    lacksPlace (getD (a .p .traps) (l .loop .i) blank .place .0) (drop (l .loop .i + 1) (take (a .p .count) (a .p .traps))) ≡ v
 rest c v e = sym (c .lacks-place .ensures) ∙ e
 
 returns : tie.Need-returns Inv-loop μ-loop

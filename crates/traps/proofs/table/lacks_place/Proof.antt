@@ -4,14 +4,14 @@ use mathlib.Core.Path.{_≡_, refl, sym, _∙_}
 use native.Mathlib.Omega.{arith}
 use lib.ListN.{length, take, drop, getD}
 use borrow.Author.Needs.{sfits-of, needs}
-use Rattle.traps.specs.Table.Checks.{lacks}
+use Rattle.traps.specs.Table.Checks.{lacksPlace}
 use Rattle.traps.proofs.table.Places.{sized, blank, same, differ}
 use Rattle.traps.proofs.table.CheckLaws.{lacks-here, lacks-on, lacks-end}
 use Rattle.traps.proofs.table.lacks_place.Statement.{statement}
 use Rattle.traps.proofs.table.lacks_place.Tie as tie
 
 abbrev Inv-loop : tie.InvT-loop
-Inv-loop start place traps count i₀ i = lacks (place .0) (drop start (take count traps)) ≡ lacks (place .0) (drop i (take count traps))
+Inv-loop start place traps count i₀ i = lacksPlace (place .0) (drop start (take count traps)) ≡ lacksPlace (place .0) (drop i (take count traps))
 
 abbrev μ-loop : tie.MeasureT-loop
 μ-loop start place traps count i₀ i = count - i
