@@ -25,7 +25,7 @@ ghost use mathlib.Core.Bool.{false};
 ghost use mathlib.Core.List.{_∷_};
 ghost use Prim.Native.Nat.{_≤_, _-_};
 ghost use lib.ListN.{length};
-ghost use Rattle.measure.specs.Counts.{acrossOf};
+ghost use Rattle.measure.specs.Counts.{acrossOf, cellsAcross};
 ghost use Rattle.rules.specs.Filling.{words};
 ghost use Rattle.rules.specs.TextLines as rule;
 ghost use Rattle.rules.specs.TextLines.{fills};
@@ -47,14 +47,14 @@ fn others_held(line: &LineBytes, at: usize, to: usize, gap: u8) -> Held
 }
 
 // The gap to what a trap's macro puts next: the line has ended only if no words are left.
-fn gap_behind(line: &LineBytes, at: usize, to: usize, gap: u8) -> usize
+fn gap_behind(line: &LineBytes, at: usize, to: usize, gap: u8) -> Cells
     requires { ⌜ Places (now line) at to ⌝ }
-    ensures { λ r. ⌜ r ≡ gapBehind (words (bytesBetween (now (line .entry)) at to)) gap ⌝ }
+    ensures { λ r. ⌜ r ≡ cellsAcross (gapBehind (words (bytesBetween (now (line .entry)) at to)) gap) ⌝ }
 {
     if fill::words::is_blank(line, at, to) {
-        return gap as usize;
+        return fill::words::as_cells(gap as usize);
     }
-    1
+    Cells(1)
 }
 
 // All words fitted: they are collected, and the line's ending asks for a gap.
@@ -70,7 +70,7 @@ fn collect(
 {
     let indent = collected.indent;
     let room = collected.room;
-    let next = gap as usize;
+    let next = fill::words::as_cells(gap as usize);
     let longer = Collected {
         there: true,
         indent,
@@ -110,7 +110,7 @@ fn overflow(
     ghost { PageState }
     requires { λ q. ⌜ pageState layout page collected (now cells) stack (now arena) (now ends) ≡ q ⌝ }
     requires { λ q. ⌜ PageReady planted q (now line) (now row) (now firsts) (now seconds) texts × Overflows (now line) to (now cells) (acrossOf (collected .room)) gap o ⌝ }
-    ensures { λ q r. ⌜ PageRefines (λ ts s. rule.filled (placedOf (acrossOf (collected .indent)) (acrossOf (collected .room)) (now (cells .entry)) (collected .next) (now (line .entry)) to (Full o)) gap s) (now (firsts .entry)) (now (seconds .entry)) texts planted q (r .way) (r .written) (pageState (r .layout) (r .page) (r .collected) (now (cells .exit)) (r .stack) (now (arena .exit)) (now (ends .exit))) (now (row .exit)) ⌝ }
+    ensures { λ q r. ⌜ PageRefines (λ ts s. rule.filled (placedOf (acrossOf (collected .indent)) (acrossOf (collected .room)) (now (cells .entry)) (acrossOf (collected .next)) (now (line .entry)) to (Full o)) gap s) (now (firsts .entry)) (now (seconds .entry)) texts planted q (r .way) (r .written) (pageState (r .layout) (r .page) (r .collected) (now (cells .exit)) (r .stack) (now (arena .exit)) (now (ends .exit))) (now (row .exit)) ⌝ }
 {
     let margin = layout.offset;
     let offset = margin.now;
@@ -178,7 +178,7 @@ fn fill_placed(
     ghost { PageState }
     requires { λ q. ⌜ pageState layout page collected (now cells) stack (now arena) (now ends) ≡ q ⌝ }
     requires { λ q. ⌜ PageReady planted q (now line) (now row) (now firsts) (now seconds) texts × WordsFilled (now line) to (now cells) (acrossOf (collected .room)) gap placed ⌝ }
-    ensures { λ q r. ⌜ PageRefines (λ ts s. rule.filled (placedOf (acrossOf (collected .indent)) (acrossOf (collected .room)) (now (cells .entry)) (collected .next) (now (line .entry)) to placed) gap s) (now (firsts .entry)) (now (seconds .entry)) texts planted q (r .way) (r .written) (pageState (r .layout) (r .page) (r .collected) (now (cells .exit)) (r .stack) (now (arena .exit)) (now (ends .exit))) (now (row .exit)) ⌝ }
+    ensures { λ q r. ⌜ PageRefines (λ ts s. rule.filled (placedOf (acrossOf (collected .indent)) (acrossOf (collected .room)) (now (cells .entry)) (acrossOf (collected .next)) (now (line .entry)) to placed) gap s) (now (firsts .entry)) (now (seconds .entry)) texts planted q (r .way) (r .written) (pageState (r .layout) (r .page) (r .collected) (now (cells .exit)) (r .stack) (now (arena .exit)) (now (ends .exit))) (now (row .exit)) ⌝ }
 {
     match placed {
         Placed::All(length) => collect(length, gap, layout, page, collected, stack),
@@ -238,7 +238,7 @@ fn fill_new(
         indent,
         room,
         length,
-        next: 1,
+        next: Cells(1),
     };
     let placed = fill::collected::place_others(line, at, to, &mut *cells, length, room);
     fill_placed(
@@ -263,7 +263,7 @@ fn fill_new(
 
 // The words of a line go on behind what is collected, after their own gaps.
 pub fn fill_rest(
-    gap: u8,
+    gap: Cells,
     line: &LineBytes,
     to: usize,
     layout: Layout,
@@ -281,9 +281,10 @@ pub fn fill_rest(
 ) -> PageOutcome
     ghost { PageState }
     requires { λ q. ⌜ pageState layout page collected (now cells) stack (now arena) (now ends) ≡ q ⌝ }
-    requires { λ q. ⌜ PageReady planted q (now line) (now row) (now firsts) (now seconds) texts × Places (now line) 0 to × (gap ≤ 2) ⌝ }
-    ensures { λ q r. ⌜ PageRefines (λ ts s. rule.fill (words (bytesBetween (now (line .entry)) 0 to)) gap s) (now (firsts .entry)) (now (seconds .entry)) texts planted q (r .way) (r .written) (pageState (r .layout) (r .page) (r .collected) (now (cells .exit)) (r .stack) (now (arena .exit)) (now (ends .exit))) (now (row .exit)) ⌝ }
+    requires { λ q. ⌜ PageReady planted q (now line) (now row) (now firsts) (now seconds) texts × Places (now line) 0 to × (acrossOf gap ≤ 2) ⌝ }
+    ensures { λ q r. ⌜ PageRefines (λ ts s. rule.fill (words (bytesBetween (now (line .entry)) 0 to)) (acrossOf gap) s) (now (firsts .entry)) (now (seconds .entry)) texts planted q (r .way) (r .written) (pageState (r .layout) (r .page) (r .collected) (now (cells .exit)) (r .stack) (now (arena .exit)) (now (ends .exit))) (now (row .exit)) ⌝ }
 {
+    let behind = fill::words::count(gap) as u8;
     let NextWord::Found(found) = fill::words::next_word(line, 0, to) else {
         return stay(Way::On, layout, page, collected, stack);
     };
@@ -299,7 +300,7 @@ pub fn fill_rest(
         );
         return fill_placed(
             placed,
-            gap,
+            behind,
             line,
             to,
             layout,
@@ -319,7 +320,7 @@ pub fn fill_rest(
     fill_new(
         Cells(0),
         found,
-        gap,
+        behind,
         line,
         to,
         layout,
@@ -366,7 +367,7 @@ pub fn fill_line(
     let gap = fill::words::count(behind) as u8;
     if collected.there {
         let room = collected.room;
-        let next = fill::words::as_cells(collected.next);
+        let next = collected.next;
         let placed = fill::collected::place(line, 0, to, next, &mut *cells, collected.length, room);
         return fill_placed(
             placed,

@@ -29,7 +29,7 @@ pub struct Collected {
     pub indent: Cells,
     pub room: Cells,
     pub length: usize,
-    pub next: usize,
+    pub next: Cells,
 }
 
 // What a piece of work leads to: so many bytes of the row are to be written, then the session goes on or is closed.
@@ -51,7 +51,7 @@ pub fn nothing_collected() -> Collected
         indent: Cells(0),
         room: Cells(0),
         length: 0,
-        next: 1,
+        next: Cells(1),
     }
 }
 
@@ -123,7 +123,7 @@ pub fn break_line(
     ghost { PageState }
     requires { λ q. ⌜ pageState layout page collected (now cells) stack (now arena) (now ends) ≡ q ⌝ }
     requires { λ q. ⌜ PageReady planted q (now bytes) (now row) (now firsts) (now seconds) texts × Plain held ⌝ }
-    ensures { λ q r. ⌜ PageRefines (λ ts s. rule.break (collectedLine (acrossOf (collected .indent)) (acrossOf (collected .room)) (now (cells .entry)) (collected .length) (collected .next)) (heldOf ts held (now (bytes .entry))) s) (now (firsts .entry)) (now (seconds .entry)) texts planted q (r .way) (r .written) (pageState (r .layout) (r .page) (r .collected) (now (cells .entry)) (r .stack) (now (arena .exit)) (now (ends .exit))) (now (row .exit)) ⌝ }
+    ensures { λ q r. ⌜ PageRefines (λ ts s. rule.break (collectedLine (acrossOf (collected .indent)) (acrossOf (collected .room)) (now (cells .entry)) (collected .length) (acrossOf (collected .next))) (heldOf ts held (now (bytes .entry))) s) (now (firsts .entry)) (now (seconds .entry)) texts planted q (r .way) (r .written) (pageState (r .layout) (r .page) (r .collected) (now (cells .entry)) (r .stack) (now (arena .exit)) (now (ends .exit))) (now (row .exit)) ⌝ }
 {
     let offset = layout.offset.now;
     let length = layout.page;

@@ -161,7 +161,7 @@ fn break_first(
     ghost { PageState }
     requires { λ q. ⌜ pageState layout page collected (now cells) stack (now arena) (now ends) ≡ q ⌝ }
     requires { λ q. ⌜ PageReady planted q (now line) (now row) (now firsts) (now seconds) texts × Places (now line) 0 to ⌝ }
-    ensures { λ q r. ⌜ PageRefines (λ ts s. rule.textWay (breaks (collectedLine (acrossOf (collected .indent)) (acrossOf (collected .room)) (now (cells .entry)) (collected .length) (collected .next))) (words (bytesBetween (now (line .entry)) 0 to)) (bytesBetween (now (line .entry)) 0 to) s) (now (firsts .entry)) (now (seconds .entry)) texts planted q (r .way) (r .written) (pageState (r .layout) (r .page) (r .collected) (now (cells .entry)) (r .stack) (now (arena .exit)) (now (ends .exit))) (now (row .exit)) ⌝ }
+    ensures { λ q r. ⌜ PageRefines (λ ts s. rule.textWay (breaks (collectedLine (acrossOf (collected .indent)) (acrossOf (collected .room)) (now (cells .entry)) (collected .length) (acrossOf (collected .next)))) (words (bytesBetween (now (line .entry)) 0 to)) (bytesBetween (now (line .entry)) 0 to) s) (now (firsts .entry)) (now (seconds .entry)) texts planted q (r .way) (r .written) (pageState (r .layout) (r .page) (r .collected) (now (cells .entry)) (r .stack) (now (arena .exit)) (now (ends .exit))) (now (row .exit)) ⌝ }
 {
     let bytes = fill::words::slice(line, 0, to);
     super::page_rows::break_line(
@@ -274,7 +274,7 @@ fn word_line(
     ghost { PageState }
     requires { λ q. ⌜ pageState layout page collected (now cells) stack (now arena) (now ends) ≡ q ⌝ }
     requires { λ q. ⌜ PageReady planted q (now line) (now row) (now firsts) (now seconds) texts × Places (now line) 0 to ⌝ }
-    ensures { λ q r. ⌜ PageRefines (λ ts s. rule.textWay (wordWay (collected .there) (rule.asItStands (layoutOf layout)) (leads (words (bytesBetween (now (line .entry)) 0 to))) (collectedLine (acrossOf (collected .indent)) (acrossOf (collected .room)) (now (cells .entry)) (collected .length) (collected .next))) (words (bytesBetween (now (line .entry)) 0 to)) (bytesBetween (now (line .entry)) 0 to) s) (now (firsts .entry)) (now (seconds .entry)) texts planted q (r .way) (r .written) (pageState (r .layout) (r .page) (r .collected) (now (cells .exit)) (r .stack) (now (arena .exit)) (now (ends .exit))) (now (row .exit)) ⌝ }
+    ensures { λ q r. ⌜ PageRefines (λ ts s. rule.textWay (wordWay (collected .there) (rule.asItStands (layoutOf layout)) (leads (words (bytesBetween (now (line .entry)) 0 to))) (collectedLine (acrossOf (collected .indent)) (acrossOf (collected .room)) (now (cells .entry)) (collected .length) (acrossOf (collected .next)))) (words (bytesBetween (now (line .entry)) 0 to)) (bytesBetween (now (line .entry)) 0 to) s) (now (firsts .entry)) (now (seconds .entry)) texts planted q (r .way) (r .written) (pageState (r .layout) (r .page) (r .collected) (now (cells .exit)) (r .stack) (now (arena .exit)) (now (ends .exit))) (now (row .exit)) ⌝ }
 {
     if breaks_first(line, to, layout, collected.there) {
         return break_first(

@@ -111,8 +111,9 @@ fn resume(
         }
         What::Ignored => stay(Way::On, status),
         What::Others(gap) => {
+            let behind = fill::words::as_cells(gap as usize);
             let outcome = composition::filling::fill_rest(
-                gap,
+                behind,
                 line,
                 size,
                 layout,

@@ -3,6 +3,7 @@ use composition::page_rows::Collected;
 use input_stack::frames::What;
 use input_stack::stack::Entry;
 use input_stack::stack::Stack;
+use measure::Cells;
 use measure::Rows;
 use page::position::Page;
 use rules::Name;
@@ -27,7 +28,7 @@ ghost use lib.ListN.{length, take, drop};
 ghost use Rattle.texts.specs.Table.Table.{Names, namesOf, totalLength};
 ghost use Rattle.texts.specs.Table.Places.{textPlace};
 ghost use Rattle.page.specs.Springs.Held.{isText};
-ghost use Rattle.record_checks.specs.Soundness.Checks.{Lent, isSetting, isLength, isTotal, isLayout, isPage, isCollected, isPageState, areArguments, isAt, isItem, isFrame, isDepth, isStack, isOpening, areTexts, isSound};
+ghost use Rattle.record_checks.specs.Soundness.Checks.{Lent, isSetting, isLength, isTotal, isLayout, isPage, isGap, isCollected, isPageState, areArguments, isAt, isItem, isFrame, isDepth, isStack, isOpening, areTexts, isSound};
 
 // The cells of a line, as a width is counted.
 const LINE_CELLS: u32 = LINE_SIZE as u32;
@@ -103,6 +104,17 @@ fn is_page(page: Page, length: Rows) -> bool
     page.number <= 1000000
 }
 
+// A gap of 0 to 2 cells.
+fn is_gap(gap: Cells) -> bool
+    ensures { λ r. ⌜ r ≡ isGap (gap .0) ⌝ }
+{
+    let n = gap.0;
+    if n < 0 {
+        return false;
+    }
+    measure::across(gap) <= 2
+}
+
 // A line within its cells, its room and indent within the settings' ranges, and a gap of at most 2.
 fn is_collected(collected: Collected) -> bool
     ensures { λ r. ⌜ r ≡ isCollected collected ⌝ }
@@ -118,7 +130,8 @@ fn is_collected(collected: Collected) -> bool
     if 239 < measure::across(indent) {
         return false;
     }
-    collected.next <= 2
+    let next = collected.next;
+    is_gap(next)
 }
 
 // The settings, the page, the collected line and the traps.

@@ -18,6 +18,7 @@ use traps::table::Planted;
 ghost use mathlib.Core.Path.{_≡_};
 ghost use Prim.Native.Nat.{_+_, _*_, _<_, min};
 ghost use lib.ListN.{length};
+ghost use Rattle.measure.specs.Counts.{cellsAcross};
 ghost use Rattle.record_words.specs.Decoding.Words.{Short, wordAt, countAt, isSet, cellsAt, rowsAt, settingAt, nameFrom, nameAt, totalBy, layoutIn, pageIn, collectedIn, countsIn, openingIn, sourceFromWords, waitingIn, closingBy, closingIn, trapAt, plantedIn};
 
 // The items on the input stack, the texts and the registers that there are.
@@ -89,6 +90,15 @@ fn cells_at(words: &RecordWords, at: usize) -> Cells
     ensures { λ r. ⌜ r ≡ cellsAt (now (words .entry)) at ⌝ }
 {
     Cells(words[at])
+}
+
+// A gap is a count of cells.
+fn gap_at(words: &RecordWords, at: usize) -> Cells
+    requires { ⌜ at < 68 ⌝ }
+    ensures { λ r. ⌜ r ≡ cellsAcross (countAt (now (words .entry)) at) ⌝ }
+{
+    let n = count_at(words, at) as i32;
+    Cells(n)
 }
 
 fn rows_at(words: &RecordWords, at: usize) -> Rows
@@ -169,7 +179,7 @@ pub fn collected(words: &RecordWords) -> Collected
         indent: cells_at(words, places::LINE_INDENT),
         room: cells_at(words, places::LINE_ROOM),
         length: size_at(words, places::LINE_CELLS),
-        next: size_at(words, places::NEXT_GAP),
+        next: gap_at(words, places::NEXT_GAP),
     }
 }
 

@@ -133,7 +133,8 @@ fn put_collected(words: &mut RecordWords, collected: Collected)
     put_cells(words, places::LINE_INDENT, collected.indent);
     put_cells(words, places::LINE_ROOM, collected.room);
     put_count(words, places::LINE_CELLS, collected.length);
-    put_count(words, places::NEXT_GAP, collected.next);
+    let next = collected.next;
+    put_count(words, places::NEXT_GAP, measure::across(next) as usize);
 }
 
 fn put_counts(words: &mut RecordWords, counts: Counts)

@@ -107,7 +107,7 @@ formed-with g cs row bs ps tf ts ks ls fs ss vs us h st e = record {
       few = omega arith;
       line = record { long = h .cells-long; few = omega arith; narrow = omega arith };
       indent = omega arith;
-      next = omega arith;
+      next = record { plain = refl; most = omega arith };
       columns = record { few = omega arith; long = h .arena-long; ends-long = h .ends-long; sizes = λ i k. absurd (omega arith) };
     };
     lies = lies-none st tf ts ks ls (h .text-firsts-long) (h .text-seconds-long) (h .kinds-long) (h .lengths-long);

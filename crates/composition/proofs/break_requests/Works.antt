@@ -43,9 +43,9 @@ space-refused p a s e = ap (λ (j : Judged ℤ). onValue j s (λ n. skip n s)) e
 module _ (p : printers.Printer) (r : Breaking) (l : List ℕ) (d : PageState) (ps : List Trap) (ts : List Text) (x : State) where
   -- by whether there is a period and a line is collected
   broken : (q there : Bool) → (q && there) ≡ true
-      → break (collectedLine (acrossOf (d .collected .indent)) (acrossOf (d .collected .room)) (d .cells) (d .collected .length) (d .collected .next)) (heldOf ts (heldRequest r) l) (stateAt ts ps d x)
+      → break (collectedLine (acrossOf (d .collected .indent)) (acrossOf (d .collected .room)) (d .cells) (d .collected .length) (acrossOf (d .collected .next))) (heldOf ts (heldRequest r) l) (stateAt ts ps d x)
       ≡ breakOrAct p q (collectedIf there (d .collected) (d .cells)) r l (stateAt ts ps d x)
-  broken true true e = ap (λ (h : List Item). break (collectedLine (acrossOf (d .collected .indent)) (acrossOf (d .collected .room)) (d .cells) (d .collected .length) (d .collected .next)) h (stateAt ts ps d x)) (request-held ts r l)
+  broken true true e = ap (λ (h : List Item). break (collectedLine (acrossOf (d .collected .indent)) (acrossOf (d .collected .room)) (d .cells) (d .collected .length) (acrossOf (d .collected .next))) h (stateAt ts ps d x)) (request-held ts r l)
   broken true false e = absurd (false≢true e)
   broken false there e = absurd (false≢true e)
 
@@ -63,7 +63,7 @@ module _ (p : printers.Printer) (r : Breaking) (l : List ℕ) (d : PageState) (p
 
     -- the collected line is broken
     pub breaks-is : startsFirst (d .page .number) q r ≡ false → (q && d .collected .there) ≡ true
-        → break (collectedLine (acrossOf (d .collected .indent)) (acrossOf (d .collected .room)) (d .cells) (d .collected .length) (d .collected .next)) (heldOf ts (heldRequest r) l) (stateAt ts ps d x)
+        → break (collectedLine (acrossOf (d .collected .indent)) (acrossOf (d .collected .room)) (d .cells) (d .collected .length) (acrossOf (d .collected .next))) (heldOf ts (heldRequest r) l) (stateAt ts ps d x)
         ≡ obeyed p q r n l (stateAt ts ps d x)
     breaks-is e f = broken q (d .collected .there) f ∙ ap (λ (t : Bool). startOrBreak p t q r n l (stateAt ts ps d x)) (sym e)
 

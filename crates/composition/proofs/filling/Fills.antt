@@ -92,14 +92,14 @@ module _ (ts : List Text) (ps : List Trap) (y y' : Layout) (g : Page) (c fresh :
   ws = words (bytesBetween line (o .to) to)
 
   abbrev line₁ : filling.Collected
-  line₁ = collectedLine (acrossOf (c .indent)) (acrossOf (c .room)) cells (o .length) (c .next)
+  line₁ = collectedLine (acrossOf (c .indent)) (acrossOf (c .room)) cells (o .length) (acrossOf (c .next))
 
   abbrev at : rule.Layout → Option filling.Collected → State
   at v w = withCollected w (withLayout v (stateAt ts ps (pageState y g c cells k arena ends) x))
 
   pub overflowed : layoutOf y' ≡ begun (layoutOf y) → h ≡ othersHeld ws gap → bytes ≡ bytesBetween line (o .to) to
       → collectedOf fresh cells' ≡ some (withNext (nextGap ws gap) (begin (layoutOf y) (word (acrossOf (o .gap)) (bytesBetween line (o .from) (o .to))))) → text ≡ fullRow (layoutOf y) line₁
-      → filled (placedOf (acrossOf (c .indent)) (acrossOf (c .room)) cells (c .next) line to (placed.Full o)) gap (stateAt ts ps (pageState y g c cells k arena ends) x)
+      → filled (placedOf (acrossOf (c .indent)) (acrossOf (c .room)) cells (acrossOf (c .next)) line to (placed.Full o)) gap (stateAt ts ps (pageState y g c cells k arena ends) x)
       ≡ works text (down 1 (heldOf ts h bytes) (stateAt ts ps (pageState y' g fresh cells' k arena ends) x))
   overflowed a b e f t =
       let held : heldOf ts h bytes ≡ othersOf ws gap = ap (λ (v : Held). heldOf ts v bytes) b ∙ held-others ts ws gap bytes (ap words e) in
@@ -111,7 +111,7 @@ module _ (ts : List Text) (ps : List Trap) (y y' : Layout) (g : Page) (c fresh :
 -- the words that fitted are collected
 pub collected-all : (ts : List Text) (ps : List Trap) (y : Layout) (g : Page) (c : Collected) (cells line row : List ℕ) (k : Stack) (arena ends : List ℕ) (n gap to : ℕ) (x : State)
     → pageWork ts ps On 0 (pageState y g (longerLine n gap c) cells k arena ends) row x
-    ≡ filled (placedOf (acrossOf (c .indent)) (acrossOf (c .room)) cells (c .next) line to (placed.All n)) gap (stateAt ts ps (pageState y g c cells k arena ends) x)
+    ≡ filled (placedOf (acrossOf (c .indent)) (acrossOf (c .room)) cells (acrossOf (c .next)) line to (placed.All n)) gap (stateAt ts ps (pageState y g c cells k arena ends) x)
 collected-all ts ps y g c cells line row k arena ends n gap to x = refl
 
 -- words that were placed
@@ -133,7 +133,7 @@ way-blank (suc n) [] c q h e = refl
 way-blank (suc n) (w ∷ ws) c q h e = let z : _≡_ {A = ℕ} 0 1 = cc in absurd (omega arith)
 
 way-words : (n : ℕ) (ws : List Word) (t q : Bool) (c : Collected) (cells : List ℕ) → 0 < n → isNone ws ≡ false
-    → textLineCase n ws (collectedIf t c cells) q ≡ wordWay t q (leads ws) (collectedLine (acrossOf (c .indent)) (acrossOf (c .room)) cells (c .length) (c .next))
+    → textLineCase n ws (collectedIf t c cells) q ≡ wordWay t q (leads ws) (collectedLine (acrossOf (c .indent)) (acrossOf (c .room)) cells (c .length) (acrossOf (c .next)))
 way-words zero ws t q c cells h e = absurd (omega arith)
 way-words (suc n) [] t q c cells h e = let z : _≡_ {A = ℕ} 0 1 = cc in absurd (omega arith)
 way-words (suc n) (w ∷ ws) true true c cells h e = refl
@@ -195,22 +195,22 @@ module _ (ts : List Text) (ps : List Trap) (y : Layout) (g : Page) (c : Collecte
 
   -- the words were placed behind what is collected
   pub behind-filled : (cells' : List ℕ) (w : Word) (ws : List Word) (p : Placed) → c .there ≡ true
-      → p ≡ place (collectedLine (acrossOf (c .indent)) (acrossOf (c .room)) cells (c .length) (c .next)) (w ∷ ws)
+      → p ≡ place (collectedLine (acrossOf (c .indent)) (acrossOf (c .room)) cells (c .length) (acrossOf (c .next))) (w ∷ ws)
       → fill (w ∷ ws) gap here ≡ filled p gap (stateAt ts ps (pageState y g c cells' k arena ends) x)
   behind-filled cells' w ws p e d =
       fill-with true w ws e ∙ ap (λ (v : Placed). filled v gap here) (sym d) ∙ sym (filled-any p gap here (collectedOf c cells'))
 
   -- a text line whose words were placed behind what is collected
   pub line-behind : (l cells' : List ℕ) (ws : List Word) (w : Word) (rest : List Word) (p : Placed) → ws ≡ w ∷ rest → c .there ≡ true → leads ws ≡ false → gap ≡ gapAfter ws
-      → p ≡ place (collectedLine (acrossOf (c .indent)) (acrossOf (c .room)) cells (c .length) (c .next)) (after (c .next) ws)
+      → p ≡ place (collectedLine (acrossOf (c .indent)) (acrossOf (c .room)) cells (c .length) (acrossOf (c .next))) (after (acrossOf (c .next)) ws)
       → textWay fills ws l here ≡ filled p gap (stateAt ts ps (pageState y g c cells' k arena ends) x)
   line-behind l cells' ws w rest p o e f q d =
       ap (λ (t : Bool). fill (after (gapHere (collectedIf t c cells)) (standing ws)) (gapAfter ws) here) e
-      ∙ ap (λ (v : List Word). fill v (gapAfter ws) here) (follow (c .next) ws f)
-      ∙ ap (λ (n : ℕ). fill (after (c .next) ws) n here) (sym q)
-      ∙ ap (λ (v : List Word). fill (after (c .next) v) gap here) o
-      ∙ behind-filled cells' (word (c .next) (w .bytes)) rest p e
-      (d ∙ ap (λ (v : List Word). place (collectedLine (acrossOf (c .indent)) (acrossOf (c .room)) cells (c .length) (c .next)) (after (c .next) v)) o)
+      ∙ ap (λ (v : List Word). fill v (gapAfter ws) here) (follow (acrossOf (c .next)) ws f)
+      ∙ ap (λ (n : ℕ). fill (after (acrossOf (c .next)) ws) n here) (sym q)
+      ∙ ap (λ (v : List Word). fill (after (acrossOf (c .next)) v) gap here) o
+      ∙ behind-filled cells' (word (acrossOf (c .next)) (w .bytes)) rest p e
+      (d ∙ ap (λ (v : List Word). place (collectedLine (acrossOf (c .indent)) (acrossOf (c .room)) cells (c .length) (acrossOf (c .next))) (after (acrossOf (c .next)) v)) o)
 
   -- a text line whose first word starts a line
   pub line-new : (l : List ℕ) (ws : List Word) (n : ℕ) (bs : List ℕ) (rest : List Word) → ws ≡ word n bs ∷ rest → c .there ≡ false → gap ≡ gapAfter ws
@@ -233,10 +233,10 @@ module _ (ts : List Text) (ps : List Trap) (y : Layout) (g : Page) (c : Collecte
 
   -- "A line that .. has no bytes or only spaces acts as sp 1"
   pub blank-breaks : (bytes : List ℕ) → c .there ≡ true → bytes ≡ [] → blankFrom (here .collected) here
-      ≡ break (collectedLine (acrossOf (c .indent)) (acrossOf (c .room)) cells (c .length) (c .next)) (heldOf ts (held.Item (what.Acts Sp)) bytes) here
+      ≡ break (collectedLine (acrossOf (c .indent)) (acrossOf (c .room)) cells (c .length) (acrossOf (c .next))) (heldOf ts (held.Item (what.Acts Sp)) bytes) here
   blank-breaks bytes e b =
       ap (λ (t : Bool). blankFrom (collectedIf t c cells) here) e
-      ∙ sym (ap (λ (l : List ℕ). break (collectedLine (acrossOf (c .indent)) (acrossOf (c .room)) cells (c .length) (c .next)) (acts Sp l ∷ []) here) b)
+      ∙ sym (ap (λ (l : List ℕ). break (collectedLine (acrossOf (c .indent)) (acrossOf (c .room)) cells (c .length) (acrossOf (c .next))) (acts Sp l ∷ []) here) b)
 
   pub blank-skips : c .there ≡ false → blankFrom (here .collected) here ≡ skip (pos 1) here
   blank-skips e = ap (λ (t : Bool). blankFrom (collectedIf t c cells) here) e
@@ -254,6 +254,6 @@ module _ (ts : List Text) (ps : List Trap) (y : Layout) (g : Page) (c : Collecte
   text-blank l h e = ap (λ (w : TextLineCase). textWay w (words l) l here) (way-blank (g .number) (words l) (collectedOf c cells) (asItStands (layoutOf y)) h e)
 
   pub text-words : (l : List ℕ) → 0 < g .number → isNone (words l) ≡ false
-      → textLine l here ≡ textWay (wordWay (c .there) (asItStands (layoutOf y)) (leads (words l)) (collectedLine (acrossOf (c .indent)) (acrossOf (c .room)) cells (c .length) (c .next))) (words l) l here
+      → textLine l here ≡ textWay (wordWay (c .there) (asItStands (layoutOf y)) (leads (words l)) (collectedLine (acrossOf (c .indent)) (acrossOf (c .room)) cells (c .length) (acrossOf (c .next)))) (words l) l here
   unfolding textLine
   text-words l h e = ap (λ (w : TextLineCase). textWay w (words l) l here) (way-words (g .number) (words l) (c .there) (asItStands (layoutOf y)) c cells h e)

@@ -24,7 +24,7 @@ use Rattle.page.specs.declared.springs.Way.{Way}
 use Rattle.page.specs.Springs.Held.{heldOf}
 use Rattle.page.specs.Springs.Calls.{closeBy, MoveRefines}
 use Rattle.composition.specs.declared.page_rows.Collected.{Collected}
-use Rattle.composition.specs.PageRows.PageState.{PageState, pageState, stateAt, PageRefines}
+use Rattle.composition.specs.PageRows.PageState.{PageState, pageState, stateAt, PageRefines, SmallGap}
 
 -- What was written from the start of a row is in front.
 pub written-front : (entry bytes exit : List ℕ) (answer : ℕ) → Written entry 0 bytes exit answer → answer ≤ length entry → take answer exit ≡ bytes
@@ -39,7 +39,7 @@ module _ (rule : List Text → State → Next) (fs ss : List ℕ) (k : ℕ) (pla
     pub moves-on : (text row : List ℕ) (written : ℕ) → take written row ≡ text → written ≤ 872 → length row ≡ 872
         → ((ts : List Text) (x : State) → rule ts (stateAt ts (plantedOf planted) d x)
         ≡ works text (down n (heldOf ts h bytes) (stateAt ts (plantedOf planted) (pageState y (d .page) c cells (d .stack) (d .arena) (d .ends)) x)))
-        → LayoutInvariant (layoutOf y) → d .page .number ≤ 1000000 → traps.TrapsInvariant planted → CollectedInvariant cells (c .length) (acrossOf (c .room)) → acrossOf (c .indent) ≤ 239 → c .next ≤ 2
+        → LayoutInvariant (layoutOf y) → d .page .number ≤ 1000000 → traps.TrapsInvariant planted → CollectedInvariant cells (c .length) (acrossOf (c .room)) → acrossOf (c .indent) ≤ 239 → SmallGap (c .next)
         → PageRefines rule fs ss k planted d (r .way) written (pageState y (r .page) c cells (r .stack) arena ends) row
     moves-on text row written e few long law limits number within line indent next = record {
       is = λ st ks ls i x.

@@ -53,7 +53,7 @@ cleared planted d s = record {
   few = s .few;
   line = record { long = s .line .long; few = omega arith; narrow = omega arith };
   indent = omega arith;
-  next = omega arith;
+  next = record { plain = refl; most = omega arith };
   columns = s .columns;
 }
 
@@ -107,7 +107,7 @@ module _ (fs ss : List ℕ) (n : ℕ) (planted : Planted) (d : PageState) (rule 
 -- a break in a state with these parts
 pub break-is : (d : PageState) (ps : List Trap) (held : List Item) (ts : List Text) (x : State)
     → works (row (acrossOf (d .layout .offset .now) + acrossOf (d .collected .indent)) (level (take (d .collected .length) (d .cells)))) (down 1 held (stateAt ts ps (withLine noLine d) x))
-    ≡ break (collectedLine (acrossOf (d .collected .indent)) (acrossOf (d .collected .room)) (d .cells) (d .collected .length) (d .collected .next)) held (stateAt ts ps d x)
+    ≡ break (collectedLine (acrossOf (d .collected .indent)) (acrossOf (d .collected .room)) (d .cells) (d .collected .length) (acrossOf (d .collected .next))) held (stateAt ts ps d x)
 unfolding break
 break-is d ps held ts x = refl
 

@@ -4,6 +4,7 @@ use mathlib.Core.Bool.{Bool, true, false, _||_}
 use mathlib.Core.List.{List, [], _∷_, _++_}
 use Prim.Native.Nat.{ℕ, _≤_, _<_}
 use lib.ListN.{length, replicate}
+use Rattle.measure.specs.Counts.{cellsAcross}
 use Rattle.rules.specs.Bytes.{fixedBlank}
 use Rattle.rules.specs.Filling.{Word, word, leads}
 use Rattle.rules.specs.Filling as rule
@@ -35,7 +36,7 @@ gapBehind ws g = nextGap ws g
 
 -- the collected line with so many cells and this gap behind it
 abbrev pub longerLine : (count gap : ℕ) → Collected → Collected
-longerLine n g c = record { there = true; indent = c .indent; room = c .room; length = n; next = g }
+longerLine n g c = record { there = true; indent = c .indent; room = c .room; length = n; next = cellsAcross g }
 
 -- all words fitted
 abbrev pub collectedTo : (count gap : ℕ) → Layout → Page → Collected → Stack → PageOutcome

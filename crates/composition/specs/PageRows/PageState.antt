@@ -5,6 +5,7 @@ use mathlib.Core.Option.{Option, none, some}
 use mathlib.Core.List.{List}
 use Prim.Native.Nat.{ℕ, _≤_, _<_}
 use lib.ListN.{length, take}
+use Rattle.measure.specs.declared.Cells.{Cells}
 use Rattle.measure.specs.Counts.{acrossOf, downOf, cellsAcross}
 use Rattle.stream.specs.Machine.{works}
 use Rattle.rules.specs.declared.Trap.{Trap}
@@ -41,7 +42,7 @@ use Rattle.composition.specs.declared.page_rows.PageOutcome.{PageOutcome
 
 -- no line is collected
 abbrev pub noLine : Collected
-noLine = record { there = false; indent = cellsAcross 0; room = cellsAcross 0; length = 0; next = 1 }
+noLine = record { there = false; indent = cellsAcross 0; room = cellsAcross 0; length = 0; next = cellsAcross 1 }
 
 -- nothing is written or moved
 abbrev pub pageStayed : Way → Layout → Page → Collected → Stack → PageOutcome
@@ -78,7 +79,7 @@ pageState y g c cs s bs ps = record { layout = y; page = g; collected = c; cells
 
 -- the collected line, if there is one
 abbrev pub collectedIf : (there : Bool) → Collected → (cells : List ℕ) → Option rule.Collected
-collectedIf true c cs = some (collectedLine (acrossOf (c .indent)) (acrossOf (c .room)) cs (c .length) (c .next))
+collectedIf true c cs = some (collectedLine (acrossOf (c .indent)) (acrossOf (c .room)) cs (c .length) (acrossOf (c .next)))
 collectedIf false c cs = none
 
 abbrev pub collectedOf : Collected → (cells : List ℕ) → Option rule.Collected
@@ -95,6 +96,11 @@ stateAt ts ps d x = record {
   closing = x .closing;
 }
 
+-- a gap behind a line: 1 or 2 cells, or 0 in a record that a caller lends; no negative count
+pub record SmallGap (c : Cells) : Type 0 where
+  pub plain : c ≡ cellsAcross (acrossOf c)
+  pub most : acrossOf c ≤ 2
+
 -- what every page state keeps to: the ranges, a row of the page, and lines within their cells
 pub record PageInvariant (planted : Planted) (d : PageState) : Type 0 where
   pub limits : LayoutInvariant (layoutOf (d .layout))
@@ -103,7 +109,7 @@ pub record PageInvariant (planted : Planted) (d : PageState) : Type 0 where
   pub few : traps.TrapsInvariant planted
   pub line : CollectedInvariant (d .cells) (d .collected .length) (acrossOf (d .collected .room))
   pub indent : acrossOf (d .collected .indent) ≤ 239
-  pub next : d .collected .next ≤ 2
+  pub next : SmallGap (d .collected .next)
   pub columns : StackInvariant (d .stack) (d .arena) (d .ends)
 
 -- a piece of work: the text that is written, and the state after it

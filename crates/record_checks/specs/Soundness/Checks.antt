@@ -5,7 +5,7 @@ use mathlib.Core.Option.{Option·getD}
 use mathlib.Core.List.{List, [], _∷_}
 use Prim.Native.Nat.{ℕ, zero, suc, _+_, _*_}
 use lib.Dec.{leb, ltb, eqb}
-use lib.IntN.{ℤ}
+use lib.IntN.{ℤ, pos, negsuc}
 use lib.ListN.{length, take, drop}
 use Rattle.measure.specs.declared.Rows.{Rows}
 use Rattle.measure.specs.Counts.{acrossOf, downOf}
@@ -67,9 +67,14 @@ isLayout y = isSetting 240 (y .line) && isSetting 239 (y .indent) && isSetting 1
 unfoldable pub isPage : Page → (length : Rows) → Bool
 isPage g r = ltb (downOf (g .used)) (downOf r) && leb (g .number) 1000000
 
+-- a gap of 0 to 2 cells
+abbrev pub isGap : ℤ → Bool
+isGap (pos n) = leb n 2
+isGap (negsuc n) = false
+
 -- "expanded line passes 512 bytes" is refused, so no more cells are collected; a line's room is ll at most, its indent "0 to 239", and "the gap .. is 1, or 2"
 unfoldable pub isCollected : Collected → Bool
-isCollected c = leb (c .length) 512 && leb (acrossOf (c .room)) 512 && leb (acrossOf (c .indent)) 239 && leb (c .next) 2
+isCollected c = leb (c .length) 512 && leb (acrossOf (c .room)) 512 && leb (acrossOf (c .indent)) 239 && isGap (c .next .0)
 
 -- "17th trap"
 abbrev pub isPlanted : Planted → Bool

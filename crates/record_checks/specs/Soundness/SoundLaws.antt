@@ -1,14 +1,15 @@
 -- A record that passes the tests keeps to the limits of the whole state, and one that keeps to them passes. Assumes nothing.
 use mathlib.Core.Path.{_≡_, refl, ap, _∙_}
-use mathlib.Core.Bool.{Bool, true, false, _&&_}
+use mathlib.Core.Bool.{Bool, true, false, _&&_, false≢true}
 use mathlib.Core.Option.{Option·getD}
 use mathlib.Core.List.{List}
 use Prim.Native.Nat.{ℕ, _+_, _≤_, _<_}
 use native.Mathlib.Omega.{arith}
 use lib.Dec.{leb, ltb, eqb}
-use lib.IntN.{ℤ}
+use lib.IntN.{ℤ, pos, negsuc}
 use lib.ListN.{length, take}
 use borrow.Author.Tests.{leb-true, le-leb, ltb-true, lt-ltb, eqb-true, eq-eqb}
+use Rattle.measure.specs.declared.Cells.{Cells}
 use Rattle.measure.specs.declared.Rows.{Rows}
 use Rattle.measure.specs.Counts.{acrossOf, downOf}
 use Rattle.rules.specs.Laws.Refusals.{both}
@@ -22,13 +23,13 @@ use Rattle.page.specs.declared.position.Page.{Page}
 use Rattle.fill.specs.Collected.Filled.{CollectedInvariant}
 use Rattle.input_stack.specs.Stack.Frames.{StackInvariant}
 use Rattle.composition.specs.declared.page_rows.Collected.{Collected}
-use Rattle.composition.specs.PageRows.PageState.{pageState, PageInvariant}
+use Rattle.composition.specs.PageRows.PageState.{pageState, SmallGap, PageInvariant}
 use Rattle.page.specs.Springs.Held.{StackFits}
 use Rattle.state.specs.declared.Opening.{Opening}
 use Rattle.state.specs.declared.Status.{Status}
 use Rattle.state.specs.Whole.{textColumns, OpensIn, StateInvariant}
 use Rattle.state.specs.Statuses.{wholeOf}
-use Rattle.record_checks.specs.Soundness.Checks.{Lent, Beside, isSetting, isLength, isTotal, isLayout, isPage, isCollected, isPlanted, isPageState, isStack, isOpeningIf, isOpening, areTexts, isSound}
+use Rattle.record_checks.specs.Soundness.Checks.{Lent, Beside, isSetting, isLength, isTotal, isLayout, isPage, isGap, isCollected, isPlanted, isPageState, isStack, isOpeningIf, isOpening, areTexts, isSound}
 use Rattle.record_checks.specs.Soundness.StackLaws.{and-true, stack-sound, stack-complete}
 
 setting-sound : (m : ℕ) (s : Setting) → isSetting m s ≡ true → (acrossOf (s .now) ≤ m) × (acrossOf (s .former) ≤ m)
@@ -78,21 +79,28 @@ module _ (g : Page) (r : Rows) where
   unfolding isPage
   page-complete a b = and-true (ltb (downOf (g .used)) (downOf r)) (leb (g .number) 1000000) (lt-ltb (downOf (g .used)) (downOf r) a) (le-leb (g .number) 1000000 b)
 
+gap-sound : (z : ℤ) → isGap z ≡ true → SmallGap (record { 0 = z })
+gap-sound (pos n) h = record { plain = refl; most = leb-true n 2 h }
+gap-sound (negsuc n) h = absurd (false≢true h)
+
+gap-complete : (c : Cells) → SmallGap c → isGap (c .0) ≡ true
+gap-complete c h = ap (λ (x : Cells). isGap (x .0)) (h .plain) ∙ le-leb (acrossOf c) 2 (h .most)
+
 module _ (c : Collected) (cs : List ℕ) where
-  collected-sound : length cs ≡ 512 → isCollected c ≡ true → CollectedInvariant cs (c .length) (acrossOf (c .room)) × (acrossOf (c .indent) ≤ 239) × (c .next ≤ 2)
+  collected-sound : length cs ≡ 512 → isCollected c ≡ true → CollectedInvariant cs (c .length) (acrossOf (c .room)) × (acrossOf (c .indent) ≤ 239) × SmallGap (c .next)
   unfolding isCollected
   collected-sound l h =
       let x = leb (c .length) 512 in let y = leb (acrossOf (c .room)) 512 in let z = leb (acrossOf (c .indent)) 239 in
-      let t = both (x && y && z) (leb (c .next) 2) h in let u = both (x && y) z (t .0) in let v = both x y (u .0) in
-      (record { long = l; few = leb-true (c .length) 512 (v .0); narrow = leb-true (acrossOf (c .room)) 512 (v .1) }, leb-true (acrossOf (c .indent)) 239 (u .1), leb-true (c .next) 2 (t .1))
+      let t = both (x && y && z) (isGap (c .next .0)) h in let u = both (x && y) z (t .0) in let v = both x y (u .0) in
+      (record { long = l; few = leb-true (c .length) 512 (v .0); narrow = leb-true (acrossOf (c .room)) 512 (v .1) }, leb-true (acrossOf (c .indent)) 239 (u .1), gap-sound (c .next .0) (t .1))
 
-  collected-complete : CollectedInvariant cs (c .length) (acrossOf (c .room)) → acrossOf (c .indent) ≤ 239 → c .next ≤ 2 → isCollected c ≡ true
+  collected-complete : CollectedInvariant cs (c .length) (acrossOf (c .room)) → acrossOf (c .indent) ≤ 239 → SmallGap (c .next) → isCollected c ≡ true
   unfolding isCollected
   collected-complete l i n =
       let x = leb (c .length) 512 in let y = leb (acrossOf (c .room)) 512 in let z = leb (acrossOf (c .indent)) 239 in
-      and-true (x && y && z) (leb (c .next) 2)
+      and-true (x && y && z) (isGap (c .next .0))
       (and-true (x && y) z (and-true x y (le-leb (c .length) 512 (l .few)) (le-leb (acrossOf (c .room)) 512 (l .narrow))) (le-leb (acrossOf (c .indent)) 239 i))
-      (le-leb (c .next) 2 n)
+      (gap-complete (c .next) n)
 
 module _ (o : Opening) (st tf ts ks ls : List ℕ) (n : ℕ) where
   opening-sound : (t : Bool) → isOpeningIf t o ls n (length st) ≡ true → OpensIn t o (textColumns st tf ts ks ls n)

@@ -8,7 +8,7 @@ use lib.ListN.{length, getD}
 use lib.IntN.{ℤ, pos, negsuc}
 use Rattle.measure.specs.declared.Cells.{Cells}
 use Rattle.measure.specs.declared.Rows.{Rows}
-use Rattle.measure.specs.Counts.{natOf}
+use Rattle.measure.specs.Counts.{natOf, acrossOf, cellsAcross}
 use Rattle.rules.specs.declared.Name.{Name}
 use Rattle.rules.specs.declared.Trap.{Trap}
 use Rattle.settings.specs.declared.lengths.Setting.{Setting}
@@ -75,7 +75,7 @@ pageWords p = wordOf (p .number) ∷ p .used .0 ∷ flagWord (p .last) ∷ []
 
 -- words 15 to 19
 abbrev pub collectedWords : Collected → List ℤ
-collectedWords c = flagWord (c .there) ∷ c .indent .0 ∷ c .room .0 ∷ wordOf (c .length) ∷ wordOf (c .next) ∷ []
+collectedWords c = flagWord (c .there) ∷ c .indent .0 ∷ c .room .0 ∷ wordOf (c .length) ∷ wordOf (acrossOf (c .next)) ∷ []
 
 -- words 20 to 22
 abbrev pub countsWords : Counts → List ℤ
@@ -162,7 +162,7 @@ abbrev pub pageIn : List ℤ → Page
 pageIn ws = record { number = countAt ws 12; used = rowsAt ws 13; last = isSet (wordAt ws 14) }
 
 abbrev pub collectedIn : List ℤ → Collected
-collectedIn ws = record { there = isSet (wordAt ws 15); indent = cellsAt ws 16; room = cellsAt ws 17; length = countAt ws 18; next = countAt ws 19 }
+collectedIn ws = record { there = isSet (wordAt ws 15); indent = cellsAt ws 16; room = cellsAt ws 17; length = countAt ws 18; next = cellsAcross (countAt ws 19) }
 
 abbrev pub countsIn : List ℤ → Counts
 countsIn ws = record { depth = countAt ws 20; texts = countAt ws 21; registers = countAt ws 22 }

@@ -7,7 +7,7 @@ use native.Mathlib.Omega.{arith}
 use lib.ListN.{length, getD, length-append}
 use lib.Seq.{getD-at}
 use lib.IntN.{ℤ, pos}
-use Rattle.measure.specs.Counts.{natOf}
+use Rattle.measure.specs.Counts.{natOf, acrossOf}
 use Rattle.rules.specs.declared.Name.{Name}
 use Rattle.rules.specs.declared.Trap.{Trap}
 use Rattle.settings.specs.declared.layout.Layout.{Layout}
@@ -22,6 +22,7 @@ use Rattle.record.specs.declared.Waiting.{Waiting}
 use Rattle.record.specs.declared.Closing.{Closing}
 use Rattle.record.specs.declared.Closing.the-variants as closing
 use Rattle.record_words.specs.declared.decoding.Counts.{Counts}
+use Rattle.composition.specs.PageRows.PageState.{SmallGap}
 use Rattle.record_words.specs.Decoding.Words.{Short, TwoByteName, refusalNumber, AllNamed, nameToWord, totalTag, totalValue, flagWord, trapWords, closingTag, closingNumber, closingLine, layoutWords, pageWords, collectedWords, countsWords, openingWords, sourceWords, waitingWords, closingWords, wordOf, wordsOf, isSet, nameFrom, nameAt, totalBy, trapsFrom, closingBy, layoutIn, pageIn, collectedIn, countsIn, openingIn, sourceFromWords, waitingIn, closingIn, plantedIn}
 
 abbrev pub refusalLine : Closing → ℕ
@@ -85,8 +86,10 @@ module _ (l : Layout) (p : Page) (c : Collected) (n : Counts) (o : Opening) (s :
   pub page-back : Short (p .number) → pageIn (wordsOf l p c n o s w k t) ≡ p
   page-back h = rw (flag-back (p .last), count-back (p .number) h)
 
-  pub collected-back : Short (c .length) → Short (c .next) → collectedIn (wordsOf l p c n o s w k t) ≡ c
-  collected-back h m = rw (flag-back (c .there), count-back (c .length) h, count-back (c .next) m)
+  pub collected-back : Short (c .length) → SmallGap (c .next) → collectedIn (wordsOf l p c n o s w k t) ≡ c
+  collected-back h g =
+      let m : Short (acrossOf (c .next)) = omega (arith, g .most) in
+      rw (flag-back (c .there), count-back (c .length) h, count-back (acrossOf (c .next)) m, ← g .plain)
 
   pub counts-back : Short (n .depth) → Short (n .texts) → Short (n .registers) → countsIn (wordsOf l p c n o s w k t) ≡ n
   counts-back h m q = rw (count-back (n .depth) h, count-back (n .texts) m, count-back (n .registers) q)

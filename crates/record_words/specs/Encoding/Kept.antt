@@ -131,7 +131,7 @@ module _ (r : Record) (st : List ℕ) (l : ValidRecord r st) (t : Typed r) where
 
   read-collected : collectedIn (wordsIn r) ≡ r .status .collected
   read-collected = collected-back y (r .status .page) (r .status .collected) (countsOf (r .status)) o (r .source) (r .waiting) (r .closing) (r .status .planted)
-      (omega (arith, l .formed .sound .pageState .line .few)) (omega (arith, l .formed .sound .pageState .next))
+      (omega (arith, l .formed .sound .pageState .line .few)) (l .formed .sound .pageState .next)
 
   read-counts : countsIn (wordsIn r) ≡ countsOf (r .status)
   read-counts = counts-back y (r .status .page) (r .status .collected) (countsOf (r .status)) o (r .source) (r .waiting) (r .closing) (r .status .planted)

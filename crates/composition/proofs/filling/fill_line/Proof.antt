@@ -7,13 +7,11 @@ use native.Mathlib.Omega.{arith}
 use denote.Ref.{now}
 use borrow.Author.Needs.{needs}
 use Rattle.measure.specs.Counts.{acrossOf}
-use Rattle.measure.specs.declared.Cells.{Cells}
-use Rattle.rules.specs.Filling.{Word, words, leads, after, place, gapAfter}
+use Rattle.rules.specs.Filling.{Word, words, leads, place, gapAfter}
 use Rattle.rules.specs.TextLines.{fills, textWay}
 use Rattle.traps.specs.Table.Table.{plantedOf}
 use Rattle.texts.specs.Table.Table.{textsOf}
 use Rattle.fill.specs.Words.Parts.{bytesBetween}
-use Rattle.fill.specs.Collected.Filled.{collectedLine}
 use Rattle.fill.specs.Words.Words.{wordsFrom}
 use Rattle.page.proofs.springs.Stacks.{fits-few}
 use Rattle.composition.specs.PageRows.PageState.{pageState, stateAt}
@@ -68,11 +66,8 @@ gap-small c = omega (arith, c .count .ensures, c .before .gap-after .ensures .1)
 cast-gap : tie.Need-cast-gap
 cast-gap c = record { fits = omega (arith, gap-small c) }
 
-as-cells-requires : tie.Need-as-cells-requires
-as-cells-requires c κs = search needs
-
 place-requires : tie.Need-place-requires
-place-requires c κs = rw (c .before .as-cells .ensures) (search needs)
+place-requires c κs = search needs
 
 fill-placed-requires : tie.Need-fill-placed-requires
 fill-placed-requires c κs =
@@ -89,7 +84,7 @@ fill-placed-requires c κs =
 
 returns-2 : tie.Need-returns-2
 returns-2 c =
-    let k = c .before .before .before .before .before .before .before .before .before .before in let y = k .before .before .before .before .before .before in let a = y .args in let p = c .before .before .before .before .before .place .ensures in let n = c .before .before .before .before .before .before .before .as-cells in let t = c .before .before .before .before .before .before .before .before .before .if1 .taken in
+    let k = c .before .before .before .before .before .before .before .before .before .before in let y = k .before .before .before .before .before .before in let a = y .args in let p = c .before .before .before .before .before .place .ensures in let t = c .before .before .before .before .before .before .before .before .before .if1 .taken in
     let d = pageState (a .layout) (a .page) (a .collected) (now (a .cells)) (a .stack) (now (a .arena)) (now (a .ends)) in
     let f = k .before .before .before .found .given in
     let l = bytesBetween (now (a .line)) 0 (a .to) in
@@ -97,7 +92,7 @@ returns-2 c =
     let q : leads (words l) ≡ false = subst (λ (v : Bool). Follows v (words l)) t (y .pre .2) in
     worked-as _ (now (a .firsts)) (now (a .seconds)) (a .texts) (a .planted) d _ (a .layout) (a .collected) _ _ _ _ _ (c .fill-placed .ensures)
     (λ ts x. line-behind ts (plantedOf (a .planted)) (a .layout) (a .page) (a .collected) (now (a .cells)) (a .stack) (now (a .arena)) (now (a .ends)) (k .count .result) x l _ (words l) _ _ _ e t q (gap-is k)
-    (p .is (acrossOf (a .collected .indent)) (a .collected .next) ∙ ap (λ (v : Cells). place (collectedLine (acrossOf (a .collected .indent)) (acrossOf (a .collected .room)) (now (a .cells)) (a .collected .length) (a .collected .next)) (after (acrossOf v) (words l))) (n .ensures)))
+    (p .is (acrossOf (a .collected .indent)) (acrossOf (a .collected .next))))
 
 fill-new-requires : tie.Need-fill-new-requires
 fill-new-requires c κs =
@@ -126,7 +121,6 @@ fill-line-spec =
     gap-after-requires
     count-requires
     cast-gap
-    as-cells-requires
     place-requires
     fill-placed-requires
     returns-2

@@ -6,7 +6,7 @@ use native.Mathlib.Omega.{arith}
 use lib.ListN.{length, replicate}
 use denote.Ref.{now}
 use borrow.Author.Needs.{needs}
-use Rattle.measure.specs.Counts.{acrossOf}
+use Rattle.measure.specs.Counts.{acrossOf, cellsAcross}
 use Rattle.rules.specs.Bytes.{fixedBlank}
 use Rattle.rules.specs.Settings as rule
 use Rattle.rules.specs.Filling.{words}
@@ -49,7 +49,7 @@ fill-placed-requires c κs =
           few = b .sound .few;
           line = record { long = p .cells .long; few = n .ensures .1 .few; narrow = p .cells .narrow };
           indent = rw (i .ensures) (indent-most (layoutOf (a .layout)) (b .sound .limits));
-          next = omega arith;
+          next = record { plain = refl; most = omega arith };
           columns = b .sound .columns;
         };
         items = b .items;
@@ -65,7 +65,7 @@ returns c =
     let y = c .before .before .before .before .before .before .before .before .before .before .before .before in let a = y .args in let b = y .pre .0 in let q = y .pre .1 in
     let n = c .before .before .before .before .before .before .before .begin-line in let u = c .before .before .before .before .before .before .before .before .before .begun in let r = c .before .before .before .before .before .before .before .before .before .before .room-now in let i = c .before .before .before .before .before .before .before .before .before .before .before .indent-now in let p = c .before .before .before .before .before .place-others .ensures in
     let d = pageState (a .layout) (a .page) (a .collected) (now (a .cells)) (a .stack) (now (a .arena)) (now (a .ends)) in
-    let fresh : Collected = record { there = true; indent = i .result; room = r .result; length = n .result; next = 1 } in
+    let fresh : Collected = record { there = true; indent = i .result; room = r .result; length = n .result; next = cellsAcross 1 } in
     let bs = bytesBetween (now (a .line)) (a .found .from) (a .found .to) in
     worked-as _ (now (a .firsts)) (now (a .seconds)) (a .texts) (a .planted) d _ (u .result) fresh _ _ _ _ _ (c .fill-placed .ensures)
     (λ ts x. begun-filled ts (plantedOf (a .planted)) (a .layout) (a .page) (a .collected) (now (a .cells)) (a .stack) (now (a .arena)) (now (a .ends)) (a .gap) x (u .result) fresh _

@@ -1,4 +1,5 @@
 -- `composition::filling::fill_placed` meets its contract. Assumes nothing.
+use mathlib.Core.Path.{refl}
 use native.Mathlib.Omega.{arith}
 use denote.Ref.{now}
 use borrow.Author.Needs.{needs}
@@ -29,7 +30,7 @@ returns c =
     rw (c .collect .ensures, n .1) (record {
       is = λ st ks ls i x. collected-all _ _ (a .layout) (a .page) (a .collected) (now (a .cells)) (now (a .line)) (now (a .row)) (a .stack) (now (a .arena)) (now (a .ends)) (n .0 .0) (a .gap) (a .to) x;
       good = λ st ks ls i g. g;
-      sound = record { limits = b .sound .limits; above = b .sound .above; numbered = b .sound .numbered; few = b .sound .few; line = f .0; indent = b .sound .indent; next = f .1; columns = b .sound .columns };
+      sound = record { limits = b .sound .limits; above = b .sound .above; numbered = b .sound .numbered; few = b .sound .few; line = f .0; indent = b .sound .indent; next = record { plain = refl; most = f .1 }; columns = b .sound .columns };
       fits = fits-few (a .stack) (now (a .ends)) (b .items);
       few = omega arith;
       long = b .long;

@@ -72,18 +72,18 @@ returns c =
     let fresh : Collected = record { there = true; indent = i .result; room = r .result; length = n .result; next = g .result } in
     rw (c .lead-to .ensures)
     (moves-on _ (now (a .firsts)) (now (a .seconds)) (a .texts) (a .planted) d (u .result) fresh _ (h .result) (now (l .result)) 1 (m .result) _ _ (m .ensures)
-    (fullRow (layoutOf (a .layout)) (collectedLine (acrossOf (a .collected .indent)) (acrossOf (a .collected .room)) (now (a .cells)) (a .o .length) (a .collected .next)))
+    (fullRow (layoutOf (a .layout)) (collectedLine (acrossOf (a .collected .indent)) (acrossOf (a .collected .room)) (now (a .cells)) (a .o .length) (acrossOf (a .collected .next))))
     _ (w .result)
-    (written-front _ _ _ _ (w .ensures .0) (omega (arith, w .ensures .1, b .long)) ∙ full-is (layoutOf (a .layout)) (now (a .cells)) (a .o .length) (acrossOf (a .collected .indent)) (acrossOf (a .collected .room)) (a .collected .next))
+    (written-front _ _ _ _ (w .ensures .0) (omega (arith, w .ensures .1, b .long)) ∙ full-is (layoutOf (a .layout)) (now (a .cells)) (a .o .length) (acrossOf (a .collected .indent)) (acrossOf (a .collected .room)) (acrossOf (a .collected .next)))
     (w .ensures .1) (w .ensures .0 .long ∙ b .long)
     (λ ts x. overflowed ts (plantedOf (a .planted)) (a .layout) (u .result) (a .page) (a .collected) fresh (now (a .cells)) _ (now (a .line)) (a .stack) (now (a .arena)) (now (a .ends)) (a .o) (a .gap) (a .to) (h .result) (now (l .result)) _ x
     (u .ensures .is) (h .ensures) (l .ensures)
-    (ap some (line-begun (layoutOf (a .layout)) (i .result) (r .result) _ (n .result) (g .result) (nextGap ws (a .gap)) (acrossOf (a .o .gap)) (bytesBetween (now (a .line)) (a .o .from) (a .o .to)) (i .ensures) (r .ensures .is) (written-front _ _ _ _ (n .ensures .0) (omega (arith, n .ensures .1 .few, q .collected .long))) (g .ensures)))
+    (ap some (line-begun (layoutOf (a .layout)) (i .result) (r .result) _ (n .result) (acrossOf (g .result)) (nextGap ws (a .gap)) (acrossOf (a .o .gap)) (bytesBetween (now (a .line)) (a .o .from) (a .o .to)) (i .ensures) (r .ensures .is) (written-front _ _ _ _ (n .ensures .0) (omega (arith, n .ensures .1 .few, q .collected .long))) (ap acrossOf (g .ensures))))
     refl)
     (u .ensures .limits) (b .sound .numbered) (b .sound .few)
     (record { long = n .ensures .1 .long; few = n .ensures .1 .few; narrow = omega (arith, r .ensures .most) })
     (rw (i .ensures) (indent-most (layoutOf (a .layout)) (b .sound .limits)))
-    (rw (g .ensures) (gap-small ws (a .gap) (q .small))))
+    (rw (g .ensures) (record { plain = refl; most = gap-small ws (a .gap) (q .small) })))
 
 pub overflow-spec : {M : Type 1} → statement M
 overflow-spec =

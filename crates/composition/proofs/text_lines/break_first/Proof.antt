@@ -27,7 +27,7 @@ returns : tie.Need-returns
 returns c =
     let y = c .before .before .before .before .before .before in let a = y .args in
     worked-as _ (now (a .firsts)) (now (a .seconds)) (a .texts) (a .planted) (pageState (a .layout) (a .page) (a .collected) (now (a .cells)) (a .stack) (now (a .arena)) (now (a .ends))) _ (a .layout) (a .collected) (now (a .cells)) _ _ _ _ (c .break-line .ensures)
-    (λ ts x. sym (ap (λ (v : List ℕ). break (collectedLine (acrossOf (a .collected .indent)) (acrossOf (a .collected .room)) (now (a .cells)) (a .collected .length) (a .collected .next)) (again (plainText v) ∷ []) (stateAt ts (plantedOf (a .planted)) (pageState (a .layout) (a .page) (a .collected) (now (a .cells)) (a .stack) (now (a .arena)) (now (a .ends))) x)) (c .before .before .before .before .slice .ensures)))
+    (λ ts x. sym (ap (λ (v : List ℕ). break (collectedLine (acrossOf (a .collected .indent)) (acrossOf (a .collected .room)) (now (a .cells)) (a .collected .length) (acrossOf (a .collected .next))) (again (plainText v) ∷ []) (stateAt ts (plantedOf (a .planted)) (pageState (a .layout) (a .page) (a .collected) (now (a .cells)) (a .stack) (now (a .arena)) (now (a .ends))) x)) (c .before .before .before .before .slice .ensures)))
 
 pub break-first-spec : {M : Type 1} → statement M
 break-first-spec = tie.close (tie.spec slice-requires break-line-requires returns)

@@ -62,8 +62,14 @@ stay-requires-2 c κs = search needs
 enum-known-what-2 : tie.Need-enum-known-what-2
 enum-known-what-2 c = search needs
 
+cast-as-cells : tie.Need-cast-as-cells
+cast-as-cells c = search needs
+
+as-cells-requires : tie.Need-as-cells-requires
+as-cells-requires c κs = search needs
+
 fill-rest-requires : tie.Need-fill-rest-requires
-fill-rest-requires c κs = let y = (c .before .before .before .before .before .before .before .before .before .before .before .before .before .before .before) in let a = y .args in let b = y .pre .0 in let i = y .pre .1 in (page-ready (a .status) (now (a .cells)) (now (a .arena)) (now (a .ends)) (now (a .store)) (now (a .text-firsts)) (now (a .text-seconds)) (now (a .kinds)) (now (a .lengths)) (now (a .firsts)) (now (a .seconds)) (now (a .values)) (now (a .steps)) (now (a .line)) (now (a .row)) (a .printer) b, (record { long = i .long; ordered = omega arith; few = i .few }), subst PlainItem (c .before .before .before .before .before .before .before .what2 .given .1) (i .plain))
+fill-rest-requires c κs = let y = (c .before .before .before .before .before .before .before .before .before .before .before .before .before .before .before .before) in let a = y .args in let b = y .pre .0 in let i = y .pre .1 in (page-ready (a .status) (now (a .cells)) (now (a .arena)) (now (a .ends)) (now (a .store)) (now (a .text-firsts)) (now (a .text-seconds)) (now (a .kinds)) (now (a .lengths)) (now (a .firsts)) (now (a .seconds)) (now (a .values)) (now (a .steps)) (now (a .line)) (now (a .row)) (a .printer) b, (record { long = i .long; ordered = omega arith; few = i .few }), rw (c .before .before .before .before .before .before .as-cells .ensures) (subst PlainItem (c .before .before .before .before .before .before .before .before .what2 .given .1) (i .plain)))
 
 moved-requires-2 : tie.Need-moved-requires-2
 moved-requires-2 c κs = search needs
@@ -105,7 +111,7 @@ returns-4 : tie.Need-returns-4
 returns-4 c = let y = (c .before .before .before .before .before .before .before .before .before) in let a = y .args in let b = y .pre .0 in rw (c .before .enum-told3 .given .1, c .stay2 .ensures) (stay-refines (λ s. goes s) (wholeOf (a .status) (now (a .cells)) (now (a .arena)) (now (a .ends)) (now (a .store)) (now (a .text-firsts)) (now (a .text-seconds)) (now (a .kinds)) (now (a .lengths)) (now (a .firsts)) (now (a .seconds)) (now (a .values)) (now (a .steps))) On _ (b .sound) (b .items) (b .long) (λ x. refl))
 
 returns-5 : tie.Need-returns-5
-returns-5 c = let y = (c .before .before .before .before .before .before .before .before .before .before .before .before .before .before .before .before .before) in let a = y .args in let b = y .pre .0 in let g = c .before .before .before .before .before .before .before .before .before .what2 .given .0 in rw (c .before .before .before .before .before .before .before .before .before .what2 .given .1, c .moved2 .ensures) (refines-as _ (resumed (printerOf (a .printer)) (what.Others (g .0)) (take (a .size) (now (a .line)))) (wholeOf (a .status) (now (a .cells)) (now (a .arena)) (now (a .ends)) (now (a .store)) (now (a .text-firsts)) (now (a .text-seconds)) (now (a .kinds)) (now (a .lengths)) (now (a .firsts)) (now (a .seconds)) (now (a .values)) (now (a .steps))) _ _ _ _ (λ x. sym (ap (λ (l : List ℕ). fill (words l) (g .0) (stateIn (wholeOf (a .status) (now (a .cells)) (now (a .arena)) (now (a .ends)) (now (a .store)) (now (a .text-firsts)) (now (a .text-seconds)) (now (a .kinds)) (now (a .lengths)) (now (a .firsts)) (now (a .seconds)) (now (a .values)) (now (a .steps))) x)) (sym (part-zero (now (a .line)) (a .size))))) (page-refines (λ ts s. fill (words (bytesBetween (now (a .line)) 0 (a .size))) (g .0) s) (wholeOf (a .status) (now (a .cells)) (now (a .arena)) (now (a .ends)) (now (a .store)) (now (a .text-firsts)) (now (a .text-seconds)) (now (a .kinds)) (now (a .lengths)) (now (a .firsts)) (now (a .seconds)) (now (a .values)) (now (a .steps))) _ _ _ _ (b .sound) (c .before .fill-rest .ensures)))
+returns-5 c = let y = (c .before .before .before .before .before .before .before .before .before .before .before .before .before .before .before .before .before .before) in let a = y .args in let b = y .pre .0 in let g = c .before .before .before .before .before .before .before .before .before .before .what2 .given .0 in rw (c .before .before .before .before .before .before .before .before .before .before .what2 .given .1, c .moved2 .ensures) (refines-as _ (resumed (printerOf (a .printer)) (what.Others (g .0)) (take (a .size) (now (a .line)))) (wholeOf (a .status) (now (a .cells)) (now (a .arena)) (now (a .ends)) (now (a .store)) (now (a .text-firsts)) (now (a .text-seconds)) (now (a .kinds)) (now (a .lengths)) (now (a .firsts)) (now (a .seconds)) (now (a .values)) (now (a .steps))) _ _ _ _ (λ x. sym (ap (λ (l : List ℕ). fill (words l) (g .0) (stateIn (wholeOf (a .status) (now (a .cells)) (now (a .arena)) (now (a .ends)) (now (a .store)) (now (a .text-firsts)) (now (a .text-seconds)) (now (a .kinds)) (now (a .lengths)) (now (a .firsts)) (now (a .seconds)) (now (a .values)) (now (a .steps))) x)) (sym (part-zero (now (a .line)) (a .size))))) (page-refines (λ ts s. fill (words (bytesBetween (now (a .line)) 0 (a .size))) (g .0) s) (wholeOf (a .status) (now (a .cells)) (now (a .arena)) (now (a .ends)) (now (a .store)) (now (a .text-firsts)) (now (a .text-seconds)) (now (a .kinds)) (now (a .lengths)) (now (a .firsts)) (now (a .seconds)) (now (a .values)) (now (a .steps))) _ _ _ _ (b .sound) (rw (c .before .before .before .before .before .before .before .before .as-cells .ensures) at (c .before .fill-rest .ensures))))
 
 returns-6 : tie.Need-returns-6
 returns-6 c = let y = (c .before .before .before .before .before .before .before .before .before .before .before .before .before .before .before .before .before .before .before .before) in let a = y .args in let b = y .pre .0 in let g = c .before .before .before .before .before .before .before .before .before .before .before .before .what3 .given .0 in rw (c .before .before .before .before .before .before .before .before .before .before .before .before .what3 .given .1, c .moved3 .ensures) (refines-as _ (resumed (printerOf (a .printer)) (what.Acts (g .0)) (take (a .size) (now (a .line)))) (wholeOf (a .status) (now (a .cells)) (now (a .arena)) (now (a .ends)) (now (a .store)) (now (a .text-firsts)) (now (a .text-seconds)) (now (a .kinds)) (now (a .lengths)) (now (a .firsts)) (now (a .seconds)) (now (a .values)) (now (a .steps))) _ _ _ _ (λ x. ap (λ (l : List ℕ). act (printerOf (a .printer)) (g .0) l (stateIn (wholeOf (a .status) (now (a .cells)) (now (a .arena)) (now (a .ends)) (now (a .store)) (now (a .text-firsts)) (now (a .text-seconds)) (now (a .kinds)) (now (a .lengths)) (now (a .firsts)) (now (a .seconds)) (now (a .values)) (now (a .steps))) x)) (c .before .before .before .before .before .before .before .before .before .slice2 .ensures ∙ part-zero _ _)) (page-refines (λ ts s. act (printerOf (a .printer)) (g .0) (now (c .before .before .before .before .before .before .before .before .before .slice2 .result)) s) (wholeOf (a .status) (now (a .cells)) (now (a .arena)) (now (a .ends)) (now (a .store)) (now (a .text-firsts)) (now (a .text-seconds)) (now (a .kinds)) (now (a .lengths)) (now (a .firsts)) (now (a .seconds)) (now (a .values)) (now (a .steps))) _ _ _ _ (b .sound) (c .before .act .ensures)))
@@ -129,6 +135,8 @@ resume-spec =
     enum-told-3
     stay-requires-2
     enum-known-what-2
+    cast-as-cells
+    as-cells-requires
     fill-rest-requires
     moved-requires-2
     enum-known-what-3

@@ -25,12 +25,15 @@ returns-3 c =
     let b = c .before .before .before in let a = b .before .before .before in
     rw (le-leb _ _ (a .if1 .left), ← b .before .across .ensures, le-leb _ _ (b .if2 .left), ← c .before .across2 .ensures, lt-leb _ _ (c .if3 .taken))
 
+is-gap-requires : tie.Need-is-gap-requires
+is-gap-requires c κs = search needs
+
 returns-4 : tie.Need-returns-4
 unfolding isCollected
 returns-4 c =
-    let d = c .before in let b = d .before .before .before in let a = b .before .before .before in
-    rw (le-leb _ _ (a .if1 .left), ← b .before .across .ensures, le-leb _ _ (b .if2 .left), ← d .before .across2 .ensures, le-leb _ _ (d .if3 .left))
+    let d = c .before .before in let b = d .before .before .before in let a = b .before .before .before in
+    rw (le-leb _ _ (a .if1 .left), ← b .before .across .ensures, le-leb _ _ (b .if2 .left), ← d .before .across2 .ensures, le-leb _ _ (d .if3 .left)) (c .is-gap .ensures)
 
 pub is-collected-spec : {M : Type 1} → statement M
 is-collected-spec =
-    tie.close (tie.spec returns across-requires returns-2 across-requires-2 returns-3 returns-4)
+    tie.close (tie.spec returns across-requires returns-2 across-requires-2 returns-3 is-gap-requires returns-4)

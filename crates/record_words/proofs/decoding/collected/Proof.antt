@@ -15,11 +15,11 @@ cells-at-requires-2 c κs = search needs
 size-at-requires : tie.Need-size-at-requires
 size-at-requires c κs = search needs
 
-size-at-requires-2 : tie.Need-size-at-requires-2
-size-at-requires-2 c κs = search needs
+gap-at-requires : tie.Need-gap-at-requires
+gap-at-requires c κs = search needs
 
 returns : tie.Need-returns
-returns c = rw (c .size-at2 .ensures .0, c .before .size-at .ensures .0, c .before .before .cells-at2 .ensures, c .before .before .before .cells-at .ensures, c .before .before .before .before .flag-at .ensures)
+returns c = rw (c .gap-at .ensures, c .before .size-at .ensures .0, c .before .before .cells-at2 .ensures, c .before .before .before .cells-at .ensures, c .before .before .before .before .flag-at .ensures)
 
 pub collected-spec : {M : Type 1} → statement M
 collected-spec =
@@ -29,5 +29,5 @@ collected-spec =
     cells-at-requires
     cells-at-requires-2
     size-at-requires
-    size-at-requires-2
+    gap-at-requires
     returns)
