@@ -1,3 +1,5 @@
+#![tactic(auto)]
+
 // Formats documents on both sides of each bound, whole and in small blocks and rooms, and writes their pages and what the calls
 // answered. It holds no rule: it lends memory and calls the session.
 //

@@ -1,3 +1,5 @@
+#![tactic(auto)]
+
 // The turns of a call: what waits is written, and then a piece of work is done, bytes are taken or the end is read.
 pub mod item_work;
 pub mod source_input;

@@ -1,3 +1,5 @@
+#![tactic(auto)]
+
 // Rows are put on the page by text lines and by requests that break; requests that do not break leave the collected line as it is.
 pub mod break_requests;
 pub mod eject;

@@ -1,3 +1,5 @@
+#![tactic(auto)]
+
 // One piece of work on the whole state: a line as it was taken, and the items of the input stack.
 pub mod held_items;
 pub mod stored_lines;

@@ -1,3 +1,5 @@
+#![tactic(auto)]
+
 // What an expanded line does.
 pub mod control_lines;
 pub mod expanded_lines;

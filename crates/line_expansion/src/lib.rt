@@ -1,3 +1,5 @@
+#![tactic(auto)]
+
 // A line as it was taken, up to its expansion: a body line, a control line or words.
 ghost use Rattle.settings.specs.Layout.Layouts.{printer_of, layout_of};
 ghost use Rattle.page.specs.Position.Landing.{page_of};

@@ -1,3 +1,5 @@
+#![tactic(auto)]
+
 // Units of 1/240 inch, the scales of literals, and counts of cells and of rows.
 ghost use Rattle.std.specs.Prelude.{◌≡◌, pos, ◌*ℤ◌};
 ghost use Rattle.measure.specs.Pitches.{ten_pitch};

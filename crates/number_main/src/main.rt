@@ -1,3 +1,5 @@
+#![tactic(auto)]
+
 // Reads arguments of requests, one to a line, and writes for each its value in units, in cells and in rows, or that it is refused.
 ghost use Rattle.std.specs.Prelude.{◌≤◌, length};
 

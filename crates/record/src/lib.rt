@@ -1,3 +1,5 @@
+#![tactic(auto)]
+
 // The record of a session, and what a turn of a call leads to.
 ghost use Rattle.std.specs.Prelude.{◌≡◌};
 ghost use Rattle.source_line.specs.Writing.{Writes};

@@ -1,3 +1,5 @@
+#![tactic(auto)]
+
 // The checks of a record that a caller hands in.
 pub mod soundness;
 pub mod state_limits;

@@ -1,3 +1,5 @@
+#![tactic(auto)]
+
 // A record as words for C, and back.
 pub mod decoding;
 pub mod encoding;

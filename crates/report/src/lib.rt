@@ -1,3 +1,5 @@
+#![tactic(auto)]
+
 // What the programs that run the crates write with: text and signed numbers on standard output.
 ghost use Rattle.std.specs.Prelude.{◌≡◌};
 

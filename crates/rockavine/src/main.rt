@@ -1,3 +1,5 @@
+#![tactic(auto)]
+
 // Formats a file, or standard input, and writes the pages as they come. It holds no rule: it lends memory and calls the session.
 use libc::{STDERR_FILENO, STDIN_FILENO, STDOUT_FILENO};
 use record::Record;

@@ -1,3 +1,5 @@
+#![tactic(auto)]
+
 // The session for C: a record is 68 words and 13 arrays of numbers, any bytes make one, and the arrays are lent where they lie.
 pub mod replies;
 

@@ -1,3 +1,5 @@
+#![tactic(auto)]
+
 // The types that the rules of document 01 and the code share. What the rules say is in specs/, in document 01's order.
 pub mod arrays;
 

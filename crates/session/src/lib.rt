@@ -1,3 +1,5 @@
+#![tactic(auto)]
+
 // A session: calls that take bytes of a source and write bytes of its pages.
 
 ghost use Rattle.std.specs.Prelude.{◌≡◌};

@@ -1,3 +1,5 @@
+#![tactic(auto)]
+
 // The settings of lines and pages, and the requests that change them.
 pub mod layout;
 pub mod lengths;

@@ -1,3 +1,5 @@
+#![tactic(auto)]
+
 // The two ends of a session: the bytes of a source line are gathered, and the bytes of a row that wait are written.
 ghost use Rattle.std.specs.Prelude.{◌≡◌, ◌≤◌, min, length};
 ghost use Rattle.std.proofs.Math.Seq.{paste};

@@ -1,3 +1,5 @@
+#![tactic(auto)]
+
 // The whole state that a line is dealt with in, but for its lent arrays.
 ghost use Rattle.std.specs.Prelude.{◌≡◌};
 ghost use Rattle.state.specs.Steps.{stayed, moved_to, with_register_count, with_planted, with_text_count, with_status_stack};

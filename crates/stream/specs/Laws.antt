@@ -4,7 +4,7 @@ use Rattle.std.proofs.Common.{sym, ap, ◌∙◌, subst, append_assoc, append-ni
 use Rattle.std.proofs.Math.Path.{fun_ext}
 use Rattle.stream.specs.Answers.{Closing, ReplyKind, needs_input, needs_room, closes}
 use Rattle.stream.specs.Machine.{Step, works, asks, closed, Machine, Pages, pages_after, Outcome, stop, writing, taking, flush, pages_by, call_by, fuel, pages_from, call_from, Below, Falls}
-use Rattle.stream.specs.Condition3.{Call, joined_bytes, Split, here, there, Condition3, Calls, more_calls}
+use Rattle.stream.specs.Condition3.{Call, joined_bytes, Split, here, there, Condition3, Calls, more_calls, no_calls}
 
 module _ {S : Type 0} (m : Machine S) (Good : S → Type 0) (falls : Falls m Good) where
   -- the pages and the call do not depend on the fuel, if that is enough
@@ -173,6 +173,7 @@ module _ {S : Type 0} (m : Machine S) (Good : S → Type 0) (falls : Falls m Goo
 
   begins : {ws : List ℕ} {s : S} {d : List ℕ} {calls earlier later : List Call} {c : Call} → Good s → Calls m ws s d calls → Split calls earlier c later
       → (more : List ℕ) × ((joined_bytes earlier ++ c.bytes) ++ more ≡ (pages_after ws (pages_from m s d)).bytes)
+  begins k no_calls x11 = elim x11 [ ]
   begins k (more_calls {ws = ws} {s = s} {d = d} bl d' last r p z o q cs) here =
       let f = known ws s k d bl d' last r p z o q in
       (o.waiting ++ (pages_from m o.state (o.rest ++ d')).bytes, sym (append_assoc o.bytes o.waiting _) ∙ sym (ap (λ g. g.bytes) f.pages))
@@ -190,6 +191,7 @@ module _ {S : Type 0} (m : Machine S) (Good : S → Type 0) (falls : Falls m Goo
   repeats_closed (more_calls {s = s} bl d' last r p z o q cs) here a e g =
       let h : o ≡ stop s bl [] (closes a) = q ∙ rw (e, call_closed s a g bl last r) in
       (ap (λ v. v.answer) h, ap (λ v. length v.took) h, ap (λ v. v.bytes) h)
+  repeats_closed no_calls x16 a e g = elim x16 [ ]
   repeats_closed (more_calls {s = s} bl d' last r p z o q cs) (there sp) a e g =
       let h : o ≡ stop s bl [] (closes a) = q ∙ rw (e, call_closed s a g bl last r) in
       repeats_closed cs sp a (ap (λ v. v.waiting) h) (ap (λ v. m.step v.state) h ∙ g)
@@ -201,6 +203,7 @@ module _ {S : Type 0} (m : Machine S) (Good : S → Type 0) (falls : Falls m Goo
 
   repeats : {ws : List ℕ} {s : S} {d : List ℕ} {calls earlier later between after : List Call} {c l : Call} → Good s → Calls m ws s d calls
       → Split calls earlier c later → (a : Closing) → c.answer ≡ closes a → Split later between l after → (l.answer ≡ closes a) × (l.taken ≡ 0) × (l.bytes ≡ [])
+  repeats k no_calls x21 a e late = elim x21 [ ]
   repeats k (more_calls {ws = ws} {s = s} {d = d} bl d' last r p z o q cs) here a e late =
       let t = stopped (known ws s k d bl d' last r p z o q) (closes a) e in
       repeats_closed cs late a t.0 t.1
@@ -211,6 +214,7 @@ module _ {S : Type 0} (m : Machine S) (Good : S → Type 0) (falls : Falls m Goo
 
   completes : {ws : List ℕ} {s : S} {d : List ℕ} {calls earlier later : List Call} {c : Call} → Good s → Calls m ws s d calls → Split calls earlier c later
       → (a : Closing) → c.answer ≡ closes a → ((pages_from m s d).answer ≡ closes a) × (joined_bytes earlier ++ c.bytes ≡ (pages_after ws (pages_from m s d)).bytes)
+  completes k no_calls x16 a e = elim x16 [ ]
   completes k (more_calls {ws = ws} {s = s} {d = d} bl d' last r p z o q cs) here a e =
       let f = known ws s k d bl d' last r p z o q in
       let t = stopped f (closes a) e in
@@ -239,11 +243,13 @@ module _ {S : Type 0} (m : Machine S) (Good : S → Type 0) (falls : Falls m Goo
 
   moves : {ws : List ℕ} {s : S} {d : List ℕ} {calls earlier later : List Call} {c : Call} → Good s → Calls m ws s d calls → Split calls earlier c later
       → 0 < c.room → (0 < length c.block) ⊎ (c.last ≡ true) → (0 < c.taken) ⊎ ((0 < length c.bytes) ⊎ ((a : Closing) × (c.answer ≡ closes a)))
+  moves k no_calls x21 h g = elim x21 [ ]
   moves k (more_calls {ws = ws} {s = s} {d = d} bl d' last r p z o q cs) here h g = moved (known ws s k d bl d' last r p z o q) o.answer refl h g
   moves k (more_calls {ws = ws} {s = s} {d = d} bl d' last r p z o q cs) (there sp) h g = moves (known ws s k d bl d' last r p z o q).good cs sp h g
 
   within : {ws : List ℕ} {s : S} {d : List ℕ} {calls earlier later : List Call} {c : Call} → Good s → Calls m ws s d calls → Split calls earlier c later
       → (c.taken ≤ length c.block) × (length c.bytes ≤ c.room)
+  within k no_calls x11 = elim x11 [ ]
   within k (more_calls {ws = ws} {s = s} {d = d} bl d' last r p z o q cs) here =
       let f = known ws s k d bl d' last r p z o q in
       (omega (arith, ap length f.parts, length-append o.took o.rest), f.fits)

@@ -1,3 +1,5 @@
+#![tactic(auto)]
+
 // The answer of a session call.
 
 // Which of document 01's answers each case is, and with which values, says specs/Answers.antt.

@@ -1,3 +1,5 @@
+#![tactic(auto)]
+
 // Macros and strings: their table, what removes and defines them, and the lines of a macro.
 pub mod definitions;
 pub mod lines;

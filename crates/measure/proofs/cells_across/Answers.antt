@@ -4,14 +4,7 @@ use native.Mathlib.Omega.{arith}
 use borrow.Author.Rules.{rules}
 use mir.Syntax.{w32}
 use mir.Facts.{to_z_pos}
-use Rattle.measure.proofs.cells_across.Statement.{statement}
-use Rattle.measure.proofs.cells_across.Tie as tie
+use Rattle.measure.proofs.cells_across.Goals as goal
 
-cast-t2 : tie.Need-overflow-cast-t2
-cast-t2 c = search rules
-
-returns : tie.Need-returns
+pub returns : goal.returns
 returns c = rw (to_z_pos w32 {n = c.args.count} (omega (arith, c.ranges.count.fits)))
-
-pub cells_across_spec : {M : Type 1} → statement M
-cells_across_spec = tie.close (tie.spec cast-t2 returns)

@@ -9,27 +9,20 @@ use mir.Syntax.{w64}
 use mir.Val.{SFits}
 use mir.Facts.{to_z-of_z, to_z_pos, sfits_widen}
 use Rattle.measure.proofs.Signed.{widened, abs_mul, small}
-use Rattle.measure.proofs.times.Statement.{statement}
-use Rattle.measure.proofs.times.Tie as tie
+use Rattle.measure.proofs.times.Goals as goal
 
-product_fits : (c : tie.Start) → SFits w64 (c.args.count *ℤ pos c.args.size)
+product_fits : (c : goal.Start) → SFits w64 (c.args.count *ℤ pos c.args.size)
 product_fits c =
     let a = c.args in
     let n : nat_abs a.count ≤ 2 ^ 31 = nat_abs-le a.count c.ranges.count.sfits in
     let s : a.size ≤ 255 = omega arith in
     small (a.count *ℤ pos a.size) (omega (arith, abs_mul a.count a.size, mul-le-mul n s))
 
-cast-result : tie.Need-overflow-cast-result
-cast-result c = rw (to_z-of_z c.ranges.count) (sfits_widen tt c.ranges.count)
+pub overflow_cast-result : goal.overflow_cast-result
+overflow_cast-result c = rw (to_z-of_z c.ranges.count) (sfits_widen tt c.ranges.count)
 
-cast-result-2 : tie.Need-overflow-cast-result-2
-cast-result-2 c = search rules
+pub overflow_mul-result : goal.overflow_mul-result
+overflow_mul-result c = rw (widened c.ranges.count, to_z_pos w64 {n = c.args.size} (omega arith)) (product_fits c)
 
-mul-result : tie.Need-overflow-mul-result
-mul-result c = rw (widened c.ranges.count, to_z_pos w64 {n = c.args.size} (omega arith)) (product_fits c)
-
-returns : tie.Need-returns
+pub returns : goal.returns
 returns c = rw (widened c.ranges.count, to_z_pos w64 {n = c.args.size} (omega arith), to_z-of_z (product_fits c))
-
-pub times_spec : {M : Type 1} → statement M
-times_spec = tie.close (tie.spec cast-result cast-result-2 mul-result returns)
