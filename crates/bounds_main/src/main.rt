@@ -25,7 +25,7 @@ const SHOWN: usize = 2000;
 const PRIME: u64 = 1000000007;
 
 // The lengths of the blocks, and those of the rooms by turns.
-#[derive(Drop)]
+#[derive(Clone, Copy)]
 struct CutSizes {
     block: usize,
     room: usize,
@@ -33,7 +33,7 @@ struct CutSizes {
 }
 
 // What is seen of the calls so far: the sums are over their answers and over the pages.
-#[derive(Drop)]
+#[derive(Clone, Copy)]
 struct Observed {
     answer: Answer,
     taken: usize,
@@ -53,7 +53,7 @@ struct AfterCall {
 }
 
 // The parts of the document and of the pages that a call is lent.
-#[derive(Drop)]
+#[derive(Clone, Copy)]
 struct Window {
     from: usize,
     end: usize,
@@ -62,7 +62,7 @@ struct Window {
 }
 
 // A number, and the place behind its digits.
-#[derive(Drop)]
+#[derive(Clone, Copy)]
 struct NumberAt {
     value: u64,
     next: usize,

@@ -15,7 +15,7 @@ use settings::layout::{Layout, NewLayout};
 use traps::table::Planted;
 
 // The collected line, if there is one: its first `length` cells lie in an array of their own.
-#[derive(Drop)]
+#[derive(Clone, Copy)]
 pub struct Collected {
     pub there: bool,
     pub indent: Cells,
@@ -25,7 +25,7 @@ pub struct Collected {
 }
 
 // What a piece of work leads to: so many bytes of the row are to be written, then the session goes on or is closed.
-#[derive(Drop)]
+#[derive(Clone, Copy)]
 pub struct PageOutcome {
     pub way: Way,
     pub layout: Layout,

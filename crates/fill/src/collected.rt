@@ -13,7 +13,7 @@ use rules::arrays::LineBytes;
 use rules::{FIXED_BLANK, GAP_START, MARK};
 
 // A collected line that is full: its cells, and the word that did not fit, with the gap that is lost.
-#[derive(Drop)]
+#[derive(Clone, Copy)]
 pub struct Overflow {
     pub length: usize,
     pub gap: Cells,
@@ -23,7 +23,7 @@ pub struct Overflow {
 }
 
 // What placing words gave: the cells collected with all of them, or a full line.
-#[derive(Drop)]
+#[derive(Clone, Copy)]
 pub enum Placed {
     All(usize),
     Full(Overflow),

@@ -31,7 +31,7 @@ fn count_gaps(cells: &LineBytes, length: usize) -> usize
 }
 
 // How a full line is spread: "e/k each, the last e mod k gaps one more".
-#[derive(Drop)]
+#[derive(Clone, Copy)]
 struct Share {
     each: usize,
     few: usize,

@@ -11,14 +11,14 @@ use rules::MARK;
 use rules::arrays::LineBytes;
 
 // The place behind a word, and the word's width.
-#[derive(Drop)]
+#[derive(Clone, Copy)]
 pub struct WordEnd {
     pub to: usize,
     pub width: Cells,
 }
 
 // A word of a line: the gap before it, where it stands, and its width.
-#[derive(Drop)]
+#[derive(Clone, Copy)]
 pub struct WordAt {
     pub gap: Cells,
     pub from: usize,
@@ -27,7 +27,7 @@ pub struct WordAt {
 }
 
 // The next word, if there is one.
-#[derive(Drop)]
+#[derive(Clone, Copy)]
 pub enum NextWord {
     Found(WordAt),
     Nothing,

@@ -11,7 +11,7 @@ use texts::lines::{StorePart, Top};
 use texts::table::FoundText;
 
 // What a piece of work leads to, and how many stored lines have been read for this source line.
-#[derive(Drop)]
+#[derive(Clone, Copy)]
 pub struct Performed {
     pub way: Way,
     pub written: usize,
@@ -20,7 +20,7 @@ pub struct Performed {
 }
 
 // The next line of a text that is read, and the place behind it; or nothing is left.
-#[derive(Drop)]
+#[derive(Clone, Copy)]
 pub enum Unread {
     Line(Top, u16),
     Nothing,

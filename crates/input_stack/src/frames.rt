@@ -5,7 +5,7 @@ ghost use Rattle.input_stack.specs.Frames.Words.{setting_number, request_number,
 use rules::{Breaking, LineSetting, Name};
 
 // What an item of the input stack is, beside its bytes.
-#[derive(Drop)]
+#[derive(Clone, Copy)]
 pub enum What {
     // a text called by its name: the name, the place up to which it is read, how many arguments it was called with
     Reading(Name, u16, u8),
@@ -24,7 +24,7 @@ pub enum What {
 }
 
 // The words of a frame that say what it is: its kind with a small number, and two for a name, a place or a page.
-#[derive(Drop)]
+#[derive(Clone, Copy)]
 pub struct Words {
     pub first: u16,
     pub second: u16,

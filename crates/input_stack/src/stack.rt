@@ -11,14 +11,14 @@ use rules::arrays::{
 };
 
 // What a frame is, and how many bytes it has.
-#[derive(Drop)]
+#[derive(Clone, Copy)]
 pub struct Entry {
     pub what: What,
     pub size: u16,
 }
 
 // How many frames lie on the stack, the last on top: at most 16 items, and one that is held for a moment on top of them.
-#[derive(Drop)]
+#[derive(Clone, Copy)]
 pub struct Stack {
     pub depth: usize,
 }

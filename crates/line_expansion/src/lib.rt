@@ -26,7 +26,7 @@ use settings::layout::{Layout, Printer};
 use texts::lines::Top;
 
 // What is left to do with a line, once it is expanded.
-#[derive(Drop)]
+#[derive(Clone, Copy)]
 pub enum Dealt {
     // it closes the open definition
     Closes,
@@ -196,7 +196,7 @@ fn scan_body(
 }
 
 // How what follows a name is expanded, if it is.
-#[derive(Drop)]
+#[derive(Clone, Copy)]
 enum Expansion {
     In(Mode),
     Ignored,

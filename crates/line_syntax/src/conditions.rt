@@ -10,7 +10,7 @@ use measure::Pitch;
 use number::arithmetic::Value;
 
 // Whether a condition holds, or a malformed one.
-#[derive(Drop)]
+#[derive(Clone, Copy)]
 pub enum ConditionResult {
     Holds,
     Fails,

@@ -14,7 +14,7 @@ use rules::{Breaking, FIXED_BLANK, Kind, MARK, Mode, Name, Request};
 use texts::table::FoundText;
 
 // What a line is: text; a control line with a period or not, its name, and the place where its name ends; or ignored.
-#[derive(Drop)]
+#[derive(Clone, Copy)]
 pub enum Line {
     Text,
     Control(bool, Name, usize),
@@ -22,7 +22,7 @@ pub enum Line {
 }
 
 // The name that some bytes are.
-#[derive(Drop)]
+#[derive(Clone, Copy)]
 pub enum Named {
     Nothing,
     One(Name),
@@ -30,7 +30,7 @@ pub enum Named {
 }
 
 // A condition is the bytes from a place up to another; what follows its spaces begins at `rest`.
-#[derive(Drop)]
+#[derive(Clone, Copy)]
 pub struct ConditionPart {
     pub from: usize,
     pub to: usize,
@@ -38,7 +38,7 @@ pub struct ConditionPart {
 }
 
 // What a control line's name stands for: a text of some kind, a request, or nothing.
-#[derive(Drop)]
+#[derive(Clone, Copy)]
 pub enum Meaning {
     Calls(Kind),
     Requests(Request),

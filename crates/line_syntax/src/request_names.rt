@@ -8,7 +8,7 @@ ghost use Rattle.line_syntax.specs.RequestNames.Requests.{request_from, among};
 use rules::{Breaking, LineSetting, Name, PageSetting, Request, TableChange};
 
 // The request that a name stands for, if there is one.
-#[derive(Drop)]
+#[derive(Clone, Copy)]
 pub enum RequestNamed {
     Is(Request),
     Other,

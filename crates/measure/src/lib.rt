@@ -8,15 +8,15 @@ ghost use Rattle.measure.specs.Counts.{across_of, down_of, cells_across, rows_do
 ghost use Rattle.measure.specs.Rounding.{half_up, nearest_of, cells_of, rows_of, units_of_cells, units_of_rows};
 
 // A count of cells across: a width, an indent, or a change of one.
-#[derive(Drop)]
+#[derive(Clone, Copy)]
 pub struct Cells(pub i32);
 
 // A count of rows down: a place on the page, a spacing, or a change of one.
-#[derive(Drop)]
+#[derive(Clone, Copy)]
 pub struct Rows(pub i32);
 
 // The units of a printer's cell and of its row.
-#[derive(Drop)]
+#[derive(Clone, Copy)]
 pub struct Pitch {
     pub cell: u8,
     pub row: u8,
@@ -29,7 +29,7 @@ pub fn ten_pitch() -> Pitch
     Pitch { cell: 24, row: 40 }
 }
 
-#[derive(Drop)]
+#[derive(Clone, Copy)]
 pub enum Scale {
     Inch,
     Centimetre,
@@ -41,7 +41,7 @@ pub enum Scale {
     LineSpace,
 }
 
-#[derive(Drop)]
+#[derive(Clone, Copy)]
 pub enum MaybeScale {
     Some(Scale),
     None,
@@ -65,7 +65,7 @@ pub fn scale_of(byte: u8) -> MaybeScale
 }
 
 // What one of a scale is in units: the fraction units / per.
-#[derive(Drop)]
+#[derive(Clone, Copy)]
 pub struct Ratio {
     pub units: u16,
     pub per: u8,

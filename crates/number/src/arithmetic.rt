@@ -6,7 +6,7 @@ ghost use Rattle.number.specs.Arithmetic.Values.{judged_of};
 use rules::Operator;
 
 // The value of a number, or its refusal.
-#[derive(Drop)]
+#[derive(Clone, Copy)]
 pub enum Value {
     Is(i32),
     Bad,

@@ -11,21 +11,21 @@ use measure::{MaybeScale, Pitch, Scale};
 use rules::Operator;
 
 // An operator and its width in bytes, or none.
-#[derive(Drop)]
+#[derive(Clone, Copy)]
 enum Joint {
     By(Operator, usize),
     None,
 }
 
 // The number that a run of digits spells, with the place after it; or one past 1,000,000,000.
-#[derive(Drop)]
+#[derive(Clone, Copy)]
 enum Digits {
     Number(u64, usize),
     Huge,
 }
 
 // A value with the place after it, or a refusal.
-#[derive(Drop)]
+#[derive(Clone, Copy)]
 enum Read {
     Value(i32, usize),
     Refused,

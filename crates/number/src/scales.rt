@@ -9,14 +9,14 @@ use super::arithmetic::Value;
 use measure::{Cells, Pitch, Rows, Scale};
 
 // A number of cells across, or its refusal.
-#[derive(Drop)]
+#[derive(Clone, Copy)]
 pub enum MaybeCells {
     Are(Cells),
     Bad,
 }
 
 // A number of rows down, or its refusal.
-#[derive(Drop)]
+#[derive(Clone, Copy)]
 pub enum MaybeRows {
     Are(Rows),
     Bad,

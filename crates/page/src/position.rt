@@ -8,7 +8,7 @@ use measure::Rows;
 use traps::table::{FoundTrap, Planted};
 
 // The page being written: its number, 0 before the first; the rows used on it; and whether the end has begun.
-#[derive(Drop)]
+#[derive(Clone, Copy)]
 pub struct Page {
     pub number: u32,
     pub used: Rows,
@@ -16,7 +16,7 @@ pub struct Page {
 }
 
 // Where a move down leads: a row of a page, and the trap that is seen there; the end is done; or a page too many.
-#[derive(Drop)]
+#[derive(Clone, Copy)]
 pub enum Moved {
     On(Page, FoundTrap),
     Done,

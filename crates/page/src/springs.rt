@@ -19,7 +19,7 @@ use texts::table::TextPlace;
 use traps::table::{FoundTrap, Planted};
 
 // Whether the session goes on, or how it is closed.
-#[derive(Drop)]
+#[derive(Clone, Copy)]
 pub enum Way {
     On,
     Done,
@@ -27,21 +27,21 @@ pub enum Way {
 }
 
 // What is held on the stack while a trap's macro is read.
-#[derive(Drop)]
+#[derive(Clone, Copy)]
 pub enum Held {
     Nothing,
     Item(What),
 }
 
 // The stack with a text on top; if there are too many items, it is as before.
-#[derive(Drop)]
+#[derive(Clone, Copy)]
 pub struct Called {
     pub full: bool,
     pub stack: Stack,
 }
 
 // Where a move down the page leads.
-#[derive(Drop)]
+#[derive(Clone, Copy)]
 pub struct Landed {
     pub way: Way,
     pub page: Page,

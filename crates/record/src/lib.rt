@@ -16,14 +16,14 @@ use state::Status;
 use stream::Answer;
 
 // The bytes of the row that wait to be written: those from one place up to another.
-#[derive(Drop)]
+#[derive(Clone, Copy)]
 pub struct Waiting {
     pub at: usize,
     pub end: usize,
 }
 
 // The closing answer, once there is one.
-#[derive(Drop)]
+#[derive(Clone, Copy)]
 pub enum Closing {
     Open,
     Done,
@@ -63,7 +63,7 @@ pub struct Reply {
 }
 
 // The parts of a record that are no arrays.
-#[derive(Drop)]
+#[derive(Clone, Copy)]
 pub struct RecordCore {
     pub status: Status,
     pub source: Source,
@@ -72,7 +72,7 @@ pub struct RecordCore {
 }
 
 // How a call ends.
-#[derive(Drop)]
+#[derive(Clone, Copy)]
 pub struct Ran {
     pub answer: Answer,
     pub place: RecordCore,
@@ -81,14 +81,14 @@ pub struct Ran {
 }
 
 // Whether a call goes on.
-#[derive(Drop)]
+#[derive(Clone, Copy)]
 pub enum Stop {
     Goes,
     With(Answer),
 }
 
 // What a turn leads to: the parts of a core stand by themselves, so that the status is copied no more than once.
-#[derive(Drop)]
+#[derive(Clone, Copy)]
 pub struct TurnOutcome {
     pub stop: Stop,
     pub status: Status,
@@ -99,7 +99,7 @@ pub struct TurnOutcome {
 }
 
 // The bytes that still wait, and how many are written.
-#[derive(Drop)]
+#[derive(Clone, Copy)]
 pub struct WrittenOut {
     pub waiting: Waiting,
     pub written: usize,

@@ -17,7 +17,7 @@ use state::Opening;
 use traps::table::Planted;
 
 // The items on the input stack, the texts and the registers that there are.
-#[derive(Drop)]
+#[derive(Clone, Copy)]
 pub struct Counts {
     pub depth: usize,
     pub texts: usize,

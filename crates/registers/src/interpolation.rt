@@ -10,7 +10,7 @@ use rules::arrays::{ByteColumn, NumberColumn};
 use rules::{Name, Turn};
 
 // Which of the read-only registers a name is: of % nl .l .i .p, or another name.
-#[derive(Drop)]
+#[derive(Clone, Copy)]
 pub enum Which {
     Page,
     Rows,
@@ -21,7 +21,7 @@ pub enum Which {
 }
 
 // What the read-only registers show, each as it is printed.
-#[derive(Drop)]
+#[derive(Clone, Copy)]
 pub struct Shown {
     pub page: i32,
     pub rows: i32,
@@ -31,14 +31,14 @@ pub struct Shown {
 }
 
 // What a read-only register shows, if a name is one.
-#[derive(Drop)]
+#[derive(Clone, Copy)]
 pub enum Shows {
     Value(i32),
     Nothing,
 }
 
 // The value of a reference, or why it has none: it steps out of bounds, or steps a read-only register.
-#[derive(Drop)]
+#[derive(Clone, Copy)]
 pub enum Referred {
     Is(i32),
     Bad,

@@ -11,7 +11,7 @@ use rules::arrays::{ByteColumn, NumberColumn, TABLE_SIZE};
 use rules::{Name, Register, Turn};
 
 // How a name stands to another in the order of names.
-#[derive(Drop)]
+#[derive(Clone, Copy)]
 pub enum Order {
     Earlier,
     Same,
@@ -19,28 +19,28 @@ pub enum Order {
 }
 
 // The place of a name, or the place where it belongs.
-#[derive(Drop)]
+#[derive(Clone, Copy)]
 pub enum RegisterPlace {
     At(usize),
     Not(usize),
 }
 
 // A register, if there is one.
-#[derive(Drop)]
+#[derive(Clone, Copy)]
 pub enum FoundRegister {
     There(Register),
     Nothing,
 }
 
 // How many registers there are after one is set, or no place for one more.
-#[derive(Drop)]
+#[derive(Clone, Copy)]
 pub enum RegisterCount {
     Set(usize),
     Full,
 }
 
 // A number, or one outside the bounds.
-#[derive(Drop)]
+#[derive(Clone, Copy)]
 pub enum Stepped {
     Is(i32),
     Bad,

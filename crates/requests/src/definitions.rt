@@ -16,7 +16,7 @@ use rules::arrays::{ByteColumn, LengthColumn, LineBytes, StackEnds};
 use scan::arguments::Argument;
 
 // How many texts there are after a change, nothing to do, or the number of its refusal.
-#[derive(Drop)]
+#[derive(Clone, Copy)]
 pub enum Changed {
     Count(usize),
     Same,

@@ -16,21 +16,21 @@ use rules::arrays::{ByteColumn, NumberColumn};
 use settings::layout::Printer;
 
 // The value and the step of a register.
-#[derive(Drop)]
+#[derive(Clone, Copy)]
 struct Numbers {
     value: i32,
     step: i32,
 }
 
 // A new value and a new step, or a number that is refused.
-#[derive(Drop)]
+#[derive(Clone, Copy)]
 enum NewNumbers {
     Is(i32, i32),
     Bad,
 }
 
 // How many registers there are after nr, or the number of its refusal.
-#[derive(Drop)]
+#[derive(Clone, Copy)]
 pub enum Assigned {
     Count(usize),
     Refused(u8),

@@ -12,7 +12,7 @@ use settings::layout::Printer;
 use traps::table::Planted;
 
 // The table after wh, and the number of its refusal, 0 for none.
-#[derive(Drop)]
+#[derive(Clone, Copy)]
 pub struct Plants {
     pub refused: u8,
     pub planted: Planted,

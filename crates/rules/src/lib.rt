@@ -15,14 +15,14 @@ pub const FIXED_BLANK: u8 = 3;
 pub const GAP_START: u8 = 4;
 
 // A name of one or two bytes; the second byte of a one-byte name is 0.
-#[derive(Drop)]
+#[derive(Clone, Copy)]
 pub struct Name {
     pub first: u8,
     pub second: u8,
 }
 
 // A number register: its name, its value, and what a step adds or takes away.
-#[derive(Drop)]
+#[derive(Clone, Copy)]
 pub struct Register {
     pub name: Name,
     pub value: i32,
@@ -30,14 +30,14 @@ pub struct Register {
 }
 
 // A planted trap: its row, a negative one counted up from the page end, and the name of its text.
-#[derive(Drop)]
+#[derive(Clone, Copy)]
 pub struct Trap {
     pub place: Rows,
     pub name: Name,
 }
 
 // The operators of an expression.
-#[derive(Drop)]
+#[derive(Clone, Copy)]
 pub enum Operator {
     Add,
     Subtract,
@@ -54,7 +54,7 @@ pub enum Operator {
 }
 
 // How a reference steps its register first.
-#[derive(Drop)]
+#[derive(Clone, Copy)]
 pub enum Turn {
     Still,
     Up,
@@ -62,21 +62,21 @@ pub enum Turn {
 }
 
 // What a text is.
-#[derive(Drop)]
+#[derive(Clone, Copy)]
 pub enum Kind {
     Macro,
     String,
 }
 
 // How a line is expanded.
-#[derive(Drop)]
+#[derive(Clone, Copy)]
 pub enum Mode {
     Plain,
     Copy,
 }
 
 // The requests that break and then set the layout.
-#[derive(Drop)]
+#[derive(Clone, Copy)]
 pub enum LineSetting {
     Fi,
     Nf,
@@ -86,7 +86,7 @@ pub enum LineSetting {
 }
 
 // The requests that break.
-#[derive(Drop)]
+#[derive(Clone, Copy)]
 pub enum Breaking {
     Br,
     Sp,
@@ -95,7 +95,7 @@ pub enum Breaking {
 }
 
 // The requests that set the layout and do not break.
-#[derive(Drop)]
+#[derive(Clone, Copy)]
 pub enum PageSetting {
     Pl,
     Po,
@@ -105,7 +105,7 @@ pub enum PageSetting {
 }
 
 // The requests that change a table, by their arguments.
-#[derive(Drop)]
+#[derive(Clone, Copy)]
 pub enum TableChange {
     Nr,
     De,
@@ -114,7 +114,7 @@ pub enum TableChange {
 }
 
 // Any request, by its kind. ds and if stand alone: what follows their names is not parted into arguments.
-#[derive(Drop)]
+#[derive(Clone, Copy)]
 pub enum Request {
     Breaks(Breaking),
     Lays(PageSetting),

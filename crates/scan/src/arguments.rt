@@ -6,14 +6,14 @@ ghost use Rattle.std.specs.Prelude.{◌≡◌, ◌-◌, ◌≤◌, length};
 use rules::arrays::{ArgumentEnds, LineBytes};
 
 // Where a line goes on, and how many bytes have been written.
-#[derive(Drop)]
+#[derive(Clone, Copy)]
 pub struct Cut {
     pub at: usize,
     pub written: usize,
 }
 
 // The next argument of a line, if it has one.
-#[derive(Drop)]
+#[derive(Clone, Copy)]
 pub enum Argument {
     There(Cut),
     Nothing,

@@ -8,7 +8,7 @@ use rules::{FIXED_BLANK, MARK, Mode, Name, Turn};
 
 // What an escape leads to: a byte is written, or a backslash and a byte; a register is shown, a string is read, an
 // argument is given, counted from 0; the line ends; or the escape is not listed, or cut short.
-#[derive(Drop)]
+#[derive(Clone, Copy)]
 pub enum EscapeAction {
     Writes(u8),
     Keeps(u8),
@@ -20,14 +20,14 @@ pub enum EscapeAction {
 }
 
 // What was read, and the place after it.
-#[derive(Drop)]
+#[derive(Clone, Copy)]
 pub struct Reading {
     pub end: usize,
     pub what: EscapeAction,
 }
 
 // The name of a register or a string, and the place after it; or the text ends there.
-#[derive(Drop)]
+#[derive(Clone, Copy)]
 enum Naming {
     Named(usize, Name),
     Cut(usize),

@@ -53,7 +53,7 @@ fn copy_plain(
 
 // The text is over, with so many bytes that may still be scanned and so many written; or an escape, with the place after
 // it and the same numbers; or a refusal.
-#[derive(Drop)]
+#[derive(Clone, Copy)]
 enum NextEscape {
     Over(usize, usize),
     Escape(usize, usize, usize, EscapeAction),
@@ -92,7 +92,7 @@ fn next_escape(
 }
 
 // What an action came to: so many bytes are written; a string is to be read; the line ends; or a refusal.
-#[derive(Drop)]
+#[derive(Clone, Copy)]
 enum Acted {
     Wrote(usize),
     Enters(Name),
@@ -287,7 +287,7 @@ fn act(
 
 // How far a text was expanded: it is over, with so many bytes that may still be scanned and so many written; the line
 // ended, with so many written; or a refusal.
-#[derive(Drop)]
+#[derive(Clone, Copy)]
 enum Progress {
     Over(usize, usize),
     Ended(usize),
@@ -484,7 +484,7 @@ fn less(a: usize, b: usize) -> usize
 }
 
 // The expanded line stands in the buffer, so many bytes; or the number of a refusal.
-#[derive(Drop)]
+#[derive(Clone, Copy)]
 pub enum Scanned {
     Line(usize),
     Refused(u8),

@@ -9,7 +9,7 @@ use rules::arrays::LineBytes;
 use rules::{FIXED_BLANK, MARK};
 
 // The place after what was written, or no room for all of it.
-#[derive(Drop)]
+#[derive(Clone, Copy)]
 pub enum Wrote {
     To(usize),
     Full,
@@ -140,7 +140,7 @@ pub fn write_number(value: i32, out: &mut LineBytes, written: usize, limit: usiz
 }
 
 // A place of the text, how many bytes may still be scanned there, and how many are written; or a refusal.
-#[derive(Drop)]
+#[derive(Clone, Copy)]
 pub enum Copied {
     Upto(usize, usize, usize),
     Refused(u8),

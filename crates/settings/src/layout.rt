@@ -14,7 +14,7 @@ use measure::{Cells, Pitch, Rows};
 use number::scales::MaybeRows;
 
 // What a session is told of its printer: the pitch, the cells of the starting line and the rows of the starting page.
-#[derive(Drop)]
+#[derive(Clone, Copy)]
 pub struct Printer {
     pub pitch: Pitch,
     pub line: Cells,
@@ -33,14 +33,14 @@ pub fn ten_to_the_inch() -> Printer
 }
 
 // The ti total, "kept for the next output line of text".
-#[derive(Drop)]
+#[derive(Clone, Copy)]
 pub enum Total {
     Is(Cells),
     Nothing,
 }
 
 // The settings in force. centred is the number of input lines that ce has still to centre.
-#[derive(Drop)]
+#[derive(Clone, Copy)]
 pub struct Layout {
     pub line: Setting,
     pub indent: Setting,
@@ -53,7 +53,7 @@ pub struct Layout {
 }
 
 // A new layout, or why there is none: the number is malformed, or the value is out of range.
-#[derive(Drop)]
+#[derive(Clone, Copy)]
 pub enum NewLayout {
     Is(Layout),
     Malformed,

@@ -11,14 +11,14 @@ use measure::{Cells, Pitch, Rows};
 use number::scales::{MaybeCells, MaybeRows};
 
 // A setting, and the value before the last setting.
-#[derive(Drop)]
+#[derive(Clone, Copy)]
 pub struct Setting {
     pub now: Cells,
     pub former: Cells,
 }
 
 // The lengths that are set in cells, each with the value before the last setting: ll, in and po.
-#[derive(Drop)]
+#[derive(Clone, Copy)]
 pub enum Length {
     Line,
     Indent,
@@ -26,7 +26,7 @@ pub enum Length {
 }
 
 // A new setting, or why there is none: the number is malformed, or the value is out of range.
-#[derive(Drop)]
+#[derive(Clone, Copy)]
 pub enum NewSetting {
     Is(Setting),
     Malformed,
@@ -34,7 +34,7 @@ pub enum NewSetting {
 }
 
 // A new page length, or why there is none.
-#[derive(Drop)]
+#[derive(Clone, Copy)]
 pub enum NewRows {
     Is(Rows),
     Malformed,
@@ -42,7 +42,7 @@ pub enum NewRows {
 }
 
 // A new ti total, or why there is none.
-#[derive(Drop)]
+#[derive(Clone, Copy)]
 pub enum NewTotal {
     Is(Cells),
     Malformed,
@@ -50,7 +50,7 @@ pub enum NewTotal {
 }
 
 // A count within a range, or a value outside it.
-#[derive(Drop)]
+#[derive(Clone, Copy)]
 pub enum Count {
     Is(u16),
     Out,

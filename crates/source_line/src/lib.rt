@@ -9,7 +9,7 @@ ghost use Rattle.source_line.specs.Writing.{Writes, WrittenTo};
 use rules::arrays::{LINE_SIZE, LineBytes, RowBytes};
 
 // The source lines begun, the bytes of the line being taken, whether the end was read, and the stored lines read for this source line.
-#[derive(Drop)]
+#[derive(Clone, Copy)]
 pub struct Source {
     pub line: u32,
     pub length: usize,
@@ -18,7 +18,7 @@ pub struct Source {
 }
 
 // Why no more bytes are taken.
-#[derive(Drop)]
+#[derive(Clone, Copy)]
 pub enum Why {
     // the block is used up
     More,
@@ -29,7 +29,7 @@ pub enum Why {
 }
 
 // How many bytes were taken, the source after them, and why no more.
-#[derive(Drop)]
+#[derive(Clone, Copy)]
 pub struct Gathered {
     pub taken: usize,
     pub source: Source,
@@ -37,7 +37,7 @@ pub struct Gathered {
 }
 
 // The place in the block behind the bytes taken, the length of the line, and why no more.
-#[derive(Drop)]
+#[derive(Clone, Copy)]
 struct Reach {
     to: usize,
     length: usize,

@@ -14,7 +14,7 @@ use settings::layout::Layout;
 use traps::table::Planted;
 
 // An open definition: its name, and how many bytes of its body lie behind the texts.
-#[derive(Drop)]
+#[derive(Clone, Copy)]
 pub struct Opening {
     pub there: bool,
     pub name: Name,
@@ -22,7 +22,7 @@ pub struct Opening {
 }
 
 // All of the state that is no array, but for the source.
-#[derive(Drop)]
+#[derive(Clone, Copy)]
 pub struct Status {
     pub layout: Layout,
     pub page: Page,
@@ -35,7 +35,7 @@ pub struct Status {
 }
 
 // How a piece of work leads on, how many bytes of the row it wrote, and the state after it.
-#[derive(Drop)]
+#[derive(Clone, Copy)]
 pub struct WorkOutcome {
     pub way: Way,
     pub written: usize,
@@ -43,7 +43,7 @@ pub struct WorkOutcome {
 }
 
 // What de leads to: the answer of the texts, and the definition that is open then.
-#[derive(Drop)]
+#[derive(Clone, Copy)]
 pub struct Opened {
     pub changed: Changed,
     pub opening: Opening,

@@ -3,7 +3,7 @@
 // The answer of a session call.
 
 // Which of document 01's answers each case is, and with which values, says specs/Answers.antt.
-#[derive(Drop)]
+#[derive(Clone, Copy)]
 pub enum Answer {
     NeedsInput,
     NeedsRoom,

@@ -4,14 +4,14 @@ ghost use Rattle.rules.specs.Lines.{is_closing};
 ghost use Rattle.texts.specs.Lines.Lines.{first_line, next_line, TopInside, is_pair};
 
 // A part of the store, from a place up to another.
-#[derive(Drop)]
+#[derive(Clone, Copy)]
 pub struct StorePart {
     pub at: usize,
     pub end: usize,
 }
 
 // Where the next line comes from.
-#[derive(Drop)]
+#[derive(Clone, Copy)]
 pub enum Top {
     // so many gathered bytes of the source
     Source(usize),

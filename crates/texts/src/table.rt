@@ -11,14 +11,14 @@ use rules::arrays::{ByteColumn, LengthColumn, STORE_SIZE, TABLE_SIZE};
 use rules::{Kind, Name};
 
 // The place of a name in the table, if it is there.
-#[derive(Drop)]
+#[derive(Clone, Copy)]
 pub enum TextPlace {
     At(usize),
     Not,
 }
 
 // Where the bytes of a text lie in the store.
-#[derive(Drop)]
+#[derive(Clone, Copy)]
 pub struct Spot {
     pub kind: Kind,
     pub at: usize,
@@ -26,21 +26,21 @@ pub struct Spot {
 }
 
 // A text, if there is one.
-#[derive(Drop)]
+#[derive(Clone, Copy)]
 pub enum FoundText {
     There(Spot),
     Nothing,
 }
 
 // How many texts there are after a change, or no room for it.
-#[derive(Drop)]
+#[derive(Clone, Copy)]
 pub enum TextCount {
     Set(usize),
     Full,
 }
 
 // How many bytes the body of an open definition has, or no room for the line.
-#[derive(Drop)]
+#[derive(Clone, Copy)]
 pub enum KeptLine {
     Longer(usize),
     Full,

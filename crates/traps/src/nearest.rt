@@ -9,7 +9,7 @@ use measure::Rows;
 use rules::Trap;
 
 // Where a trap stands on a page.
-#[derive(Drop)]
+#[derive(Clone, Copy)]
 enum TrapRow {
     At(usize),
     Asleep,

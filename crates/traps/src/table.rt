@@ -7,21 +7,21 @@ ghost use Rattle.traps.specs.Table.Checks.{lacks_place, is_trap_table};
 use measure::Rows;
 use rules::{Name, Trap};
 
-#[derive(Drop)]
+#[derive(Clone, Copy)]
 pub struct Planted {
     pub traps: [Trap; 16],
     pub count: usize,
 }
 
 // The name of the trap at a row, if it has one.
-#[derive(Drop)]
+#[derive(Clone, Copy)]
 pub enum FoundTrap {
     Text(Name),
     Nothing,
 }
 
 // A table after planting; if it was full, it is the same as before.
-#[derive(Drop)]
+#[derive(Clone, Copy)]
 pub struct Planting {
     pub full: bool,
     pub planted: Planted,
