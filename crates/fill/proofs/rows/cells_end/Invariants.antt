@@ -1,0 +1,19 @@
+use borrow.Author.Rules.{rules}
+use mathlib.Core.Path.{◌≡◌, refl, sym, ◌∙◌}
+use native.Mathlib.Omega.{arith}
+use Prim.Native.Nat.{ℕ, ◌≤◌}
+use mathlib.Core.List.{◌++◌}
+use lib.ListN.{replicate}
+use borrow.Author.Tests.{not-true, not-false}
+use Rattle.rules.specs.Bytes.{space}
+use Rattle.rules.specs.Filling.{spread, trimmed}
+use Rattle.fill.specs.Words.Parts.{bytes_between}
+use Rattle.fill.proofs.unfilled.Spreading.{end_more}
+use Rattle.fill.proofs.rows.cells_end.Given as goal
+
+abbrev pub invariant-loop-i : goal.invariant-loop-i
+invariant-loop-i l =
+    (l.i ≤ l.length) × ((n each few : ℕ) → trimmed (replicate n space ++ spread each few (bytes_between l.cells 0 l.length)) ≡ trimmed (replicate n space ++ spread each few (bytes_between l.cells 0 l.i)))
+
+abbrev pub decreases-loop-i : goal.decreases-loop-i
+decreases-loop-i l = l.i

@@ -1,0 +1,15 @@
+use borrow.Author.Rules.{rules}
+use mathlib.Core.Path.{◌≡◌, sym, ap, ◌∙◌}
+use native.Mathlib.Omega.{arith}
+use Prim.Native.Nat.{◌+◌, ◌-◌, ◌≤◌}
+use Rattle.measure.specs.Counts.{cells_across}
+use Rattle.rules.specs.Filling.{width}
+use Rattle.fill.specs.Words.Parts.{bytes_between}
+use Rattle.fill.proofs.words.Words.{width_next, width_done}
+use Rattle.fill.proofs.words.width_of.Given as goal
+
+abbrev pub invariant-loop-i : goal.invariant-loop-i
+invariant-loop-i l = (l.at ≤ l.i) × (l.i ≤ l.to) × (l.n ≤ l.i) × (width (bytes_between l.line l.at l.to) ≡ l.n + width (bytes_between l.line l.i l.to))
+
+abbrev pub decreases-loop-i : goal.decreases-loop-i
+decreases-loop-i l = l.to - l.i

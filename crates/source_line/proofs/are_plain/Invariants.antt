@@ -1,0 +1,13 @@
+use Prim.Native.Nat.{◌≤◌, ◌-◌}
+use mathlib.Core.Path.{◌≡◌, refl, sym, ◌∙◌}
+use native.Mathlib.Omega.{arith}
+use lib.ListN.{length, drop}
+use Rattle.source_line.specs.Gathering.{are_plain}
+use Rattle.source_line.proofs.Laws.{plain_end, plain_low, plain_high, plain_on}
+use Rattle.source_line.proofs.are_plain.Given as goal
+
+abbrev pub invariant-loop-i : goal.invariant-loop-i
+invariant-loop-i l = (l.i ≤ length l.block) × (are_plain l.block ≡ are_plain (drop l.i l.block))
+
+abbrev pub decreases-loop-i : goal.decreases-loop-i
+decreases-loop-i l = length l.block - l.i

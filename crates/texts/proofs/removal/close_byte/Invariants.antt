@@ -1,0 +1,13 @@
+use Prim.Native.Nat.{◌≤◌, ◌-◌}
+use mathlib.Core.Path.{◌≡◌, refl, sym, ◌∙◌}
+use native.Mathlib.Omega.{arith}
+use lib.ListN.{length, length-set}
+use Rattle.texts.specs.Table.Changes.{closed_up}
+use Rattle.texts.proofs.table.Lists.{closed_step, closed_done}
+use Rattle.texts.proofs.removal.close_byte.Given as goal
+
+abbrev pub invariant-loop-i : goal.invariant-loop-i
+invariant-loop-i l = (l.i ≤ l.last) × (closed_up l.initial.column l.place (l.last - l.place) ≡ closed_up l.column l.i (l.last - l.i)) × (length l.column ≡ 64)
+
+abbrev pub decreases-loop-i : goal.decreases-loop-i
+decreases-loop-i l = l.last - l.i

@@ -1,0 +1,15 @@
+use Prim.Native.Nat.{◌≤◌, ◌-◌}
+use mathlib.Core.Path.{◌≡◌, sym, ◌∙◌}
+use native.Mathlib.Omega.{arith}
+use lib.ListN.{length, take, drop}
+use borrow.Author.Rules.{rules}
+use Rattle.rules.specs.Traps.{seen_at}
+use Rattle.traps.specs.Table.TableLaws.{seen_here, seen_on, seen_end}
+use Rattle.traps.proofs.table.Places.{sized, blank}
+use Rattle.traps.proofs.nearest.seen_in.Given as goal
+
+abbrev pub invariant-loop-i : goal.invariant-loop-i
+invariant-loop-i l = (l.i ≤ l.count) × (seen_at l.page l.row (take l.count l.traps) ≡ seen_at l.page l.row (drop l.i (take l.count l.traps)))
+
+abbrev pub decreases-loop-i : goal.decreases-loop-i
+decreases-loop-i l = l.count - l.i
