@@ -1,0 +1,66 @@
+-- `scan::arguments::quoted_argument` meets its contract. Assumes nothing.
+use Prim.Native.Nat.{◌+◌, ◌-◌, ◌≤◌}
+use mathlib.Core.Path.{◌≡◌, refl, sym, ◌∙◌}
+use native.Mathlib.Omega.{arith}
+use lib.ListN.{length}
+use borrow.Author.Rules.{rules}
+use borrow.Author.Tests.{eqb-true, ne_eqb}
+use Rattle.rules.specs.Arguments.{quoted}
+use Rattle.scan.proofs.arguments.Parts.{Onward, onward, ends, quoted_turn, quoted_two, quoted_stop, quote_inside, any_end}
+use Rattle.scan.proofs.arguments.quoted_argument.Goals as goal
+
+pub loop-i-init : goal.loop-i-init
+loop-i-init c = (omega arith, c.requires.inside, omega arith, refl)
+
+pub bounds-out-w : goal.bounds-out-w
+bounds-out-w c = omega arith
+
+pub overflow_add-w : goal.overflow_add-w
+overflow_add-w c = omega arith
+
+pub loop-i-preserved-then-b-ne34 : goal.loop-i-preserved-then-b-ne34
+loop-i-preserved-then-b-ne34 c =
+    let l = c.loop-i in
+    let a = c.args in (
+      omega arith,
+      omega arith,
+      omega arith,
+      onward quoted a.line.now a.at a.out.now a.written l.i l.out l.w _ (l.i + 1) l.invariant.3 (quoted_turn _ l.i c.loop-i-test.true (ne_eqb _ _ c.if-b-ne34.true)),
+    )
+
+pub returns-in-loop-i : goal.returns-in-loop-i
+returns-in-loop-i c =
+    let l = c.loop-i in
+    let a = c.args in
+    ends quoted a.line.now a.at a.out.now a.written l.i l.out l.w (l.i + 1) l.invariant.3
+    (quoted_stop a.line.now l.i c.loop-i-test.true c.if-b-ne34.false (sym c.quote_at.ensures ∙ c.if-quote_at.false)) (omega arith) (omega arith) (omega arith)
+
+pub bounds-out-w-then-quote_at : goal.bounds-out-w-then-quote_at
+bounds-out-w-then-quote_at c = omega arith
+
+pub overflow_add-w-then-quote_at : goal.overflow_add-w-then-quote_at
+overflow_add-w-then-quote_at c = omega arith
+
+pub overflow_add-i-then-quote_at : goal.overflow_add-i-then-quote_at
+overflow_add-i-then-quote_at c =
+    let l = c.loop-i in
+    omega (arith, quote_inside c.args.line.now (l.i + 1) (sym c.quote_at.ensures ∙ c.if-quote_at.true))
+
+pub loop-i-preserved : goal.loop-i-preserved
+loop-i-preserved c =
+    let l = c.loop-i in
+    let a = c.args in
+    let q = sym c.quote_at.ensures ∙ c.if-quote_at.true in
+    let k = quote_inside a.line.now (l.i + 1) q in
+    let e = c.if-b-ne34.false in (
+      omega arith,
+      omega (arith, k),
+      omega arith,
+      onward quoted a.line.now a.at a.out.now a.written l.i l.out l.w _ (l.i + 2) l.invariant.3
+          (quoted_two a.line.now l.i c.loop-i-test.true e k (eqb-true _ _ q)),
+    )
+
+pub returns : goal.returns
+returns c =
+    let l = c.loop-i in
+    ends quoted _ _ _ _ l.i _ l.w l.i l.invariant.3 (any_end _ l.i quoted c.loop-i-test.false) l.invariant.0 l.invariant.1 l.invariant.2

@@ -1,0 +1,13 @@
+use borrow.Author.Rules.{rules}
+use Rattle.scan.proofs.expansion.Totals.{pass_start, pass_byte, stop_left, stop_room}
+use Rattle.scan.specs.Output.Writes.{Passed}
+use lib.ListN.{length}
+use Prim.Native.Nat.{◌-◌}
+use native.Mathlib.Omega.{arith}
+use Rattle.scan.proofs.expansion.copy_plain.Given as goal
+
+abbrev pub invariant-loop-i : goal.invariant-loop-i
+invariant-loop-i l = Passed l.text l.at l.left l.written l.limit l.initial.out l.i l.rest l.n l.out
+
+abbrev pub decreases-loop-i : goal.decreases-loop-i
+decreases-loop-i l = length l.text - l.i

@@ -1,0 +1,10 @@
+use borrow.Author.Rules.{rules}
+use Rattle.scan.proofs.output.Decimals.{Digits, start, again, last}
+use native.Mathlib.Omega.{arith}
+use Rattle.scan.proofs.output.digits_of.Given as goal
+
+abbrev pub invariant-loop-n : goal.invariant-loop-n
+invariant-loop-n l = Digits l.value l.n l.at l.digits
+
+abbrev pub decreases-loop-n : goal.decreases-loop-n
+decreases-loop-n l = l.n
