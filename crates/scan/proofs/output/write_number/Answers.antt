@@ -20,10 +20,10 @@ pub returns-then-value-lt0 : goal.returns-then-value-lt0
 returns-then-value-lt0 c =
     let d = c.digits_of-at in
     let t = rw (to_z-of_z c.ranges.value) at c.if-value-lt0.true in
-    rw (← signed_bytes c.args.value c.magnitude.result d.result d.new.1.0 (size (goal.at.returns-then-value-lt0 c).After-magnitude) d.ensures t) c.copy_bytes.ensures
+    rw (← signed_bytes c.args.value c.magnitude.result d.result d.new.digits (size (goal.at.returns-then-value-lt0 c).After-magnitude) d.ensures t) c.copy_bytes.ensures
 
 pub returns : goal.returns
 returns c =
     let d = c.digits_of-at in
     let t = rw (to_z-of_z c.ranges.value) at c.if-value-lt0.false in
-    rw (← plain_bytes c.args.value c.magnitude.result d.result d.new.1.0 (size (goal.at.returns c).After-magnitude) d.ensures t) c.copy_bytes-2.ensures
+    rw (← plain_bytes c.args.value c.magnitude.result d.result d.new.digits (size (goal.at.returns c).After-magnitude) d.ensures t) c.copy_bytes-2.ensures
