@@ -1,0 +1,6 @@
+-- `settings::layout::stands` meets its contract. Assumes nothing.
+use borrow.Author.Rules.{rules}
+use Rattle.settings.proofs.layout.stands.Goals as goal
+
+pub returns-then-layout : goal.returns-then-layout
+returns-then-layout c = rw c.if-layout.true

@@ -1,0 +1,13 @@
+-- `settings::layout::with_length` meets its contract. Assumes nothing.
+use mathlib.Core.Path.{refl}
+use borrow.Author.Rules.{rules}
+use Rattle.settings.proofs.layout.with_length.Goals as goal
+
+pub returns-in-Line : goal.returns-in-Line
+returns-in-Line c = rw c.in-Line.is refl
+
+pub returns-in-Indent : goal.returns-in-Indent
+returns-in-Indent c = rw c.in-Indent.is refl
+
+pub returns-in-Offset : goal.returns-in-Offset
+returns-in-Offset c = rw c.in-Offset.is refl
