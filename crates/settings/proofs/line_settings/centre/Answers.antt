@@ -23,7 +23,7 @@ returns-in-Is c =
     let a = c.args in
     let e = rw (to_z-of_z {w = w32} (sfits_of c.in-Is.known_told-1-own.given.0.1)) at c.count_of.ensures in
     ap value c.with_centred-in-Is.ensures
-    ∙ ap (λ (j : Judged ℕ). j >>= λ n. value (with_centred c (layout_of a.layout)))
+    ∙ ap (λ (j : Judged ℕ). j >>= λ n. value (with_centred n (layout_of a.layout)))
     (ap value e ∙ ap (λ (j : Judged ℤ). j >>= λ v. value (count_of v)) (rw c.in-Is.is at c.units.ensures)
     ∙ centre_some (printer_of a.printer) a.argument.now (omega (arith, c.if-argument-eq0.false)))
 
