@@ -9,25 +9,15 @@ use Rattle.page.specs.Springs.Calls.{LandsWithin, LandsNumbered}
 use Rattle.page.specs.Springs.MoveLaws.{down_within, down_numbered}
 use Rattle.rules.specs.Rows as rule
 use Rattle.page.proofs.springs.Stacks.{moved}
-use Rattle.page.proofs.springs.down.Statement.{statement}
-use Rattle.page.proofs.springs.down.Tie as tie
+use Rattle.page.proofs.springs.down.Goals as goal
 
-move-down-requires : tie.Need-move-down-requires
-move-down-requires c κs = search rules
-
-land-requires : tie.Need-land-requires
-land-requires c κs = search rules
-
-returns : tie.Need-returns
+pub returns : goal.returns
 returns c =
-    let y = c.before.before.before.before.before in let a = y.args in let m = c.before.before.before.move_down in
+    let a = c.args in let m = c.move_down-moved in
     moved (landing_is m.result) (rule.down (down_of a.rows)) a.page a.length a.planted a.held a.bytes.now a.stack a.arena.now a.ends.now a.firsts.now a.seconds.now a.texts _ _ _ c.land.ensures
     (λ held x e f g.
     let q : landing_is m.result ≡ landing_down x.page x.layout.page (down_of a.rows) x.tables.traps = rw (e, f, g) m.ensures in
     ap (λ (l : Landing). landed l held x) q ∙ down_lands held x (down_of a.rows))
-    y.requires.0.above
-    (subst (LandsWithin (down_of a.length)) (sym m.ensures) (down_within (page_of a.page) (down_of a.length) (planted_of a.planted) y.requires.0.above (down_of a.rows)))
+    c.requires.0.above
+    (subst (LandsWithin (down_of a.length)) (sym m.ensures) (down_within (page_of a.page) (down_of a.length) (planted_of a.planted) c.requires.0.above (down_of a.rows)))
     (λ h. subst LandsNumbered (sym m.ensures) (down_numbered (page_of a.page) (down_of a.length) (planted_of a.planted) h (down_of a.rows)))
-
-pub down_spec : {M : Type 1} → statement M
-down_spec = tie.close (tie.spec move-down-requires land-requires returns)
