@@ -34,10 +34,8 @@ pub fn work(
     values: &mut NumberColumn,
     steps: &mut NumberColumn,
 ) -> TurnOutcome
-    ghost q: { WholeState }
-    requires steps_value { whole_of status cells.old arena.old ends.old store.old text_firsts.old text_seconds.old kinds.old lengths.old firsts.old seconds.old values.old steps.old ≡ q }
-    requires work_ready { WorkReady status source q row.old }
-    ensures { (Whichever (λ g. RecordRefines (step ten_to_the_inch (state_in q (sourced source g))) store.old (record_of (core_in result) g cells.new row.new arena.new ends.new text_firsts.new text_seconds.new kinds.new lengths.new firsts.new seconds.new values.new steps.new) store.new)) × (result.stop ≡ Goes) × (result.taken ≡ taken) }
+    requires { let q : WholeState = whole_of status cells.old arena.old ends.old store.old text_firsts.old text_seconds.old kinds.old lengths.old firsts.old seconds.old values.old steps.old in WorkReady status source q row.old }
+    ensures { let q : WholeState = whole_of status cells.old arena.old ends.old store.old text_firsts.old text_seconds.old kinds.old lengths.old firsts.old seconds.old values.old steps.old in (Whichever (λ g. RecordRefines (step ten_to_the_inch (state_in q (sourced source g))) store.old (record_of (core_in result) g cells.new row.new arena.new ends.new text_firsts.new text_seconds.new kinds.new lengths.new firsts.new seconds.new values.new steps.new) store.new)) × (result.stop ≡ Goes) × (result.taken ≡ taken) }
 {
     let worked = formatter::work(
         source.stored,

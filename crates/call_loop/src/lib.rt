@@ -39,10 +39,8 @@ fn take_turn(
     values: &mut NumberColumn,
     steps: &mut NumberColumn,
 ) -> TurnOutcome
-    ghost q: { Record }
-    requires steps_value { record_of (resting status source) gathered.old cells.old row.old arena.old ends.old text_firsts.old text_seconds.old kinds.old lengths.old firsts.old seconds.old values.old steps.old ≡ q }
-    requires turn_ready { TurnReady block.now q store.old taken }
-    ensures { TurnContract result.stop block.now last q store.old taken (record_of (core_in result) gathered.new cells.new row.new arena.new ends.new text_firsts.new text_seconds.new kinds.new lengths.new firsts.new seconds.new values.new steps.new) store.new result.taken }
+    requires { let q : Record = record_of (resting status source) gathered.old cells.old row.old arena.old ends.old text_firsts.old text_seconds.old kinds.old lengths.old firsts.old seconds.old values.old steps.old in TurnReady block.now q store.old taken }
+    ensures { let q : Record = record_of (resting status source) gathered.old cells.old row.old arena.old ends.old text_firsts.old text_seconds.old kinds.old lengths.old firsts.old seconds.old values.old steps.old in TurnContract result.stop block.now last q store.old taken (record_of (core_in result) gathered.new cells.new row.new arena.new ends.new text_firsts.new text_seconds.new kinds.new lengths.new firsts.new seconds.new values.new steps.new) store.new result.taken }
 {
     if record::has_work(status.stack.depth, source.ended) {
         return item_work::work(
@@ -163,10 +161,8 @@ pub fn run(
     values: &mut NumberColumn,
     steps: &mut NumberColumn,
 ) -> Ran
-    ghost q: { Record }
-    requires steps_value { record_of start gathered.old cells.old row.old arena.old ends.old text_firsts.old text_seconds.old kinds.old lengths.old firsts.old seconds.old values.old steps.old ≡ q }
-    requires valid_record { ValidRecord q store.old }
-    ensures { RunContract q store.old block.now last out.old (reply_from result (record_of result.place gathered.new cells.new row.new arena.new ends.new text_firsts.new text_seconds.new kinds.new lengths.new firsts.new seconds.new values.new steps.new)) store.new out.new }
+    requires { let q : Record = record_of start gathered.old cells.old row.old arena.old ends.old text_firsts.old text_seconds.old kinds.old lengths.old firsts.old seconds.old values.old steps.old in ValidRecord q store.old }
+    ensures { let q : Record = record_of start gathered.old cells.old row.old arena.old ends.old text_firsts.old text_seconds.old kinds.old lengths.old firsts.old seconds.old values.old steps.old in RunContract q store.old block.now last out.old (reply_from result (record_of result.place gathered.new cells.new row.new arena.new ends.new text_firsts.new text_seconds.new kinds.new lengths.new firsts.new seconds.new values.new steps.new)) store.new out.new }
 {
     let mut status = start.status;
     let mut source = start.source;

@@ -36,10 +36,8 @@ fn deal_line(
     values: &mut NumberColumn,
     steps: &mut NumberColumn,
 ) -> TurnOutcome
-    ghost q: { WholeState }
-    requires steps_value { whole_of status cells.old arena.old ends.old store.old text_firsts.old text_seconds.old kinds.old lengths.old firsts.old seconds.old values.old steps.old ≡ q }
-    requires deal_ready { DealReady q source line.now row.old }
-    ensures { (Whichever (λ g. LineRefines line.now q source g (record_of (core_in result) g cells.new row.new arena.new ends.new text_firsts.new text_seconds.new kinds.new lengths.new firsts.new seconds.new values.new steps.new) store.new)) × (result.stop ≡ Goes) × (result.taken ≡ taken) }
+    requires { let q : WholeState = whole_of status cells.old arena.old ends.old store.old text_firsts.old text_seconds.old kinds.old lengths.old firsts.old seconds.old values.old steps.old in DealReady q source line.now row.old }
+    ensures { let q : WholeState = whole_of status cells.old arena.old ends.old store.old text_firsts.old text_seconds.old kinds.old lengths.old firsts.old seconds.old values.old steps.old in (Whichever (λ g. LineRefines line.now q source g (record_of (core_in result) g cells.new row.new arena.new ends.new text_firsts.new text_seconds.new kinds.new lengths.new firsts.new seconds.new values.new steps.new) store.new)) × (result.stop ≡ Goes) × (result.taken ≡ taken) }
 {
     let step = formatter::deal(
         line,
@@ -84,10 +82,8 @@ pub fn read_end(
     values: &mut NumberColumn,
     steps: &mut NumberColumn,
 ) -> TurnOutcome
-    ghost q: { Record }
-    requires steps_value { record_of (resting status source) gathered.now cells.old row.old arena.old ends.old text_firsts.old text_seconds.old kinds.old lengths.old firsts.old seconds.old values.old steps.old ≡ q }
-    requires input_ready { InputReady q store.old }
-    ensures { (Arrives (read_end (state_of q store.old)) store.old (record_of (core_in result) gathered.now cells.new row.new arena.new ends.new text_firsts.new text_seconds.new kinds.new lengths.new firsts.new seconds.new values.new steps.new) store.new) × (result.stop ≡ Goes) × (result.taken ≡ taken) }
+    requires { let q : Record = record_of (resting status source) gathered.now cells.old row.old arena.old ends.old text_firsts.old text_seconds.old kinds.old lengths.old firsts.old seconds.old values.old steps.old in InputReady q store.old }
+    ensures { let q : Record = record_of (resting status source) gathered.now cells.old row.old arena.old ends.old text_firsts.old text_seconds.old kinds.old lengths.old firsts.old seconds.old values.old steps.old in (Arrives (read_end (state_of q store.old)) store.old (record_of (core_in result) gathered.now cells.new row.new arena.new ends.new text_firsts.new text_seconds.new kinds.new lengths.new firsts.new seconds.new values.new steps.new) store.new) × (result.stop ≡ Goes) × (result.taken ≡ taken) }
 {
     let after = record::emptied(source, true);
     if source.length == 0 {
@@ -135,10 +131,8 @@ pub fn take_line(
     values: &mut NumberColumn,
     steps: &mut NumberColumn,
 ) -> TurnOutcome
-    ghost q: { Record }
-    requires steps_value { record_of (resting status source) gathered.old cells.old row.old arena.old ends.old text_firsts.old text_seconds.old kinds.old lengths.old firsts.old seconds.old values.old steps.old ≡ q }
-    requires input_ready { InputReady q store.old × (taken < length block.now) }
-    ensures { (InputRefines block.now q store.old taken (record_of (core_in result) gathered.new cells.new row.new arena.new ends.new text_firsts.new text_seconds.new kinds.new lengths.new firsts.new seconds.new values.new steps.new) store.new result.taken) × (result.stop ≡ Goes) }
+    requires { let q : Record = record_of (resting status source) gathered.old cells.old row.old arena.old ends.old text_firsts.old text_seconds.old kinds.old lengths.old firsts.old seconds.old values.old steps.old in InputReady q store.old × (taken < length block.now) }
+    ensures { let q : Record = record_of (resting status source) gathered.old cells.old row.old arena.old ends.old text_firsts.old text_seconds.old kinds.old lengths.old firsts.old seconds.old values.old steps.old in (InputRefines block.now q store.old taken (record_of (core_in result) gathered.new cells.new row.new arena.new ends.new text_firsts.new text_seconds.new kinds.new lengths.new firsts.new seconds.new values.new steps.new) store.new result.taken) × (result.stop ≡ Goes) }
 {
     let got = source_line::gather(block, taken, gathered, source);
     let after = got.source;

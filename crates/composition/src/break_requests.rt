@@ -34,10 +34,8 @@ fn space(
     seconds: &ByteColumn,
     texts: usize,
 ) -> PageOutcome
-    ghost q: { PageState }
-    requires ends_value { page_state layout page collected cells.now stack arena.old ends.old ≡ q }
-    requires page_ready { PageReady planted q [] row.old firsts.now seconds.now texts × PrinterInvariant printer }
-    ensures { PageRefines (λ ts s. space_by (printer_of printer) argument.now s) firsts.now seconds.now texts planted q result.way result.written (page_state result.layout result.page result.collected cells.now result.stack arena.new ends.new) row.new }
+    requires { let q : PageState = page_state layout page collected cells.now stack arena.old ends.old in PageReady planted q [] row.old firsts.now seconds.now texts × PrinterInvariant printer }
+    ensures { let q : PageState = page_state layout page collected cells.now stack arena.old ends.old in PageRefines (λ ts s. space_by (printer_of printer) argument.now s) firsts.now seconds.now texts planted q result.way result.written (page_state result.layout result.page result.collected cells.now result.stack arena.new ends.new) row.new }
 {
     match settings::layout::spacing(argument, printer) {
         MaybeRows::Are(count) => super::page_rows::skip(
@@ -66,10 +64,8 @@ fn act_on(
     seconds: &ByteColumn,
     texts: usize,
 ) -> PageOutcome
-    ghost q: { PageState }
-    requires ends_value { page_state layout page collected cells.now stack arena.old ends.old ≡ q }
-    requires page_ready { PageReady planted q [] row.old firsts.now seconds.now texts × PrinterInvariant printer }
-    ensures { PageRefines (λ ts s. act_by (printer_of printer) request argument.now s) firsts.now seconds.now texts planted q result.way result.written (page_state result.layout result.page result.collected cells.now result.stack arena.new ends.new) row.new }
+    requires { let q : PageState = page_state layout page collected cells.now stack arena.old ends.old in PageReady planted q [] row.old firsts.now seconds.now texts × PrinterInvariant printer }
+    ensures { let q : PageState = page_state layout page collected cells.now stack arena.old ends.old in PageRefines (λ ts s. act_by (printer_of printer) request argument.now s) firsts.now seconds.now texts planted q result.way result.written (page_state result.layout result.page result.collected cells.now result.stack arena.new ends.new) row.new }
 {
     match request {
         Breaking::Br => stay(Way::On, layout, page, collected, stack),
@@ -118,10 +114,8 @@ pub fn act(
     seconds: &ByteColumn,
     texts: usize,
 ) -> PageOutcome
-    ghost q: { PageState }
-    requires ends_value { page_state layout page collected cells.now stack arena.old ends.old ≡ q }
-    requires page_ready { PageReady planted q line.now row.old firsts.now seconds.now texts × PrinterInvariant printer × (length parts.old ≡ 512) }
-    ensures { PageRefines (λ ts s. rule.act (printer_of printer) request line.now s) firsts.now seconds.now texts planted q result.way result.written (page_state result.layout result.page result.collected cells.now result.stack arena.new ends.new) row.new }
+    requires { let q : PageState = page_state layout page collected cells.now stack arena.old ends.old in PageReady planted q line.now row.old firsts.now seconds.now texts × PrinterInvariant printer × (length parts.old ≡ 512) }
+    ensures { let q : PageState = page_state layout page collected cells.now stack arena.old ends.old in PageRefines (λ ts s. rule.act (printer_of printer) request line.now s) firsts.now seconds.now texts planted q result.way result.written (page_state result.layout result.page result.collected cells.now result.stack arena.new ends.new) row.new }
 {
     let mut places = [0u16; ARGUMENT_COUNT];
     let count = scan::arguments::arguments(line, 0, &mut *parts, &mut places);
@@ -193,10 +187,8 @@ pub fn obey(
     seconds: &ByteColumn,
     texts: usize,
 ) -> PageOutcome
-    ghost q: { PageState }
-    requires ends_value { page_state layout page collected cells.now stack arena.old ends.old ≡ q }
-    requires page_ready { PageReady planted q line.now row.old firsts.now seconds.now texts × PrinterInvariant printer × (length parts.old ≡ 512) }
-    ensures { PageRefines (λ ts s. obeyed (printer_of printer) period request name line.now s) firsts.now seconds.now texts planted q result.way result.written (page_state result.layout result.page result.collected cells.now result.stack arena.new ends.new) row.new }
+    requires { let q : PageState = page_state layout page collected cells.now stack arena.old ends.old in PageReady planted q line.now row.old firsts.now seconds.now texts × PrinterInvariant printer × (length parts.old ≡ 512) }
+    ensures { let q : PageState = page_state layout page collected cells.now stack arena.old ends.old in PageRefines (λ ts s. obeyed (printer_of printer) period request name line.now s) firsts.now seconds.now texts planted q result.way result.written (page_state result.layout result.page result.collected cells.now result.stack arena.new ends.new) row.new }
 {
     if starts_first(page.number, period, request) {
         return super::page_rows::start(

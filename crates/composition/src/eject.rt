@@ -42,10 +42,8 @@ pub fn eject(
     seconds: &ByteColumn,
     texts: usize,
 ) -> PageOutcome
-    ghost q: { PageState }
-    requires ends_value { page_state layout page collected cells.now stack arena.old ends.old ≡ q }
-    requires page_ready { PageReady planted q [] row.old firsts.now seconds.now texts }
-    ensures { PageRefines (λ ts s. rule.eject from s) firsts.now seconds.now texts planted q result.way result.written (page_state result.layout result.page result.collected cells.now result.stack arena.new ends.new) row.new }
+    requires { let q : PageState = page_state layout page collected cells.now stack arena.old ends.old in PageReady planted q [] row.old firsts.now seconds.now texts }
+    ensures { let q : PageState = page_state layout page collected cells.now stack arena.old ends.old in PageRefines (λ ts s. rule.eject from s) firsts.now seconds.now texts planted q result.way result.written (page_state result.layout result.page result.collected cells.now result.stack arena.new ends.new) row.new }
 {
     if from != page.number {
         return super::page_rows::lead_to(
@@ -83,10 +81,8 @@ pub fn eject_last(
     seconds: &ByteColumn,
     texts: usize,
 ) -> PageOutcome
-    ghost q: { PageState }
-    requires ends_value { page_state layout page collected cells.now stack arena.old ends.old ≡ q }
-    requires page_ready { PageReady planted q [] row.old firsts.now seconds.now texts }
-    ensures { PageRefines (λ ts s. rule.eject_last s) firsts.now seconds.now texts planted q result.way result.written (page_state result.layout result.page result.collected cells.now result.stack arena.new ends.new) row.new }
+    requires { let q : PageState = page_state layout page collected cells.now stack arena.old ends.old in PageReady planted q [] row.old firsts.now seconds.now texts }
+    ensures { let q : PageState = page_state layout page collected cells.now stack arena.old ends.old in PageRefines (λ ts s. rule.eject_last s) firsts.now seconds.now texts planted q result.way result.written (page_state result.layout result.page result.collected cells.now result.stack arena.new ends.new) row.new }
 {
     let length = layout.page;
     let below = page::position::rows_below(page, length, planted);
@@ -124,10 +120,8 @@ pub fn begin_end(
     seconds: &ByteColumn,
     texts: usize,
 ) -> PageOutcome
-    ghost q: { PageState }
-    requires ends_value { page_state layout page collected cells.now stack arena.old ends.old ≡ q }
-    requires page_ready { PageReady planted q [] row.old firsts.now seconds.now texts }
-    ensures { PageRefines (λ ts s. rule.begin_end s) firsts.now seconds.now texts planted q result.way result.written (page_state result.layout result.page result.collected cells.now result.stack arena.new ends.new) row.new }
+    requires { let q : PageState = page_state layout page collected cells.now stack arena.old ends.old in PageReady planted q [] row.old firsts.now seconds.now texts }
+    ensures { let q : PageState = page_state layout page collected cells.now stack arena.old ends.old in PageRefines (λ ts s. rule.begin_end s) firsts.now seconds.now texts planted q result.way result.written (page_state result.layout result.page result.collected cells.now result.stack arena.new ends.new) row.new }
 {
     let used = page.used;
     let last = Page {

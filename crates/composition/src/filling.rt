@@ -94,10 +94,8 @@ fn overflow(
     seconds: &ByteColumn,
     texts: usize,
 ) -> PageOutcome
-    ghost q: { PageState }
-    requires ends_value { page_state layout page collected cells.old stack arena.old ends.old ≡ q }
-    requires page_ready { PageReady planted q line.now row.old firsts.now seconds.now texts × Overflows line.now to cells.old (across_of collected.room) gap o }
-    ensures { PageRefines (λ ts s. rule.filled (placed_of (across_of collected.indent) (across_of collected.room) cells.old (across_of collected.next) line.now to (Full o)) gap s) firsts.now seconds.now texts planted q result.way result.written (page_state result.layout result.page result.collected cells.new result.stack arena.new ends.new) row.new }
+    requires { let q : PageState = page_state layout page collected cells.old stack arena.old ends.old in PageReady planted q line.now row.old firsts.now seconds.now texts × Overflows line.now to cells.old (across_of collected.room) gap o }
+    ensures { let q : PageState = page_state layout page collected cells.old stack arena.old ends.old in PageRefines (λ ts s. rule.filled (placed_of (across_of collected.indent) (across_of collected.room) cells.old (across_of collected.next) line.now to (Full o)) gap s) firsts.now seconds.now texts planted q result.way result.written (page_state result.layout result.page result.collected cells.new result.stack arena.new ends.new) row.new }
 {
     let margin = layout.offset;
     let offset = margin.now;
@@ -156,10 +154,8 @@ fn fill_placed(
     seconds: &ByteColumn,
     texts: usize,
 ) -> PageOutcome
-    ghost q: { PageState }
-    requires ends_value { page_state layout page collected cells.old stack arena.old ends.old ≡ q }
-    requires page_ready { PageReady planted q line.now row.old firsts.now seconds.now texts × WordsFilled line.now to cells.old (across_of collected.room) gap placed }
-    ensures { PageRefines (λ ts s. rule.filled (placed_of (across_of collected.indent) (across_of collected.room) cells.old (across_of collected.next) line.now to placed) gap s) firsts.now seconds.now texts planted q result.way result.written (page_state result.layout result.page result.collected cells.new result.stack arena.new ends.new) row.new }
+    requires { let q : PageState = page_state layout page collected cells.old stack arena.old ends.old in PageReady planted q line.now row.old firsts.now seconds.now texts × WordsFilled line.now to cells.old (across_of collected.room) gap placed }
+    ensures { let q : PageState = page_state layout page collected cells.old stack arena.old ends.old in PageRefines (λ ts s. rule.filled (placed_of (across_of collected.indent) (across_of collected.room) cells.old (across_of collected.next) line.now to placed) gap s) firsts.now seconds.now texts planted q result.way result.written (page_state result.layout result.page result.collected cells.new result.stack arena.new ends.new) row.new }
 {
     match placed {
         Placed::All(length) => collect(length, gap, layout, page, collected, stack),
@@ -190,10 +186,8 @@ fn fill_new(
     seconds: &ByteColumn,
     texts: usize,
 ) -> PageOutcome
-    ghost q: { PageState }
-    requires ends_value { page_state layout page collected cells.old stack arena.old ends.old ≡ q }
-    requires page_ready { PageReady planted q line.now row.old firsts.now seconds.now texts × WordStarts line.now to (across_of lead) gap found × (collected.there ≡ false) }
-    ensures { PageRefines (λ ts s. rule.fill (leading_word (across_of lead) (bytes_between line.now found.from found.to) ∷ words (bytes_between line.now found.to to)) gap s) firsts.now seconds.now texts planted q result.way result.written (page_state result.layout result.page result.collected cells.new result.stack arena.new ends.new) row.new }
+    requires { let q : PageState = page_state layout page collected cells.old stack arena.old ends.old in PageReady planted q line.now row.old firsts.now seconds.now texts × WordStarts line.now to (across_of lead) gap found × (collected.there ≡ false) }
+    ensures { let q : PageState = page_state layout page collected cells.old stack arena.old ends.old in PageRefines (λ ts s. rule.fill (leading_word (across_of lead) (bytes_between line.now found.from found.to) ∷ words (bytes_between line.now found.to to)) gap s) firsts.now seconds.now texts planted q result.way result.written (page_state result.layout result.page result.collected cells.new result.stack arena.new ends.new) row.new }
 {
     let at = found.to;
     let indent = settings::layout::indent_now(layout);
@@ -232,10 +226,8 @@ pub fn fill_rest(
     seconds: &ByteColumn,
     texts: usize,
 ) -> PageOutcome
-    ghost q: { PageState }
-    requires ends_value { page_state layout page collected cells.old stack arena.old ends.old ≡ q }
-    requires page_ready { PageReady planted q line.now row.old firsts.now seconds.now texts × Places line.now 0 to × (across_of gap ≤ 2) }
-    ensures { PageRefines (λ ts s. rule.fill (words (bytes_between line.now 0 to)) (across_of gap) s) firsts.now seconds.now texts planted q result.way result.written (page_state result.layout result.page result.collected cells.new result.stack arena.new ends.new) row.new }
+    requires { let q : PageState = page_state layout page collected cells.old stack arena.old ends.old in PageReady planted q line.now row.old firsts.now seconds.now texts × Places line.now 0 to × (across_of gap ≤ 2) }
+    ensures { let q : PageState = page_state layout page collected cells.old stack arena.old ends.old in PageRefines (λ ts s. rule.fill (words (bytes_between line.now 0 to)) (across_of gap) s) firsts.now seconds.now texts planted q result.way result.written (page_state result.layout result.page result.collected cells.new result.stack arena.new ends.new) row.new }
 {
     let behind = fill::words::count(gap) as u8;
     let NextWord::Found(found) = fill::words::next_word(line, 0, to) else {
@@ -294,10 +286,8 @@ pub fn fill_line(
     seconds: &ByteColumn,
     texts: usize,
 ) -> PageOutcome
-    ghost q: { PageState }
-    requires ends_value { page_state layout page collected cells.old stack arena.old ends.old ≡ q }
-    requires page_ready { PageReady planted q line.now row.old firsts.now seconds.now texts × Places line.now 0 to × Follows collected.there (words (bytes_between line.now 0 to)) }
-    ensures { PageRefines (λ ts s. rule.text_way fills (words (bytes_between line.now 0 to)) (bytes_between line.now 0 to) s) firsts.now seconds.now texts planted q result.way result.written (page_state result.layout result.page result.collected cells.new result.stack arena.new ends.new) row.new }
+    requires { let q : PageState = page_state layout page collected cells.old stack arena.old ends.old in PageReady planted q line.now row.old firsts.now seconds.now texts × Places line.now 0 to × Follows collected.there (words (bytes_between line.now 0 to)) }
+    ensures { let q : PageState = page_state layout page collected cells.old stack arena.old ends.old in PageRefines (λ ts s. rule.text_way fills (words (bytes_between line.now 0 to)) (bytes_between line.now 0 to) s) firsts.now seconds.now texts planted q result.way result.written (page_state result.layout result.page result.collected cells.new result.stack arena.new ends.new) row.new }
 {
     let NextWord::Found(found) = fill::words::next_word(line, 0, to) else {
         return stay(Way::On, layout, page, collected, stack);

@@ -77,10 +77,8 @@ pub fn decide(
     seconds: &ByteColumn,
     texts: usize,
 ) -> PageOutcome
-    ghost q: { PageState }
-    requires ends_value { page_state layout page collected cells.now stack arena.old ends.old ≡ q }
-    requires page_ready { PageReady planted q line.now row.now firsts.now seconds.now texts × PrinterInvariant printer }
-    ensures { PageRefines (λ ts s. settles (rule.decide (printer_of printer) line.now s) s) firsts.now seconds.now texts planted q result.way result.written (page_state result.layout result.page result.collected cells.now result.stack arena.new ends.new) row.now }
+    requires { let q : PageState = page_state layout page collected cells.now stack arena.old ends.old in PageReady planted q line.now row.now firsts.now seconds.now texts × PrinterInvariant printer }
+    ensures { let q : PageState = page_state layout page collected cells.now stack arena.old ends.old in PageRefines (λ ts s. settles (rule.decide (printer_of printer) line.now s) s) firsts.now seconds.now texts planted q result.way result.written (page_state result.layout result.page result.collected cells.now result.stack arena.new ends.new) row.now }
 {
     let places = line_syntax::lines::condition_at(line, 0);
     let from = places.from;

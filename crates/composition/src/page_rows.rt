@@ -113,10 +113,8 @@ pub fn break_line(
     seconds: &ByteColumn,
     texts: usize,
 ) -> PageOutcome
-    ghost q: { PageState }
-    requires ends_value { page_state layout page collected cells.now stack arena.old ends.old ≡ q }
-    requires page_ready { PageReady planted q bytes.now row.old firsts.now seconds.now texts × Plain held }
-    ensures { PageRefines (λ ts s. rule.break (collected_line (across_of collected.indent) (across_of collected.room) cells.now collected.length (across_of collected.next)) (held_of ts held bytes.now) s) firsts.now seconds.now texts planted q result.way result.written (page_state result.layout result.page result.collected cells.now result.stack arena.new ends.new) row.new }
+    requires { let q : PageState = page_state layout page collected cells.now stack arena.old ends.old in PageReady planted q bytes.now row.old firsts.now seconds.now texts × Plain held }
+    ensures { let q : PageState = page_state layout page collected cells.now stack arena.old ends.old in PageRefines (λ ts s. rule.break (collected_line (across_of collected.indent) (across_of collected.room) cells.now collected.length (across_of collected.next)) (held_of ts held bytes.now) s) firsts.now seconds.now texts planted q result.way result.written (page_state result.layout result.page result.collected cells.now result.stack arena.new ends.new) row.new }
 {
     let offset = layout.offset.now;
     let length = layout.page;
@@ -162,10 +160,8 @@ pub fn blank(
     seconds: &ByteColumn,
     texts: usize,
 ) -> PageOutcome
-    ghost q: { PageState }
-    requires ends_value { page_state layout page collected cells.now stack arena.old ends.old ≡ q }
-    requires page_ready { PageReady planted q bytes.now row.old firsts.now seconds.now texts × Plain held × (down_of rows ≤ 500) }
-    ensures { PageRefines (λ ts s. rule.blank (down_of rows) (held_of ts held bytes.now) s) firsts.now seconds.now texts planted q result.way result.written (page_state result.layout result.page result.collected cells.now result.stack arena.new ends.new) row.new }
+    requires { let q : PageState = page_state layout page collected cells.now stack arena.old ends.old in PageReady planted q bytes.now row.old firsts.now seconds.now texts × Plain held × (down_of rows ≤ 500) }
+    ensures { let q : PageState = page_state layout page collected cells.now stack arena.old ends.old in PageRefines (λ ts s. rule.blank (down_of rows) (held_of ts held bytes.now) s) firsts.now seconds.now texts planted q result.way result.written (page_state result.layout result.page result.collected cells.now result.stack arena.new ends.new) row.new }
 {
     let length = layout.page;
     let written = fill::unfilled::blank_rows(rows, &mut *row);
@@ -191,10 +187,8 @@ pub fn skip(
     seconds: &ByteColumn,
     texts: usize,
 ) -> PageOutcome
-    ghost q: { PageState }
-    requires ends_value { page_state layout page collected cells.now stack arena.old ends.old ≡ q }
-    requires page_ready { PageReady planted q [] row.old firsts.now seconds.now texts }
-    ensures { PageRefines (λ ts s. rule.skip count.0 s) firsts.now seconds.now texts planted q result.way result.written (page_state result.layout result.page result.collected cells.now result.stack arena.new ends.new) row.new }
+    requires { let q : PageState = page_state layout page collected cells.now stack arena.old ends.old in PageReady planted q [] row.old firsts.now seconds.now texts }
+    ensures { let q : PageState = page_state layout page collected cells.now stack arena.old ends.old in PageRefines (λ ts s. rule.skip count.0 s) firsts.now seconds.now texts planted q result.way result.written (page_state result.layout result.page result.collected cells.now result.stack arena.new ends.new) row.new }
 {
     let length = layout.page;
     let rows = page::position::blanks(count, page, length, planted);
@@ -246,10 +240,8 @@ pub fn start(
     seconds: &ByteColumn,
     texts: usize,
 ) -> PageOutcome
-    ghost q: { PageState }
-    requires ends_value { page_state layout page collected cells.now stack arena.old ends.old ≡ q }
-    requires page_ready { PageReady planted q bytes.now row.old firsts.now seconds.now texts × Plain held }
-    ensures { PageRefines (λ ts s. rule.goes (rule.start_page (held_of ts held bytes.now) s)) firsts.now seconds.now texts planted q result.way result.written (page_state result.layout result.page result.collected cells.now result.stack arena.new ends.new) row.new }
+    requires { let q : PageState = page_state layout page collected cells.now stack arena.old ends.old in PageReady planted q bytes.now row.old firsts.now seconds.now texts × Plain held }
+    ensures { let q : PageState = page_state layout page collected cells.now stack arena.old ends.old in PageRefines (λ ts s. rule.goes (rule.start_page (held_of ts held bytes.now) s)) firsts.now seconds.now texts planted q result.way result.written (page_state result.layout result.page result.collected cells.now result.stack arena.new ends.new) row.new }
 {
     let length = layout.page;
     let landed = page::springs::start_page(

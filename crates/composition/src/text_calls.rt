@@ -43,10 +43,8 @@ pub fn call(
     seconds: &ByteColumn,
     texts: usize,
 ) -> PageOutcome
-    ghost q: { PageState }
-    requires ends_value { page_state layout page collected cells.now stack arena.old ends.old ≡ q }
-    requires page_ready { PageReady planted q line.now row.now firsts.now seconds.now texts × (length parts.old ≡ 512) × Known name firsts.now seconds.now texts }
-    ensures { PageRefines (λ ts s. goes (called_text (text_of name ts) line.now s)) firsts.now seconds.now texts planted q result.way result.written (page_state result.layout result.page result.collected cells.now result.stack arena.new ends.new) row.now }
+    requires { let q : PageState = page_state layout page collected cells.now stack arena.old ends.old in PageReady planted q line.now row.now firsts.now seconds.now texts × (length parts.old ≡ 512) × Known name firsts.now seconds.now texts }
+    ensures { let q : PageState = page_state layout page collected cells.now stack arena.old ends.old in PageRefines (λ ts s. goes (called_text (text_of name ts) line.now s)) firsts.now seconds.now texts planted q result.way result.written (page_state result.layout result.page result.collected cells.now result.stack arena.new ends.new) row.now }
 {
     let mut given = [0u16; ARGUMENT_COUNT];
     let count = scan::arguments::arguments(line, 0, &mut *parts, &mut given);

@@ -38,10 +38,8 @@ fn stand(
     seconds: &ByteColumn,
     texts: usize,
 ) -> PageOutcome
-    ghost q: { PageState }
-    requires ends_value { page_state layout page collected cells.now stack arena.old ends.old ≡ q }
-    requires page_ready { PageReady planted q line.now row.old firsts.now seconds.now texts × Places line.now 0 to }
-    ensures { PageRefines (λ ts s. rule.text_way stands (words (bytes_between line.now 0 to)) (bytes_between line.now 0 to) s) firsts.now seconds.now texts planted q result.way result.written (page_state result.layout result.page result.collected cells.now result.stack arena.new ends.new) row.new }
+    requires { let q : PageState = page_state layout page collected cells.now stack arena.old ends.old in PageReady planted q line.now row.old firsts.now seconds.now texts × Places line.now 0 to }
+    ensures { let q : PageState = page_state layout page collected cells.now stack arena.old ends.old in PageRefines (λ ts s. rule.text_way stands (words (bytes_between line.now 0 to)) (bytes_between line.now 0 to) s) firsts.now seconds.now texts planted q result.way result.written (page_state result.layout result.page result.collected cells.now result.stack arena.new ends.new) row.new }
 {
     let margin = layout.offset;
     let offset = margin.now;
@@ -86,10 +84,8 @@ fn blank_line(
     seconds: &ByteColumn,
     texts: usize,
 ) -> PageOutcome
-    ghost q: { PageState }
-    requires ends_value { page_state layout page collected cells.now stack arena.old ends.old ≡ q }
-    requires page_ready { PageReady planted q cells.now row.old firsts.now seconds.now texts }
-    ensures { PageRefines (λ ts s. rule.blank_from s.collected s) firsts.now seconds.now texts planted q result.way result.written (page_state result.layout result.page result.collected cells.now result.stack arena.new ends.new) row.new }
+    requires { let q : PageState = page_state layout page collected cells.now stack arena.old ends.old in PageReady planted q cells.now row.old firsts.now seconds.now texts }
+    ensures { let q : PageState = page_state layout page collected cells.now stack arena.old ends.old in PageRefines (λ ts s. rule.blank_from s.collected s) firsts.now seconds.now texts planted q result.way result.written (page_state result.layout result.page result.collected cells.now result.stack arena.new ends.new) row.new }
 {
     if collected.there {
         let none = fill::words::slice(cells, 0, 0);
@@ -144,10 +140,8 @@ fn break_first(
     seconds: &ByteColumn,
     texts: usize,
 ) -> PageOutcome
-    ghost q: { PageState }
-    requires ends_value { page_state layout page collected cells.now stack arena.old ends.old ≡ q }
-    requires page_ready { PageReady planted q line.now row.old firsts.now seconds.now texts × Places line.now 0 to }
-    ensures { PageRefines (λ ts s. rule.text_way (breaks (collected_line (across_of collected.indent) (across_of collected.room) cells.now collected.length (across_of collected.next))) (words (bytes_between line.now 0 to)) (bytes_between line.now 0 to) s) firsts.now seconds.now texts planted q result.way result.written (page_state result.layout result.page result.collected cells.now result.stack arena.new ends.new) row.new }
+    requires { let q : PageState = page_state layout page collected cells.now stack arena.old ends.old in PageReady planted q line.now row.old firsts.now seconds.now texts × Places line.now 0 to }
+    ensures { let q : PageState = page_state layout page collected cells.now stack arena.old ends.old in PageRefines (λ ts s. rule.text_way (breaks (collected_line (across_of collected.indent) (across_of collected.room) cells.now collected.length (across_of collected.next))) (words (bytes_between line.now 0 to)) (bytes_between line.now 0 to) s) firsts.now seconds.now texts planted q result.way result.written (page_state result.layout result.page result.collected cells.now result.stack arena.new ends.new) row.new }
 {
     let bytes = fill::words::slice(line, 0, to);
     super::page_rows::break_line(
@@ -199,10 +193,8 @@ fn fresh_line(
     seconds: &ByteColumn,
     texts: usize,
 ) -> PageOutcome
-    ghost q: { PageState }
-    requires ends_value { page_state layout page collected cells.old stack arena.old ends.old ≡ q }
-    requires page_ready { PageReady planted q line.now row.old firsts.now seconds.now texts × Places line.now 0 to × (breaks_first collected.there (rule.as_it_stands (layout_of layout)) (leads (words (bytes_between line.now 0 to))) ≡ false) }
-    ensures { PageRefines (λ ts s. rule.text_way (fresh_way (rule.as_it_stands (layout_of layout))) (words (bytes_between line.now 0 to)) (bytes_between line.now 0 to) s) firsts.now seconds.now texts planted q result.way result.written (page_state result.layout result.page result.collected cells.new result.stack arena.new ends.new) row.new }
+    requires { let q : PageState = page_state layout page collected cells.old stack arena.old ends.old in PageReady planted q line.now row.old firsts.now seconds.now texts × Places line.now 0 to × (breaks_first collected.there (rule.as_it_stands (layout_of layout)) (leads (words (bytes_between line.now 0 to))) ≡ false) }
+    ensures { let q : PageState = page_state layout page collected cells.old stack arena.old ends.old in PageRefines (λ ts s. rule.text_way (fresh_way (rule.as_it_stands (layout_of layout))) (words (bytes_between line.now 0 to)) (bytes_between line.now 0 to) s) firsts.now seconds.now texts planted q result.way result.written (page_state result.layout result.page result.collected cells.new result.stack arena.new ends.new) row.new }
 {
     if settings::layout::stands(layout) {
         return stand(
@@ -233,10 +225,8 @@ fn word_line(
     seconds: &ByteColumn,
     texts: usize,
 ) -> PageOutcome
-    ghost q: { PageState }
-    requires ends_value { page_state layout page collected cells.old stack arena.old ends.old ≡ q }
-    requires page_ready { PageReady planted q line.now row.old firsts.now seconds.now texts × Places line.now 0 to }
-    ensures { PageRefines (λ ts s. rule.text_way (word_way collected.there (rule.as_it_stands (layout_of layout)) (leads (words (bytes_between line.now 0 to))) (collected_line (across_of collected.indent) (across_of collected.room) cells.old collected.length (across_of collected.next))) (words (bytes_between line.now 0 to)) (bytes_between line.now 0 to) s) firsts.now seconds.now texts planted q result.way result.written (page_state result.layout result.page result.collected cells.new result.stack arena.new ends.new) row.new }
+    requires { let q : PageState = page_state layout page collected cells.old stack arena.old ends.old in PageReady planted q line.now row.old firsts.now seconds.now texts × Places line.now 0 to }
+    ensures { let q : PageState = page_state layout page collected cells.old stack arena.old ends.old in PageRefines (λ ts s. rule.text_way (word_way collected.there (rule.as_it_stands (layout_of layout)) (leads (words (bytes_between line.now 0 to))) (collected_line (across_of collected.indent) (across_of collected.room) cells.old collected.length (across_of collected.next))) (words (bytes_between line.now 0 to)) (bytes_between line.now 0 to) s) firsts.now seconds.now texts planted q result.way result.written (page_state result.layout result.page result.collected cells.new result.stack arena.new ends.new) row.new }
 {
     if breaks_first(line, to, layout, collected.there) {
         return break_first(
@@ -267,10 +257,8 @@ pub fn text_line(
     seconds: &ByteColumn,
     texts: usize,
 ) -> PageOutcome
-    ghost q: { PageState }
-    requires ends_value { page_state layout page collected cells.old stack arena.old ends.old ≡ q }
-    requires page_ready { PageReady planted q line.now row.old firsts.now seconds.now texts × Places line.now 0 to }
-    ensures { PageRefines (λ ts s. rule.text_line (bytes_between line.now 0 to) s) firsts.now seconds.now texts planted q result.way result.written (page_state result.layout result.page result.collected cells.new result.stack arena.new ends.new) row.new }
+    requires { let q : PageState = page_state layout page collected cells.old stack arena.old ends.old in PageReady planted q line.now row.old firsts.now seconds.now texts × Places line.now 0 to }
+    ensures { let q : PageState = page_state layout page collected cells.old stack arena.old ends.old in PageRefines (λ ts s. rule.text_line (bytes_between line.now 0 to) s) firsts.now seconds.now texts planted q result.way result.written (page_state result.layout result.page result.collected cells.new result.stack arena.new ends.new) row.new }
 {
     if page.number == 0 {
         let bytes = fill::words::slice(line, 0, to);

@@ -35,10 +35,8 @@ fn resume(
     values: &mut NumberColumn,
     steps: &mut NumberColumn,
 ) -> WorkOutcome
-    ghost q: { WholeState }
-    requires steps_value { whole_of status cells.old arena.old ends.old store.old text_firsts.old text_seconds.old kinds.old lengths.old firsts.old seconds.old values.old steps.old ≡ q }
-    requires state_ready { StateReady q line.now row.old printer × ItemReady what line.now size status.opening.there }
-    ensures { StateRefines (resumed (printer_of printer) what (take size line.now)) q result.way result.written (whole_of result.status cells.new arena.new ends.new store.new text_firsts.new text_seconds.new kinds.new lengths.new firsts.new seconds.new values.new steps.new) row.new }
+    requires { let q : WholeState = whole_of status cells.old arena.old ends.old store.old text_firsts.old text_seconds.old kinds.old lengths.old firsts.old seconds.old values.old steps.old in StateReady q line.now row.old printer × ItemReady what line.now size status.opening.there }
+    ensures { let q : WholeState = whole_of status cells.old arena.old ends.old store.old text_firsts.old text_seconds.old kinds.old lengths.old firsts.old seconds.old values.old steps.old in StateRefines (resumed (printer_of printer) what (take size line.now)) q result.way result.written (whole_of result.status cells.new arena.new ends.new store.new text_firsts.new text_seconds.new kinds.new lengths.new firsts.new seconds.new values.new steps.new) row.new }
 {
     let layout = status.layout;
     let page = status.page;
@@ -186,10 +184,8 @@ pub fn take_item(
     values: &mut NumberColumn,
     steps: &mut NumberColumn,
 ) -> Performed
-    ghost q: { WholeState }
-    requires steps_value { whole_of status cells.old arena.old ends.old store.old text_firsts.old text_seconds.old kinds.old lengths.old firsts.old seconds.old values.old steps.old ≡ q }
-    requires taken_ready { TakenReady q stored row.old printer what }
-    ensures { StepRefines (printer_of printer) q stored result.way result.written (whole_of result.status cells.new arena.new ends.new store.new text_firsts.new text_seconds.new kinds.new lengths.new firsts.new seconds.new values.new steps.new) result.stored row.new }
+    requires { let q : WholeState = whole_of status cells.old arena.old ends.old store.old text_firsts.old text_seconds.old kinds.old lengths.old firsts.old seconds.old values.old steps.old in TakenReady q stored row.old printer what }
+    ensures { let q : WholeState = whole_of status cells.old arena.old ends.old store.old text_firsts.old text_seconds.old kinds.old lengths.old firsts.old seconds.old values.old steps.old in StepRefines (printer_of printer) q stored result.way result.written (whole_of result.status cells.new arena.new ends.new store.new text_firsts.new text_seconds.new kinds.new lengths.new firsts.new seconds.new values.new steps.new) result.stored row.new }
 {
     let stack = status.stack;
     let mut line = [0u8; LINE_SIZE];

@@ -46,10 +46,8 @@ pub fn deal(
     values: &mut NumberColumn,
     steps: &mut NumberColumn,
 ) -> WorkOutcome
-    ghost q: { WholeState }
-    requires steps_value { whole_of status cells.old arena.old ends.old store.old text_firsts.old text_seconds.old kinds.old lengths.old firsts.old seconds.old values.old steps.old ≡ q }
-    requires state_ready { StateReady q line.now row.old printer }
-    ensures { StateRefines (λ s. rules.deal (printer_of printer) [] line.now s) q result.way result.written (whole_of result.status cells.new arena.new ends.new store.new text_firsts.new text_seconds.new kinds.new lengths.new firsts.new seconds.new values.new steps.new) row.new }
+    requires { let q : WholeState = whole_of status cells.old arena.old ends.old store.old text_firsts.old text_seconds.old kinds.old lengths.old firsts.old seconds.old values.old steps.old in StateReady q line.now row.old printer }
+    ensures { let q : WholeState = whole_of status cells.old arena.old ends.old store.old text_firsts.old text_seconds.old kinds.old lengths.old firsts.old seconds.old values.old steps.old in StateRefines (λ s. rules.deal (printer_of printer) [] line.now s) q result.way result.written (whole_of result.status cells.new arena.new ends.new store.new text_firsts.new text_seconds.new kinds.new lengths.new firsts.new seconds.new values.new steps.new) row.new }
 {
     let layout = status.layout;
     let page = status.page;
@@ -110,10 +108,8 @@ fn work_end(
     text_firsts: &ByteColumn,
     text_seconds: &ByteColumn,
 ) -> PageOutcome
-    ghost q: { PageState }
-    requires ends_value { page_state status.layout status.page status.collected cells.now status.stack arena.old ends.old ≡ q }
-    requires page_ready { page-state.PageReady status.planted q [] row.old text_firsts.now text_seconds.now status.texts }
-    ensures { PageRefines (λ ts s. work_end s.page.last s) text_firsts.now text_seconds.now status.texts status.planted q result.way result.written (page_state result.layout result.page result.collected cells.now result.stack arena.new ends.new) row.new }
+    requires { let q : PageState = page_state status.layout status.page status.collected cells.now status.stack arena.old ends.old in page-state.PageReady status.planted q [] row.old text_firsts.now text_seconds.now status.texts }
+    ensures { let q : PageState = page_state status.layout status.page status.collected cells.now status.stack arena.old ends.old in PageRefines (λ ts s. work_end s.page.last s) text_firsts.now text_seconds.now status.texts status.planted q result.way result.written (page_state result.layout result.page result.collected cells.now result.stack arena.new ends.new) row.new }
 {
     let layout = status.layout;
     let page = status.page;
@@ -171,10 +167,8 @@ pub fn work(
     values: &mut NumberColumn,
     steps: &mut NumberColumn,
 ) -> Performed
-    ghost q: { WholeState }
-    requires steps_value { whole_of status cells.old arena.old ends.old store.old text_firsts.old text_seconds.old kinds.old lengths.old firsts.old seconds.old values.old steps.old ≡ q }
-    requires step_ready { StepReady q stored row.old printer }
-    ensures { StepRefines (printer_of printer) q stored result.way result.written (whole_of result.status cells.new arena.new ends.new store.new text_firsts.new text_seconds.new kinds.new lengths.new firsts.new seconds.new values.new steps.new) result.stored row.new }
+    requires { let q : WholeState = whole_of status cells.old arena.old ends.old store.old text_firsts.old text_seconds.old kinds.old lengths.old firsts.old seconds.old values.old steps.old in StepReady q stored row.old printer }
+    ensures { let q : WholeState = whole_of status cells.old arena.old ends.old store.old text_firsts.old text_seconds.old kinds.old lengths.old firsts.old seconds.old values.old steps.old in StepRefines (printer_of printer) q stored result.way result.written (whole_of result.status cells.new arena.new ends.new store.new text_firsts.new text_seconds.new kinds.new lengths.new firsts.new seconds.new values.new steps.new) result.stored row.new }
 {
     let stack = status.stack;
     let opening = status.opening;

@@ -40,10 +40,8 @@ fn deal_stored(
     values: &mut NumberColumn,
     steps: &mut NumberColumn,
 ) -> WorkOutcome
-    ghost q: { WholeState }
-    requires steps_value { whole_of status cells.old arena.old ends.old store.old text_firsts.old text_seconds.old kinds.old lengths.old firsts.old seconds.old values.old steps.old ≡ q }
-    requires state_ready { StateReady q [] row.old printer × TopInside [] store.old top × Topped status.stack ends.old × Arguments (top_bytes status.stack arena.old ends.old) (top_ends status.stack ends.old) count }
-    ensures { StateRefines (λ s. rules.deal (printer_of printer) (arguments_of (top_bytes status.stack arena.old ends.old) (top_ends status.stack ends.old) count) (next_line [] store.old top) s) q result.way result.written (whole_of result.status cells.new arena.new ends.new store.new text_firsts.new text_seconds.new kinds.new lengths.new firsts.new seconds.new values.new steps.new) row.new }
+    requires { let q : WholeState = whole_of status cells.old arena.old ends.old store.old text_firsts.old text_seconds.old kinds.old lengths.old firsts.old seconds.old values.old steps.old in StateReady q [] row.old printer × TopInside [] store.old top × Topped status.stack ends.old × Arguments (top_bytes status.stack arena.old ends.old) (top_ends status.stack ends.old) count }
+    ensures { let q : WholeState = whole_of status cells.old arena.old ends.old store.old text_firsts.old text_seconds.old kinds.old lengths.old firsts.old seconds.old values.old steps.old in StateRefines (λ s. rules.deal (printer_of printer) (arguments_of (top_bytes status.stack arena.old ends.old) (top_ends status.stack ends.old) count) (next_line [] store.old top) s) q result.way result.written (whole_of result.status cells.new arena.new ends.new store.new text_firsts.new text_seconds.new kinds.new lengths.new firsts.new seconds.new values.new steps.new) row.new }
 {
     let layout = status.layout;
     let page = status.page;
@@ -119,10 +117,8 @@ pub fn read_text(
     values: &mut NumberColumn,
     steps: &mut NumberColumn,
 ) -> Performed
-    ghost q: { WholeState }
-    requires steps_value { whole_of status cells.old arena.old ends.old store.old text_firsts.old text_seconds.old kinds.old lengths.old firsts.old seconds.old values.old steps.old ≡ q }
-    requires text_ready { TextReady q stored row.old printer name place count }
-    ensures { StepRefines (printer_of printer) q stored result.way result.written (whole_of result.status cells.new arena.new ends.new store.new text_firsts.new text_seconds.new kinds.new lengths.new firsts.new seconds.new values.new steps.new) result.stored row.new }
+    requires { let q : WholeState = whole_of status cells.old arena.old ends.old store.old text_firsts.old text_seconds.old kinds.old lengths.old firsts.old seconds.old values.old steps.old in TextReady q stored row.old printer name place count }
+    ensures { let q : WholeState = whole_of status cells.old arena.old ends.old store.old text_firsts.old text_seconds.old kinds.old lengths.old firsts.old seconds.old values.old steps.old in StepRefines (printer_of printer) q stored result.way result.written (whole_of result.status cells.new arena.new ends.new store.new text_firsts.new text_seconds.new kinds.new lengths.new firsts.new seconds.new values.new steps.new) result.stored row.new }
 {
     let stack = status.stack;
     let found = texts::table::look_up(

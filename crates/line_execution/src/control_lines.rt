@@ -39,10 +39,8 @@ fn request(
     values: &mut NumberColumn,
     steps: &mut NumberColumn,
 ) -> WorkOutcome
-    ghost q: { WholeState }
-    requires steps_value { whole_of status cells.now arena.old ends.old store.old text_firsts.old text_seconds.old kinds.old lengths.old firsts.old seconds.old values.old steps.old ≡ q }
-    requires state_ready { StateReady q line.now row.old printer × (status.opening.there ≡ false) }
-    ensures { StateRefines (λ s. rules.obey (printer_of printer) (means_request request) after_if period name line.now s) q result.way result.written (whole_of result.status cells.now arena.new ends.new store.new text_firsts.new text_seconds.new kinds.new lengths.new firsts.new seconds.new values.new steps.new) row.new }
+    requires { let q : WholeState = whole_of status cells.now arena.old ends.old store.old text_firsts.old text_seconds.old kinds.old lengths.old firsts.old seconds.old values.old steps.old in StateReady q line.now row.old printer × (status.opening.there ≡ false) }
+    ensures { let q : WholeState = whole_of status cells.now arena.old ends.old store.old text_firsts.old text_seconds.old kinds.old lengths.old firsts.old seconds.old values.old steps.old in StateRefines (λ s. rules.obey (printer_of printer) (means_request request) after_if period name line.now s) q result.way result.written (whole_of result.status cells.now arena.new ends.new store.new text_firsts.new text_seconds.new kinds.new lengths.new firsts.new seconds.new values.new steps.new) row.new }
 {
     let layout = status.layout;
     let page = status.page;
@@ -161,10 +159,8 @@ pub fn obey(
     values: &mut NumberColumn,
     steps: &mut NumberColumn,
 ) -> WorkOutcome
-    ghost q: { WholeState }
-    requires steps_value { whole_of status cells.now arena.old ends.old store.old text_firsts.old text_seconds.old kinds.old lengths.old firsts.old seconds.old values.old steps.old ≡ q }
-    requires state_ready { StateReady q line.now row.old printer × (status.opening.there ≡ false) × MeaningIs (texts_in q.texts) name meaning }
-    ensures { StateRefines (λ s. rules.obey (printer_of printer) (meaning_of name s) after_if period name line.now s) q result.way result.written (whole_of result.status cells.now arena.new ends.new store.new text_firsts.new text_seconds.new kinds.new lengths.new firsts.new seconds.new values.new steps.new) row.new }
+    requires { let q : WholeState = whole_of status cells.now arena.old ends.old store.old text_firsts.old text_seconds.old kinds.old lengths.old firsts.old seconds.old values.old steps.old in StateReady q line.now row.old printer × (status.opening.there ≡ false) × MeaningIs (texts_in q.texts) name meaning }
+    ensures { let q : WholeState = whole_of status cells.now arena.old ends.old store.old text_firsts.old text_seconds.old kinds.old lengths.old firsts.old seconds.old values.old steps.old in StateRefines (λ s. rules.obey (printer_of printer) (meaning_of name s) after_if period name line.now s) q result.way result.written (whole_of result.status cells.now arena.new ends.new store.new text_firsts.new text_seconds.new kinds.new lengths.new firsts.new seconds.new values.new steps.new) row.new }
 {
     let layout = status.layout;
     let page = status.page;

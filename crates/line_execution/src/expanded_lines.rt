@@ -110,10 +110,8 @@ pub fn finish(
     values: &mut NumberColumn,
     steps: &mut NumberColumn,
 ) -> WorkOutcome
-    ghost q: { WholeState }
-    requires steps_value { whole_of status cells.old arena.old ends.old store.old text_firsts.old text_seconds.old kinds.old lengths.old firsts.old seconds.old values.old steps.old ≡ q }
-    requires state_ready { StateReady q out.now row.old printer × (length out.now ≡ 512) × DealtInvariant status.opening.there (texts_in q.texts) dealt }
-    ensures { StateRefines (dealt_of (printer_of printer) dealt out.now) q result.way result.written (whole_of result.status cells.new arena.new ends.new store.new text_firsts.new text_seconds.new kinds.new lengths.new firsts.new seconds.new values.new steps.new) row.new }
+    requires { let q : WholeState = whole_of status cells.old arena.old ends.old store.old text_firsts.old text_seconds.old kinds.old lengths.old firsts.old seconds.old values.old steps.old in StateReady q out.now row.old printer × (length out.now ≡ 512) × DealtInvariant status.opening.there (texts_in q.texts) dealt }
+    ensures { let q : WholeState = whole_of status cells.old arena.old ends.old store.old text_firsts.old text_seconds.old kinds.old lengths.old firsts.old seconds.old values.old steps.old in StateRefines (dealt_of (printer_of printer) dealt out.now) q result.way result.written (whole_of result.status cells.new arena.new ends.new store.new text_firsts.new text_seconds.new kinds.new lengths.new firsts.new seconds.new values.new steps.new) row.new }
 {
     let layout = status.layout;
     let page = status.page;

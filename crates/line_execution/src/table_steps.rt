@@ -88,10 +88,8 @@ pub fn change(
     values: &mut NumberColumn,
     steps: &mut NumberColumn,
 ) -> WorkOutcome
-    ghost q: { WholeState }
-    requires steps_value { whole_of status cells.now arena.now ends.now store.old text_firsts.old text_seconds.old kinds.old lengths.old firsts.old seconds.old values.old steps.old ≡ q }
-    requires state_ready { StateReady q line.now row.now printer × (status.opening.there ≡ false) }
-    ensures { StateRefines (λ s. settles (rule.change (printer_of printer) request line.now s) s) q result.way result.written (whole_of result.status cells.now arena.now ends.now store.new text_firsts.new text_seconds.new kinds.new lengths.new firsts.new seconds.new values.new steps.new) row.now }
+    requires { let q : WholeState = whole_of status cells.now arena.now ends.now store.old text_firsts.old text_seconds.old kinds.old lengths.old firsts.old seconds.old values.old steps.old in StateReady q line.now row.now printer × (status.opening.there ≡ false) }
+    ensures { let q : WholeState = whole_of status cells.now arena.now ends.now store.old text_firsts.old text_seconds.old kinds.old lengths.old firsts.old seconds.old values.old steps.old in StateRefines (λ s. settles (rule.change (printer_of printer) request line.now s) s) q result.way result.written (whole_of result.status cells.now arena.now ends.now store.new text_firsts.new text_seconds.new kinds.new lengths.new firsts.new seconds.new values.new steps.new) row.now }
 {
     let planted = status.planted;
     let stack = status.stack;

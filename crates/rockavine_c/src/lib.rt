@@ -95,10 +95,8 @@ pub extern "C" fn rockavine_call_parts(
     number: &mut u8,
     line: &mut u32,
 ) -> u32
-    ghost q: { Record }
-    requires steps_value { record_in words.old gathered.old cells.old row.old arena.old ends.old text_firsts.old text_seconds.old kinds.old lengths.old firsts.old seconds.old values.old steps.old ≡ q }
-    requires array_lengths { ArrayLengths q }
-    ensures { CCallContract q words.old store.old block.now last out.old result taken.new written.new number.new line.new (record_in words.new gathered.new cells.new row.new arena.new ends.new text_firsts.new text_seconds.new kinds.new lengths.new firsts.new seconds.new values.new steps.new) words.new store.new out.new }
+    requires { let q : Record = record_in words.old gathered.old cells.old row.old arena.old ends.old text_firsts.old text_seconds.old kinds.old lengths.old firsts.old seconds.old values.old steps.old in ArrayLengths q }
+    ensures { let q : Record = record_in words.old gathered.old cells.old row.old arena.old ends.old text_firsts.old text_seconds.old kinds.old lengths.old firsts.old seconds.old values.old steps.old in CCallContract q words.old store.old block.now last out.old result taken.new written.new number.new line.new (record_in words.new gathered.new cells.new row.new arena.new ends.new text_firsts.new text_seconds.new kinds.new lengths.new firsts.new seconds.new values.new steps.new) words.new store.new out.new }
 {
     let place = record_words::encoding::place(&*words);
     if !session::is_valid(

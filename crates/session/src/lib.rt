@@ -253,10 +253,8 @@ pub fn is_valid(
     values: &NumberColumn,
     steps: &NumberColumn,
 ) -> bool
-    ghost q: { Record }
-    requires steps_value { record_of place gathered.now cells.now row.now arena.now ends.now text_firsts.now text_seconds.now kinds.now lengths.now firsts.now seconds.now values.now steps.now ≡ q }
-    requires array_lengths { ArrayLengths q }
-    ensures { ValidJudged result q store.now }
+    requires { let q : Record = record_of place gathered.now cells.now row.now arena.now ends.now text_firsts.now text_seconds.now kinds.now lengths.now firsts.now seconds.now values.now steps.now in ArrayLengths q }
+    ensures { let q : Record = record_of place gathered.now cells.now row.now arena.now ends.now text_firsts.now text_seconds.now kinds.now lengths.now firsts.now seconds.now values.now steps.now in ValidJudged result q store.now }
 {
     let status = place.status;
     let source = place.source;
@@ -311,10 +309,8 @@ pub fn serve(
     values: &mut NumberColumn,
     steps: &mut NumberColumn,
 ) -> Ran
-    ghost q: { Record }
-    requires steps_value { record_of place gathered.old cells.old row.old arena.old ends.old text_firsts.old text_seconds.old kinds.old lengths.old firsts.old seconds.old values.old steps.old ≡ q }
-    requires valid_record { ValidRecord q store.old }
-    ensures { CallContract q store.old block.now last out.old (reply_from result (record_of result.place gathered.new cells.new row.new arena.new ends.new text_firsts.new text_seconds.new kinds.new lengths.new firsts.new seconds.new values.new steps.new)) store.new out.new }
+    requires { let q : Record = record_of place gathered.old cells.old row.old arena.old ends.old text_firsts.old text_seconds.old kinds.old lengths.old firsts.old seconds.old values.old steps.old in ValidRecord q store.old }
+    ensures { let q : Record = record_of place gathered.old cells.old row.old arena.old ends.old text_firsts.old text_seconds.old kinds.old lengths.old firsts.old seconds.old values.old steps.old in CallContract q store.old block.now last out.old (reply_from result (record_of result.place gathered.new cells.new row.new arena.new ends.new text_firsts.new text_seconds.new kinds.new lengths.new firsts.new seconds.new values.new steps.new)) store.new out.new }
 {
     let closing = place.closing;
     let waiting = place.waiting;
@@ -370,10 +366,8 @@ pub fn call_parts(
     values: &mut NumberColumn,
     steps: &mut NumberColumn,
 ) -> Ran
-    ghost q: { Record }
-    requires steps_value { record_of place gathered.old cells.old row.old arena.old ends.old text_firsts.old text_seconds.old kinds.old lengths.old firsts.old seconds.old values.old steps.old ≡ q }
-    requires array_lengths { ArrayLengths q }
-    ensures { CallContract q store.old block.now last out.old (reply_from result (record_of result.place gathered.new cells.new row.new arena.new ends.new text_firsts.new text_seconds.new kinds.new lengths.new firsts.new seconds.new values.new steps.new)) store.new out.new }
+    requires { let q : Record = record_of place gathered.old cells.old row.old arena.old ends.old text_firsts.old text_seconds.old kinds.old lengths.old firsts.old seconds.old values.old steps.old in ArrayLengths q }
+    ensures { let q : Record = record_of place gathered.old cells.old row.old arena.old ends.old text_firsts.old text_seconds.old kinds.old lengths.old firsts.old seconds.old values.old steps.old in CallContract q store.old block.now last out.old (reply_from result (record_of result.place gathered.new cells.new row.new arena.new ends.new text_firsts.new text_seconds.new kinds.new lengths.new firsts.new seconds.new values.new steps.new)) store.new out.new }
 {
     if !is_valid(
         place,
