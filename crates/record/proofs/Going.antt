@@ -278,7 +278,7 @@ module _ (r₀ : Record) (st₀ block : List ℕ) (last : Bool) (out₀ : List �
       at_rest_lem = go_rest r₀ st₀ block last out₀ then st t x.written out' written_on (omega (arith, written_on.valid.formed.order, h)) o
 
       pub turns_on : TurnReady block (at_rest r) st t
-      turns_on = record { valid = at_rest.valid; none = refl; within = at_rest.taken }
+      turns_on = record { valid = at_rest_lem.valid; none = refl; within = at_rest_lem.taken }
 
       module _ (s : Stop) (r' : Record) (st' : List ℕ) (t' : ℕ) (d : TurnContract s block last (at_rest r) st t r' st' t') where
         pub ends_with : (a : Answer) → s ≡ With a → Ends r₀ st₀ block last out₀ a r' st' t' x.written out'
