@@ -1,0 +1,16 @@
+use Prim.Native.Nat.{ℕ, ◌≤◌, ◌<◌, ◌-◌}
+use mathlib.Core.Path.{◌≡◌, refl}
+use native.Mathlib.Omega.{arith}
+use lib.ListN.{length, take, get_or}
+use lib.Seq.{sets, take_all}
+use borrow.Author.Count.{below_more}
+use Rattle.traps.proofs.table.Places.{sized}
+use Rattle.record_words.specs.Decoding.Words.{trap_words, TwoByteName, blank_trap}
+use Rattle.record_words.proofs.encoding.Puts.{trap_step}
+use Rattle.record_words.proofs.encoding.put_planted.Given as goal
+
+abbrev pub invariant-loop-i : goal.invariant-loop-i
+invariant-loop-i l = (l.i ≤ 16) × (l.words ≡ sets l.initial.words 36 (trap_words (take l.i l.planted.traps))) × ((k : ℕ) → k < l.i → TwoByteName (get_or l.planted.traps k blank_trap).name)
+
+abbrev pub decreases-loop-i : goal.decreases-loop-i
+decreases-loop-i l = 16 - l.i
