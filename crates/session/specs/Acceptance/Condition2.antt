@@ -2,8 +2,8 @@
 -- its closing answer. This file says that calls write just these. Assumes nothing.
 use Rattle.std.specs.Prelude.{◌≡◌, refl, Bool, true, false, List, [], ◌∷◌, ◌++◌, ℕ, zero, suc, ◌≤◌, length, take}
 use Rattle.std.proofs.Common.{sym, ap, ◌∙◌, append-nil, arith, take_at}
-use Rattle.stream.specs.Answers.{Closing, ReplyKind, closes, reply_of}
-use Rattle.stream.specs.Machine.{Machine, Step, works, asks, closed, Pages, pages_after, Outcome, flush, fuel, pages_by, call_by, call_from}
+use Rattle.stream.specs.Answers.{Closing, ReplyKind, closes, reply_of, needs_room}
+use Rattle.stream.specs.Machine.{Machine, Step, works, asks, closed, Pages, pages_after, Outcome, flush, fuel, pages_by, call_by, call_from, stop}
 use Rattle.stream.specs.Condition3.{Call, Split, joined_bytes}
 use Rattle.rules.specs.Printers.{ten_to_the_inch}
 use Rattle.rules.specs.State.{start}
@@ -37,7 +37,7 @@ module _ {S : Type 0} where
     -- a call on a whole document, marked last, with room for its pages
     call_whole : (n : ℕ) (s : S) (x : Step S) (d : List ℕ) (r : ℕ) → length (pages_by m n x d).bytes ≤ r → IsWhole (call_by m n s x d true r) (pages_by m n x d)
     call_whole zero s x d r h = record { bytes_are = refl; answer_is = refl }
-    call_whole (suc n) s (works w s') d r h = flush_whole _ _ w (pages_by m n (m.step s') d) r h (λ r' k. call_whole n s' (m.step s') d r' k)
+    call_whole (suc n) s (works w s') d r h = flush_whole (λ ws. stop s' d ws needs_room) (λ r'. call_by m n s' (m.step s') d true r') w (pages_by m n (m.step s') d) r h (λ r' k. call_whole n s' (m.step s') d r' k)
     call_whole (suc n) s (asks t e) [] r h = call_whole n e (m.step e) [] r h
     call_whole (suc n) s (asks t e) (b ∷ d) r h = let i = call_whole n (t b) (m.step (t b)) d r h in record { bytes_are = i.bytes_are; answer_is = i.answer_is }
     call_whole (suc n) s (closed a) d r h = record { bytes_are = refl; answer_is = refl }

@@ -1,0 +1,14 @@
+use mathlib.Core.Path.{refl, sym, subst}
+use Rattle.stream.specs.declared.Answer.TheVariants as answer
+use Rattle.record.specs.Contract.{Closes}
+use borrow.Author.Rules.{rules}
+use Rattle.session.proofs.ended.Goals as goal
+
+pub returns-in-Open : goal.returns-in-Open
+returns-in-Open c = λ a h e. subst (λ v. Closes v a) c.in-Open.is h
+
+pub returns-in-Done : goal.returns-in-Done
+returns-in-Done c = (subst (λ v. Closes v answer.Done) (sym c.in-Done.is) refl, c.if-waiting.false)
+
+pub returns-in-Refused : goal.returns-in-Refused
+returns-in-Refused c = (subst (λ v. Closes v (answer.Refused c.in-Refused.n c.in-Refused.line)) (sym c.in-Refused.is) refl, c.if-waiting.false)

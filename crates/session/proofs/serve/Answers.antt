@@ -1,0 +1,22 @@
+use mathlib.Core.Path.{subst}
+use Rattle.record.specs.Turns.{record_of}
+use Rattle.session.specs.Limits.{EndsWith}
+use Rattle.session.proofs.Limits.{call_ended, call_served}
+use borrow.Author.Rules.{rules}
+use Rattle.session.proofs.serve.Goals as goal
+
+pub run-requires : goal.run-requires
+run-requires c =
+    c.requires
+
+pub returns-in-With : goal.returns-in-With
+returns-in-With c =
+    let a = c.args in
+    let e = subst (λ v. EndsWith v a.place.closing a.place.waiting) c.in-With.is c.ended-stop.ensures in
+    call_ended (record_of a.place a.gathered.now a.cells.now a.row.now a.arena.now a.ends.now a.text_firsts.now a.text_seconds.now a.kinds.now a.lengths.now a.firsts.now a.seconds.now a.values.now a.steps.now) a.store.now a.block.now a.last a.out.now c.requires _ e.0 e.1
+
+pub returns-in-Goes : goal.returns-in-Goes
+returns-in-Goes c =
+    let a = c.args in
+    call_served (record_of a.place a.gathered.now a.cells.now a.row.now a.arena.now a.ends.now a.text_firsts.now a.text_seconds.now a.kinds.now a.lengths.now a.firsts.now a.seconds.now a.values.now a.steps.now) a.store.now a.block.now a.last a.out.now c.requires c.ended-stop.result c.ended-stop.ensures c.in-Goes.is _ _ _
+    c.run.ensures

@@ -1,0 +1,6 @@
+use borrow.Author.Rules.{rules}
+use Rattle.session.proofs.start.Goals as goal
+
+pub returns : goal.returns
+returns c =
+    rw (c.recorded.ensures, c.start_place.ensures)

@@ -1,0 +1,6 @@
+use borrow.Author.Rules.{rules}
+use Rattle.session.proofs.start_place.Goals as goal
+
+pub returns : goal.returns
+returns c =
+    rw c.first_status.ensures
