@@ -1,0 +1,7 @@
+use mathlib.Core.Path.{◌∙◌}
+use borrow.Author.Rules.{rules}
+use Rattle.rockavine_c.proofs.rockavine_start_parts.Goals as goal
+
+pub returns : goal.returns
+returns c =
+    rw (c.write_place.ensures.are, c.start_place.ensures)
