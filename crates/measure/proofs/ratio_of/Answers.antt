@@ -1,5 +1,4 @@
 -- `measure::ratio_of` meets its contract: the scale is the arm's. Assumes nothing.
-use borrow.Author.Rules.{rules}
 use Rattle.measure.proofs.ratio_of.Goals as goal
 
 pub returns-in-Inch : goal.returns-in-Inch

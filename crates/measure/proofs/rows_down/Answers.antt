@@ -1,7 +1,5 @@
 -- `measure::rows_down` meets its contract: a small count keeps its sign. Assumes nothing.
-use mathlib.Core.Path.{◌≡◌}
 use native.Mathlib.Omega.{arith}
-use borrow.Author.Rules.{rules}
 use mir.Syntax.{w32}
 use mir.Facts.{to_z_pos}
 use Rattle.measure.proofs.rows_down.Goals as goal

@@ -1,5 +1,5 @@
 -- `measure::rows_of` meets its contract. Assumes nothing.
-use borrow.Author.Rules.{rules, sfits_of}
+use borrow.Author.Rules.{sfits_of}
 use Rattle.measure.specs.Rounding.{nearest_of}
 use Rattle.measure.proofs.Signed.{called}
 use Rattle.measure.proofs.rows_of.Goals as goal

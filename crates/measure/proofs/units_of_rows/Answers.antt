@@ -1,7 +1,7 @@
 -- `measure::units_of_rows` meets its contract. Assumes nothing.
 use mir.Syntax.{w64}
 use lib.IntN.{pos, ◌*ℤ◌}
-use borrow.Author.Rules.{rules, sfits_of}
+use borrow.Author.Rules.{sfits_of}
 use Rattle.measure.proofs.Signed.{called}
 use Rattle.measure.proofs.units_of_rows.Goals as goal
 

@@ -4,7 +4,7 @@ use Rattle.std.proofs.Common.{subst, arith, length-append, leb-true}
 use Rattle.std.proofs.Math.Option.{Option, none, some}
 use Rattle.rules.specs.declared.Name.{Name}
 use Rattle.rules.specs.Refusals.{value, bad}
-use Rattle.rules.specs.Bytes.{bytes, backslash}
+use Rattle.rules.specs.Bytes.{backslash}
 use Rattle.rules.specs.Registers.{step_register, Reference, decimal}
 use Rattle.rules.specs.declared.Register.{Register}
 use Rattle.rules.specs.Texts.{Text, text, text_of}
