@@ -3,31 +3,31 @@
 // Reads arguments of requests, one to a line, and writes for each its value in units, in cells and in rows, or that it is refused.
 ghost use Rattle.std.specs.Prelude.{◌≤◌, length};
 
-use libc::STDIN_FILENO;
 use number::arithmetic::Value;
 use number::scales::{MaybeCells, MaybeRows};
-use report::{text, wide};
+use report::{read_full, text, wide};
+use std::io;
 
-fn answer(argument: &[u8]) {
+fn answer(rt: &impl Print, argument: &[u8]) -> io::Result<()> {
     let pitch = measure::ten_pitch();
     match number::scales::units(argument, pitch) {
-        Value::Is(v) => report::number(wide(v)),
-        Value::Bad => text(b"refused"),
+        Value::Is(v) => report::number(rt, wide(v))?,
+        Value::Bad => text(rt, b"refused")?,
     }
-    text(b" ");
+    text(rt, b" ")?;
     match number::scales::cells(argument, pitch) {
-        MaybeCells::Are(c) => report::number(wide(c.0)),
-        MaybeCells::Bad => text(b"refused"),
+        MaybeCells::Are(c) => report::number(rt, wide(c.0))?,
+        MaybeCells::Bad => text(rt, b"refused")?,
     }
-    text(b" ");
+    text(rt, b" ")?;
     match number::scales::rows(argument, pitch) {
-        MaybeRows::Are(r) => report::number(wide(r.0)),
-        MaybeRows::Bad => text(b"refused"),
+        MaybeRows::Are(r) => report::number(rt, wide(r.0))?,
+        MaybeRows::Bad => text(rt, b"refused")?,
     }
     if number::scales::signed(argument) {
-        text(b" a change");
+        text(rt, b" a change")?;
     }
-    text(b"\n");
+    text(rt, b"\n")
 }
 
 // The place of the first newline at or behind a place, or the end.
@@ -35,27 +35,26 @@ fn line_end(s: &[u8], from: usize) -> usize
     requires { from ≤ length s.now }
     ensures { (from ≤ result) × (result ≤ length s.now) }
 {
-    let mut i = from;
-    while i < s.len() {
+    for i in from..s.len() {
         if s[i] == 10 {
             return i;
         }
-        i += 1;
     }
-    i
+    s.len()
 }
 
-fn answer_all(s: &[u8]) {
+fn answer_all(rt: &impl Print, s: &[u8]) -> io::Result<()> {
     let mut from: usize = 0;
     while from < s.len() {
         let end = line_end(s, from);
-        answer(&s[from..end]);
+        answer(rt, &s[from..end])?;
         from = end + 1;
     }
+    Ok(())
 }
 
-fn main() {
-    let mut buffer = io::large_buffer();
-    let n = io::read_full(STDIN_FILENO, &mut buffer);
-    answer_all(&buffer[..n]);
+fn main(rt: HostRuntime) -> io::Result<()> {
+    let mut buffer = [0u8; 65536];
+    let n = read_full(&mut rt.stdin(), &mut buffer)?;
+    answer_all(&rt, &buffer[..n])
 }

@@ -1,12 +1,15 @@
 #![tactic(auto)]
 
-// What the programs that run the crates write with: text and signed numbers on standard output.
-ghost use Rattle.std.specs.Prelude.{◌≡◌};
+// What the programs that run the crates read and write with: text and signed numbers on standard output, and an input's bytes.
+ghost use Rattle.std.specs.Prelude.{◌≡◌, ◌<◌, IfOk, length, take};
+ghost use Rattle.std.specs.Io.{ReadsAtMost};
+ghost use Rattle.std.specs.Io.KnownBytes.{Consumes, IsAtEnd};
 
-use libc::STDOUT_FILENO;
+use std::io;
+use std::io::Read;
 
-pub fn text(s: &[u8]) {
-    io::write_all(STDOUT_FILENO, s);
+pub fn text(rt: &impl Print, s: &[u8]) -> io::Result<()> {
+    rt.write_all(s)
 }
 
 pub fn wide(n: i32) -> i64
@@ -15,12 +18,23 @@ pub fn wide(n: i32) -> i64
     n as i64
 }
 
-// From -1 down, so that the least i64 has a place too.
-pub fn number(n: i64) {
-    if n < 0 {
-        text(b"-");
-        io::print_decimal(STDOUT_FILENO, ((-1 - n) as u64) + 1);
-        return;
+pub fn number(rt: &impl Print, n: i64) -> io::Result<()> {
+    rt.print(n)
+}
+
+// Reads until the buffer is full or the input ends, and returns how many bytes it put at the buffer's start.
+pub fn read_full<R: Read>(input: &mut R, buffer: &mut [u8]) -> io::Result<usize>
+    ensures within { ReadsAtMost result buffer.new }
+    ensures bytes { IfOk result (λ n. Consumes (R.remaining input.old) (R.remaining input.new) (take n buffer.new)) }
+    ensures end { IfOk result (λ n. n < length buffer.new → IsAtEnd (R.remaining input.new)) }
+{
+    let mut filled = 0;
+    while filled < buffer.len() {
+        let count = input.read(&mut buffer[filled..])?;
+        if count == 0 {
+            break;
+        }
+        filled += count;
     }
-    io::print_decimal(STDOUT_FILENO, n as u64);
+    Ok(filled)
 }
