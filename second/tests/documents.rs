@@ -276,7 +276,7 @@ fn the_paths_exist() {
             } else if ["crates", "docs", "tests", "bench", "second", "examples", "include"].contains(&first)
                 && span.contains('/')
             {
-                span.contains("NAME") || span.contains("/target/") || root().join(span).exists()
+                span.contains("NAME") || span.contains("/out/") || root().join(span).exists()
             } else {
                 continue;
             };

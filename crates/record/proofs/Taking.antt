@@ -26,7 +26,6 @@ use Rattle.state.specs.Whole.{WholeState, texts_in, state_in}
 use Rattle.state.specs.Statuses.{whole_of}
 use Rattle.record.specs.declared.RecordCore.{RecordCore}
 use Rattle.record.specs.declared.Record.{Record}
-use Rattle.record.specs.declared.Closing.TheVariants.{Refused}
 use Rattle.record.specs.View.{sourced, state_of, most_lines}
 use Rattle.record.specs.Turns.{record_of, core_after, RecordRefines, DealReady, InputReady, Arrives, arrived, after_work, InputRefines, emptied, Whichever}
 use Rattle.record.proofs.Turns.{open_state}

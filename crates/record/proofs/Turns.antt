@@ -1,7 +1,6 @@
 -- The turns of a call lead from record to record as the rules lead from state to state. Assumes nothing.
 use mathlib.Core.Path.{◌≡◌, refl, sym, ap, ap₂, ◌∙◌, subst}
 use mathlib.Core.Bool.{true}
-use mathlib.Core.Option.{none}
 use mathlib.Core.List.{List}
 use Prim.Native.Nat.{ℕ, ◌-◌, ◌≤◌}
 use native.Mathlib.Omega.{arith}
@@ -22,7 +21,7 @@ use Rattle.state.specs.Whole.{WholeState, state_in, StateInvariant, KeptStore, S
 use Rattle.state.specs.Statuses.{whole_of}
 use Rattle.formatter.specs.StoredLines.Works.{StepRefines}
 use Rattle.record.specs.declared.RecordCore.{RecordCore}
-use Rattle.record.specs.declared.Closing.TheVariants.{Open, Done, Refused}
+use Rattle.record.specs.declared.Closing.TheVariants.{Open}
 use Rattle.record.specs.View.{sourced, closed_as, state_of, most_lines}
 use Rattle.record.specs.Turns.{record_of, closing_of, core_after, KeptBy, RecordRefines, DealReady}
 

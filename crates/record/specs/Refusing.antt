@@ -1,6 +1,6 @@
 -- "The refused event changes no byte of the store", over the turns of a call. Assumes nothing.
 use Rattle.std.specs.Prelude.{◌≡◌, refl, Bool, List, ℕ}
-use Rattle.std.proofs.Common.{sym, ◌∙◌, subst}
+use Rattle.std.proofs.Common.{sym, subst}
 use Rattle.record.specs.declared.Record.{Record}
 use Rattle.record.specs.declared.Closing.{Closing}
 use Rattle.record.specs.declared.Closing.TheVariants.{Open, Done, Refused}

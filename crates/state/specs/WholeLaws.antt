@@ -6,7 +6,7 @@ use Rattle.rules.specs.Refusals.{Judged}
 use Rattle.rules.specs.declared.Name.{Name}
 use Rattle.rules.specs.Texts.{Text}
 use Rattle.rules.specs.State.{State}
-use Rattle.rules.specs.StateSetters.{input, tables}
+use Rattle.rules.specs.StateSetters.{tables}
 use Rattle.rules.specs.Rows.{Next, goes}
 use Rattle.rules.specs.Acts.{settles, on_name, open_text}
 use Rattle.texts.specs.Table.Table.{texts_of, TextsInvariant}

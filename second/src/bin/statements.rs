@@ -17,21 +17,21 @@ use second::session::{Answer, Ending};
 use second::vector::{Outcome, Vector};
 
 const HEAD: &str = "-- Vectors as statements, by computation.
-use mathlib.Core.Path.{_≡_, refl}
+use mathlib.Core.Path.{◌≡◌, refl}
 use mathlib.Core.Bool.{Bool, true, false}
-use mathlib.Core.List.{List, [], _∷_}
+use mathlib.Core.List.{List, [], ◌∷◌}
 use Prim.Native.Nat.{ℕ}
 use lib.ListN.{length, take, drop}
-use Rattle·rules.specs.Bytes.{bytes}
-use Rattle·rules.specs.Printers.{tenToTheInch}
-use Rattle·rules.specs.State.{State, start}
-use Rattle·rules.specs.Load.{formatter}
-use Rattle·rules.specs.Laws.Whole.{pagesHere}
-use Rattle·stream.specs.Answers.{Closing, done, refused, ReplyKind, needs-input, needs-room, closes}
-use Rattle·stream.specs.Machine.{callFrom}
+use Rattle.rules.specs.Bytes.{bytes}
+use Rattle.rules.specs.Printers.{ten_to_the_inch}
+use Rattle.rules.specs.State.{State, start}
+use Rattle.rules.specs.Load.{formatter}
+use Rattle.rules.specs.Laws.Whole.{pages_here}
+use Rattle.stream.specs.Answers.{Closing, done, refused, ReplyKind, needs_input, needs_room, closes}
+use Rattle.stream.specs.Machine.{call_from}
 
 abbrev Gives : List ℕ → List ℕ → Closing → Type 0
-Gives d w a = pagesHere d ≡ record { bytes = w; answer = closes a }
+Gives d w a = pages_here d ≡ record { bytes = w; answer = closes a }
 
 -- a call lends so many bytes, a last mark and room; it is answered by bytes taken, bytes written and a reply
 record Lent : Type 0 where
@@ -54,8 +54,8 @@ told t w a = record { taken = t; written = w; reply = a }
 unfoldable answers : List ℕ → State → List ℕ → List Lent → List Told
 answers ws s d [] = []
 answers ws s d (c ∷ cs) =
-    let o = callFrom (formatter tenToTheInch) ws s (take (c .block) d) (c .last) (c .room) in
-    told (length (o .took)) (o .bytes) (o .answer) ∷ answers (o .waiting) (o .state) (drop (length (o .took)) d) cs
+    let o = call_from (formatter ten_to_the_inch) ws s (take c.block d) c.last c.room in
+    told (length o.took) o.bytes o.answer ∷ answers o.waiting o.state (drop (length o.took) d) cs
 ";
 
 /// The bytes as a quoted text of the checker.
@@ -87,8 +87,8 @@ fn closing(ending: Ending) -> Option<String> {
 
 fn reply(ending: Ending) -> String {
     match ending {
-        Ending::NeedsInput => "needs-input".to_string(),
-        Ending::NeedsRoom => "needs-room".to_string(),
+        Ending::NeedsInput => "needs_input".to_string(),
+        Ending::NeedsRoom => "needs_room".to_string(),
         other => format!("(closes {})", closing(other).expect("closed")),
     }
 }
@@ -111,7 +111,7 @@ fn statement(vector: &Vector) -> Option<String> {
                 format!("told {taken} ({}) {} ∷ ", quoted(bytes), reply(ending))
             });
             let (lent, told): (String, String) = (lent.collect(), told.collect());
-            Some(format!("answers [] (start tenToTheInch) ({document}) ({lent}[]) ≡ ({told}[])"))
+            Some(format!("answers [] (start ten_to_the_inch) ({document}) ({lent}[]) ≡ ({told}[])"))
         }
         (Outcome::Called { .. }, None) => None,
     }
@@ -145,7 +145,7 @@ fn write(directory: &Path, count: usize, longest: usize, files: &[String]) -> Re
             number += 1;
             let (name, module) = (modules.len(), modules.last_mut().expect("a module"));
             writeln!(list, "E{name} {} {place} {}", module.lines().count() + 2, vector.name).map_err(failed)?;
-            module.push_str(&format!("\nv{number} : {statement}\nunfolding pagesHere answers\nv{number} = refl\n"));
+            module.push_str(&format!("\nv{number} : {statement}\nunfolding pages_here answers\nv{number} = refl\n"));
         }
     }
     let mut names = String::from("-- Vectors as statements.\n");

@@ -1,10 +1,9 @@
 -- `call_loop::run` meets its contract. The invariant: what the whole call does is what was taken and written so far, and then what it does from the record here on.
 -- Assumes nothing.
-use borrow.Author.Rules.{rules}
 use mathlib.Core.Path.{sym, ◌∙◌, subst}
 use Rattle.record.specs.declared.Record.{Record}
-use Rattle.record.specs.Turns.{record_of, core_of, core_in, weight, ClosedIs}
-use Rattle.record.proofs.Going.{Going, go_start, may_write, same_out, ends_full, ends_closed, turns_on, ends_with, goes_on, goes_less}
+use Rattle.record.specs.Turns.{record_of, core_of, core_in, ClosedIs}
+use Rattle.record.proofs.Going.{go_start, may_write, same_out, ends_full, ends_closed, turns_on, ends_with, goes_on, goes_less}
 use Rattle.call_loop.proofs.run.Goals as goal
 use Rattle.call_loop.proofs.run.Goals.{At-loop-waiting, Start}
 

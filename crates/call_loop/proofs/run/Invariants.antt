@@ -1,8 +1,5 @@
-use borrow.Author.Rules.{rules}
-use mathlib.Core.Path.{sym, ◌∙◌, subst}
-use Rattle.record.specs.declared.Record.{Record}
-use Rattle.record.specs.Turns.{record_of, core_of, core_in, weight, ClosedIs}
-use Rattle.record.proofs.Going.{Going, go_start, may_write, same_out, ends_full, ends_closed, turns_on, ends_with, goes_on, goes_less}
+use Rattle.record.specs.Turns.{record_of, core_of, weight}
+use Rattle.record.proofs.Going.{Going}
 use Rattle.call_loop.proofs.run.Given as goal
 
 abbrev pub invariant-loop-waiting : goal.invariant-loop-waiting

@@ -2,7 +2,6 @@ use native.Mathlib.Omega.{arith}
 use mathlib.Core.Path.{refl}
 use Rattle.record.specs.Turns.{record_of, resting}
 use Rattle.record.proofs.Leading.{turn_work, turn_take, turn_end, stops_input, turn_goes, turn_stops, is_busy, is_asking}
-use borrow.Author.Rules.{rules}
 use Rattle.call_loop.proofs.take_turn.Goals as goal
 
 pub work-requires : goal.work-requires

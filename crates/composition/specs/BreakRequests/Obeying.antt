@@ -6,7 +6,7 @@ use Rattle.rules.specs.declared.Breaking.{Breaking}
 use Rattle.rules.specs.declared.Request.TheVariants.{Breaks}
 use Rattle.rules.specs.Requests.{traits, starts_page}
 use Rattle.rules.specs.Texts.{Text}
-use Rattle.rules.specs.State.{State, Item, control, again, acts}
+use Rattle.rules.specs.State.{State, control, again, acts}
 use Rattle.rules.specs.Rows.{Next, held_if}
 use Rattle.rules.specs.ControlLines.{means_request, held_after, held_first, start_or_break, obey}
 use Rattle.input_stack.specs.declared.frames.What.{What}

@@ -1,5 +1,5 @@
 -- What the words of a text line lead to, as the code holds it. Assumes nothing.
-use Rattle.std.specs.Prelude.{◌≡◌, Bool, true, false, ◌||◌, List, [], ◌∷◌, ◌++◌, ℕ, ◌≤◌, ◌<◌, length, replicate}
+use Rattle.std.specs.Prelude.{◌≡◌, Bool, true, false, ◌||◌, List, [], ◌∷◌, ◌++◌, ℕ, ◌≤◌, ◌<◌, replicate}
 use Rattle.measure.specs.Counts.{cells_across}
 use Rattle.rules.specs.Bytes.{fixed_blank}
 use Rattle.rules.specs.Filling.{Word, word, leads}

@@ -11,7 +11,6 @@ use Rattle.state.specs.WholeLaws.{page_refines, stay_refines}
 use Rattle.state.specs.Statuses.{whole_of}
 use Rattle.formatter.specs.StoredLines.WorkLaws.{step_end, idle_open, idle_none}
 use Rattle.formatter.proofs.stored_lines.Others.{no_text}
-use borrow.Author.Rules.{rules}
 use Rattle.formatter.proofs.work.Goals as goal
 
 pub returns-then-opening : goal.returns-then-opening

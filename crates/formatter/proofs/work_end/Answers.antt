@@ -6,7 +6,6 @@ use Rattle.rules.specs.Session.{work_end}
 use Rattle.traps.specs.Table.Table.{planted_of}
 use Rattle.composition.specs.PageRows.PageState.{page_state, state_at}
 use Rattle.composition.proofs.filling.Works.{worked_as}
-use borrow.Author.Rules.{rules}
 use Rattle.formatter.proofs.work_end.Goals as goal
 
 pub returns-then-page : goal.returns-then-page

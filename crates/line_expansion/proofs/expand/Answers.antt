@@ -1,5 +1,4 @@
 -- `line_expansion::expand` meets its contract. Assumes nothing.
-use borrow.Author.Rules.{rules}
 use Rattle.line_expansion.proofs.Units.{seen_as}
 use Rattle.line_expansion.proofs.expand.Goals as goal
 

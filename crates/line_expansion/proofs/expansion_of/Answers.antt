@@ -1,5 +1,4 @@
 -- `line_expansion::expansion_of` meets its contract, by cases of the meaning. Assumes nothing.
-use borrow.Author.Rules.{rules}
 use Rattle.line_expansion.proofs.expansion_of.Goals as goal
 
 pub returns-in-Calls : goal.returns-in-Calls

@@ -1,5 +1,4 @@
 -- `line_expansion::kept_as` meets its contract. Assumes nothing.
-use borrow.Author.Rules.{rules}
 use Rattle.line_expansion.proofs.kept_as.Goals as goal
 
 pub returns-in-Line : goal.returns-in-Line

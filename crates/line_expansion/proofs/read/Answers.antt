@@ -1,6 +1,5 @@
 -- `line_expansion::read` meets its contract. Assumes nothing.
 use mathlib.Core.Path.{sym}
-use borrow.Author.Rules.{rules}
 use Rattle.line_expansion.proofs.read.Goals as goal
 
 pub returns-then-opened : goal.returns-then-opened

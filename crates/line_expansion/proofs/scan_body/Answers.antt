@@ -1,6 +1,5 @@
 -- `line_expansion::scan_body` meets its contract. Assumes nothing.
 use mathlib.Core.Path.{sym, ◌∙◌}
-use borrow.Author.Rules.{rules}
 use Rattle.texts.specs.Table.Table.{texts_of}
 use Rattle.scan.specs.Arguments.Around.{arguments_of}
 use Rattle.settings.specs.Layout.Layouts.{printer_of, layout_of}

@@ -1,7 +1,6 @@
 -- `line_expansion::scan_control` meets its contract. Assumes nothing.
 use mathlib.Core.Path.{refl, sym, ◌∙◌}
 use lib.ListN.{drop}
-use borrow.Author.Rules.{rules}
 use Rattle.texts.specs.Table.Table.{texts_of}
 use Rattle.scan.specs.Arguments.Around.{arguments_of}
 use Rattle.composition.proofs.no_break_requests.Follows.{all_from}

@@ -1,6 +1,5 @@
 -- `line_expansion::scan_fresh` meets its contract. Assumes nothing.
 use mathlib.Core.Path.{sym, ap, ◌∙◌}
-use borrow.Author.Rules.{rules}
 use Rattle.texts.specs.Table.Table.{texts_of}
 use Rattle.scan.specs.Arguments.Around.{arguments_of}
 use Rattle.line_syntax.specs.Lines.Lines.{line_is}

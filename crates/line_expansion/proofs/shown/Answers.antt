@@ -1,7 +1,6 @@
 -- `line_expansion::shown` meets its contract. Assumes nothing.
 use Rattle.line_expansion.proofs.Units.{read_back, seen_same}
 use native.Mathlib.Omega.{arith}
-use borrow.Author.Rules.{rules}
 use mir.Syntax.{w32}
 use mir.Facts.{to_z_pos}
 use Rattle.line_expansion.proofs.shown.Goals as goal

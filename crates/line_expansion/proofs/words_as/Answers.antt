@@ -1,5 +1,4 @@
 -- `line_expansion::words_as` meets its contract. Assumes nothing.
-use borrow.Author.Rules.{rules}
 use Rattle.line_expansion.proofs.words_as.Goals as goal
 
 pub returns-in-Line : goal.returns-in-Line

@@ -1,6 +1,6 @@
 -- Bytes written back with their escapes, behind those written before. Assumes nothing.
 use Rattle.std.specs.Prelude.{◌≡◌, refl, Bool, true, false, List, [], ◌∷◌, ◌++◌, ℕ, ◌+◌, ◌*◌, ◌≤◌, eqb, length, take}
-use Rattle.std.proofs.Common.{◌∙◌, arith, length-append}
+use Rattle.std.proofs.Common.{arith, length-append}
 use Rattle.rules.specs.Bytes.{bytes, backslash, mark, fixed_blank, first_where, entry}
 use Rattle.rules.specs.Escapes.{escaped}
 

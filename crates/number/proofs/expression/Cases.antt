@@ -2,7 +2,7 @@
 use mathlib.Core.Path.{◌≡◌, refl, sym, ap, ◌∙◌}
 use mathlib.Core.Bool.{Bool, true, false}
 use mathlib.Core.List.{List, [], ◌∷◌}
-use Prim.Native.Nat.{ℕ, zero, suc, ◌+◌, ◌-◌, ◌≤◌, ◌<◌}
+use Prim.Native.Nat.{ℕ, zero, suc, ◌+◌, ◌≤◌, ◌<◌}
 use native.Mathlib.Omega.{arith}
 use lib.Dec.{ltb}
 use lib.ListN.{length, get_or, drop, drop_of_length-le}
@@ -12,7 +12,7 @@ use Rattle.measure.specs.declared.Pitch.{Pitch}
 use Rattle.measure.specs.declared.Scale.{Scale}
 use Rattle.rules.specs.Bytes.{byte, first_where, or_other}
 use Rattle.rules.specs.Laws.Tables.{absent}
-use Rattle.rules.specs.Refusals.{value, bad, ◌>>=◌}
+use Rattle.rules.specs.Refusals.{value, bad}
 use Rattle.rules.specs.Laws.Refusals.{of_value}
 use Rattle.rules.specs.Numbers.{operate, joint_of, is_digit, Start, literal, opens, plus, minus, no_term, start_by, start_of, parenthesized, term, onward}
 use Rattle.rules.specs.Numbers as rules

@@ -1,5 +1,5 @@
 -- Where a move down a page leads, by itself: the rules' `down` and `start_page` are these in a state (LandingLaws). Assumes nothing.
-use Rattle.std.specs.Prelude.{Bool, true, false, List, ℕ, zero, suc, ◌+◌, ◌-◌, ◌≤◌, ◌<◌, ltb, ℤ, pos, negsuc}
+use Rattle.std.specs.Prelude.{Bool, true, false, List, zero, suc, ◌+◌, ◌-◌, ◌≤◌, ◌<◌, ltb, ℤ, pos, negsuc}
 use Rattle.std.proofs.Math.Option.{Option}
 use Rattle.measure.specs.Counts.{down_of}
 use Rattle.measure.specs.declared.Rows.{Rows}

@@ -1,7 +1,6 @@
 use mathlib.Core.Path.{refl, sym, subst}
 use Rattle.stream.specs.declared.Answer.TheVariants as answer
 use Rattle.record.specs.Contract.{Closes}
-use borrow.Author.Rules.{rules}
 use Rattle.record.proofs.closed.Goals as goal
 
 pub returns-in-Done : goal.returns-in-Done

@@ -1,8 +1,7 @@
 -- `record::is_inside` meets its contract. Assumes nothing.
-use mathlib.Core.Path.{◌≡◌, sym, ◌∙◌}
+use mathlib.Core.Path.{sym, ◌∙◌}
 use native.Mathlib.Omega.{arith}
 use Rattle.record.proofs.Inside.{false_true, inside_no, inside_busy, inside_done, inside_refused}
-use borrow.Author.Rules.{rules}
 use Rattle.record.proofs.is_inside.Goals as goal
 
 pub returns-then-last : goal.returns-then-last

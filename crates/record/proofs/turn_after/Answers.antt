@@ -1,6 +1,5 @@
 use mathlib.Core.Path.{ap}
 use Rattle.record.specs.declared.Stop.TheVariants.{Goes}
-use borrow.Author.Rules.{rules}
 use Rattle.record.proofs.turn_after.Goals as goal
 
 pub returns : goal.returns

@@ -1,6 +1,6 @@
 -- Whether lent columns are a table: as tests, with the laws that they hold exactly where the table's invariants do. Assumes nothing.
-use Rattle.std.specs.Prelude.{◌≡◌, refl, Bool, true, false, ◌&&◌, List, [], ◌∷◌, ℕ, zero, suc, ◌≤◌, leb, length, take, ℤ, nat_abs}
-use Rattle.std.proofs.Common.{◌∙◌, arith, leb-true, le-leb}
+use Rattle.std.specs.Prelude.{◌≡◌, refl, Bool, true, false, ◌&&◌, List, [], ◌∷◌, ℕ, zero, suc, leb, length, take, ℤ, nat_abs}
+use Rattle.std.proofs.Common.{arith, leb-true, le-leb}
 use Rattle.std.proofs.lemmas.Bool.{false≢true}
 use Rattle.rules.specs.declared.Name.{Name}
 use Rattle.rules.specs.Names.{Order, earlier, same, later, order, two_bytes}

@@ -1,9 +1,6 @@
 -- `rockavine_c::rockavine_call_parts` meets its contract, in each of its three ways out. Assumes nothing.
-use mathlib.Core.Path.{◌∙◌}
-use borrow.Author.Tests.{not-true, not-false}
 use Rattle.rockavine_c.proofs.Again.{from_turned, from_served}
 use Rattle.rockavine_c.proofs.Inside.{may_append, from_inside}
-use borrow.Author.Rules.{rules}
 use Rattle.rockavine_c.proofs.rockavine_call_parts.Goals as goal
 
 pub is_valid-requires : goal.is_valid-requires

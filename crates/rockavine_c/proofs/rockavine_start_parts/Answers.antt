@@ -1,5 +1,3 @@
-use mathlib.Core.Path.{◌∙◌}
-use borrow.Author.Rules.{rules}
 use Rattle.rockavine_c.proofs.rockavine_start_parts.Goals as goal
 
 pub returns : goal.returns

@@ -1,7 +1,5 @@
-use borrow.Author.Tests.{not-true, not-false}
 use Rattle.record.specs.Turns.{record_of}
 use Rattle.session.proofs.Limits.{call_turned}
-use borrow.Author.Rules.{rules}
 use Rattle.session.proofs.call_parts.Goals as goal
 
 pub returns-then-not-is_valid : goal.returns-then-not-is_valid

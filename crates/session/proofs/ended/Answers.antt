@@ -1,7 +1,6 @@
 use mathlib.Core.Path.{refl, sym, subst}
 use Rattle.stream.specs.declared.Answer.TheVariants as answer
 use Rattle.record.specs.Contract.{Closes}
-use borrow.Author.Rules.{rules}
 use Rattle.session.proofs.ended.Goals as goal
 
 pub returns-in-Open : goal.returns-in-Open

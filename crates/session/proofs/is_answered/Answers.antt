@@ -3,7 +3,6 @@ use native.Mathlib.Omega.{arith}
 use borrow.Author.Tests.{eqb-true, eqb-false}
 use Rattle.record.specs.declared.Closing.TheVariants.{Open, Done}
 use Rattle.session.proofs.Limits.{answered_no, answered_yes}
-use borrow.Author.Rules.{rules}
 use Rattle.session.proofs.is_answered.Goals as goal
 
 pub returns-then-n-lt2 : goal.returns-then-n-lt2

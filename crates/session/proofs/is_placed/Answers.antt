@@ -3,7 +3,6 @@ use mathlib.Core.Path.{subst}
 use native.Mathlib.Omega.{arith}
 use Prim.Native.Nat.{◌≤◌}
 use Rattle.session.proofs.Limits.{placed_no}
-use borrow.Author.Rules.{rules}
 use Rattle.session.proofs.is_placed.Goals as goal
 
 pub returns-then-source-gt-LINE_SIZE : goal.returns-then-source-gt-LINE_SIZE

@@ -1,8 +1,6 @@
-use mathlib.Core.Path.{sym, ◌∙◌}
-use borrow.Author.Tests.{not-true, not-false}
+use mathlib.Core.Path.{sym}
 use Rattle.record.specs.Turns.{record_of}
 use Rattle.session.proofs.Limits.{valid_no, valid_unsound, valid_by}
-use borrow.Author.Rules.{rules}
 use Rattle.session.proofs.is_valid.Goals as goal
 
 pub returns-then-not-is_placed : goal.returns-then-not-is_placed

@@ -2,7 +2,6 @@ use mathlib.Core.Path.{subst}
 use Rattle.record.specs.Turns.{record_of}
 use Rattle.session.specs.Limits.{EndsWith}
 use Rattle.session.proofs.Limits.{call_ended, call_served}
-use borrow.Author.Rules.{rules}
 use Rattle.session.proofs.serve.Goals as goal
 
 pub run-requires : goal.run-requires

@@ -1,6 +1,6 @@
 -- CONDITION 1 of acceptance: "Any bytes, any call, any size of lent memory get an answer and the call ends." `session::call` asks nothing of its caller, so that its promise,
 -- `CallContract`, holds of any record, store, block and room; that it ends is proved with it. This file says what the promise comes to. Assumes nothing.
-use Rattle.std.specs.Prelude.{◌≡◌, refl, Bool, List, [], ◌∷◌, ◌⊎◌, ℕ, ◌≤◌, length, take, drop}
+use Rattle.std.specs.Prelude.{◌≡◌, refl, Bool, List, [], ◌∷◌, ◌⊎◌, ℕ, ◌≤◌, length, drop}
 use Rattle.std.proofs.Common.{sym, ap, ◌∙◌, subst, append-nil, inl, inr, arith, drop_at}
 use Rattle.stream.specs.declared.Answer.{Answer}
 use Rattle.stream.specs.declared.Answer.TheVariants as answer
@@ -17,7 +17,7 @@ use Rattle.record.specs.declared.Reply.{Reply}
 use Rattle.record.specs.declared.Closing.{Closing}
 use Rattle.record.specs.declared.Closing.TheVariants.{Open, Done, Refused}
 use Rattle.record.specs.View.{closed_as, whole_in, sourced, state_of, waiting_of, ValidRecord, formed_good}
-use Rattle.record.specs.Contract.{call_on, Closes, Ended, EndedBy, CallRefines}
+use Rattle.record.specs.Contract.{call_on, Closes, EndedBy}
 use Rattle.session.specs.Contract.{NothingChanged, CallContract, served, turned}
 use Rattle.session.specs.Calls as calls
 

@@ -1,7 +1,7 @@
 -- CONDITION 2 of acceptance: "Pages and refusals are exactly those of document 01." The rules are document 01 (crates/rules/specs); `pages` are what they write for a document, and
 -- its closing answer. This file says that calls write just these. Assumes nothing.
-use Rattle.std.specs.Prelude.{◌≡◌, refl, Bool, true, false, List, [], ◌∷◌, ◌++◌, ℕ, zero, suc, ◌≤◌, length, take}
-use Rattle.std.proofs.Common.{sym, ap, ◌∙◌, append-nil, arith, take_at}
+use Rattle.std.specs.Prelude.{◌≡◌, refl, true, List, [], ◌∷◌, ◌++◌, ℕ, zero, suc, ◌≤◌, length, take}
+use Rattle.std.proofs.Common.{sym, ap, ◌∙◌, arith, take_at}
 use Rattle.stream.specs.Answers.{Closing, ReplyKind, closes, reply_of, needs_room}
 use Rattle.stream.specs.Machine.{Machine, Step, works, asks, closed, Pages, pages_after, Outcome, flush, fuel, pages_by, call_by, call_from, stop}
 use Rattle.stream.specs.Condition3.{Call, Split, joined_bytes}
@@ -11,7 +11,6 @@ use Rattle.rules.specs.Load.{formatter}
 use Rattle.rules.specs.Pages.{pages}
 use Rattle.rules.specs.Laws.Pages.{always_ends}
 use Rattle.record.specs.declared.Reply.{Reply}
-use Rattle.record.specs.View.{state_of}
 use Rattle.record.specs.Contract.{call_on}
 use Rattle.session.specs.Contract.{CallContract, served, turned}
 use Rattle.session.specs.Calls.{SessionCalls}

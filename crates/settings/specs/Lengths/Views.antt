@@ -1,5 +1,5 @@
 -- What the answers stand for, in the rules' terms, over a pitch. Assumes nothing.
-use Rattle.std.specs.Prelude.{◌≡◌, List, [], ◌∷◌, ℕ, ℤ}
+use Rattle.std.specs.Prelude.{List, ℕ, ℤ}
 use Rattle.measure.specs.declared.Pitch.{Pitch}
 use Rattle.measure.specs.Counts.{across_of, down_of}
 use Rattle.rules.specs.Printers.{Printer}

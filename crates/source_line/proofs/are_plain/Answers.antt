@@ -1,9 +1,6 @@
 -- `source_line::are_plain` meets its contract. The invariant: the block passes if the bytes from i on do. Assumes nothing.
-use Prim.Native.Nat.{◌≤◌, ◌-◌}
-use mathlib.Core.Path.{◌≡◌, refl, sym, ◌∙◌}
+use mathlib.Core.Path.{refl, sym, ◌∙◌}
 use native.Mathlib.Omega.{arith}
-use lib.ListN.{length, drop}
-use Rattle.source_line.specs.Gathering.{are_plain}
 use Rattle.source_line.proofs.Laws.{plain_end, plain_low, plain_high, plain_on}
 use Rattle.source_line.proofs.are_plain.Goals as goal
 

@@ -1,9 +1,7 @@
 use Prim.Native.Nat.{◌≤◌, ◌-◌}
-use mathlib.Core.Path.{◌≡◌, refl, sym, ◌∙◌}
-use native.Mathlib.Omega.{arith}
+use mathlib.Core.Path.{◌≡◌}
 use lib.ListN.{length, drop}
 use Rattle.source_line.specs.Gathering.{are_plain}
-use Rattle.source_line.proofs.Laws.{plain_end, plain_low, plain_high, plain_on}
 use Rattle.source_line.proofs.are_plain.Given as goal
 
 abbrev pub invariant-loop-i : goal.invariant-loop-i

@@ -1,6 +1,4 @@
 -- `source_line::begin` meets its contract. Assumes nothing.
-use mathlib.Core.Path.{◌≡◌, ◌∙◌}
-use borrow.Author.Rules.{rules}
 use Rattle.source_line.proofs.Laws.{begun_first, begun_later}
 use Rattle.source_line.proofs.begin.Goals as goal
 

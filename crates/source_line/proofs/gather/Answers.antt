@@ -2,8 +2,6 @@
 use mathlib.Core.Path.{sym, subst}
 use Prim.Native.Nat.{◌≤◌}
 use native.Mathlib.Omega.{arith}
-use borrow.Author.Rules.{rules}
-use lib.ListN.{length}
 use Rattle.source_line.proofs.Laws.{gathered_past, gathered_line, reach_behind}
 use Rattle.source_line.proofs.gather.Goals as goal
 

@@ -1,8 +1,8 @@
 -- `source_line::gather_line` meets its contract. The loop keeps that the whole is what is to come from here with the bytes so far. Assumes nothing.
-use Prim.Native.Nat.{◌+◌, ◌≤◌, ◌-◌}
-use mathlib.Core.Path.{◌≡◌, refl, sym, ap, ◌∙◌}
+use Prim.Native.Nat.{◌+◌}
+use mathlib.Core.Path.{refl, sym, ap, ◌∙◌}
 use native.Mathlib.Omega.{arith}
-use lib.ListN.{length, take, drop, get_or, length-set}
+use lib.ListN.{take, drop, get_or, length-set}
 use lib.Seq.{length-take-le}
 use Rattle.source_line.specs.Gathering.{line_from}
 use Rattle.source_line.proofs.Laws.{line_out, line_ends, line_long, line_low, line_high, line_keeps, line_put}

@@ -1,10 +1,7 @@
-use Prim.Native.Nat.{◌+◌, ◌≤◌, ◌-◌}
-use mathlib.Core.Path.{◌≡◌, refl, sym, ap, ◌∙◌}
-use native.Mathlib.Omega.{arith}
-use lib.ListN.{length, take, drop, get_or, length-set}
-use lib.Seq.{length-take-le}
+use Prim.Native.Nat.{◌≤◌, ◌-◌}
+use mathlib.Core.Path.{◌≡◌}
+use lib.ListN.{length, take, drop}
 use Rattle.source_line.specs.Gathering.{line_from}
-use Rattle.source_line.proofs.Laws.{line_out, line_ends, line_long, line_low, line_high, line_keeps, line_put}
 use Rattle.source_line.proofs.gather_line.Given as goal
 
 abbrev pub invariant-loop-to : goal.invariant-loop-to

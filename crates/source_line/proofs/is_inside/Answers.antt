@@ -2,7 +2,6 @@
 use mathlib.Core.Path.{sym, ◌∙◌}
 use native.Mathlib.Omega.{arith}
 use Rattle.source_line.proofs.Laws.{inside_none, inside_long, inside_fits}
-use borrow.Author.Rules.{rules}
 use Rattle.source_line.proofs.is_inside.Goals as goal
 
 pub returns-then-start-eq0 : goal.returns-then-start-eq0

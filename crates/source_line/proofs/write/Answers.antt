@@ -1,9 +1,8 @@
 -- `source_line::write` meets its contract. The invariant: j of them are written. Assumes nothing.
-use Prim.Native.Nat.{◌+◌, ◌≤◌, ◌-◌}
+use Prim.Native.Nat.{◌+◌}
 use mathlib.Core.Path.{◌≡◌, refl, ap, ◌∙◌}
 use native.Mathlib.Omega.{arith}
-use borrow.Author.Rules.{rules}
-use lib.ListN.{length, drop, get_or, set, length-set}
+use lib.ListN.{drop, get_or, set, length-set}
 use lib.Seq.{paste, paste-zero}
 use Rattle.source_line.proofs.Laws.{copy_step}
 use Rattle.source_line.proofs.write.Goals as goal

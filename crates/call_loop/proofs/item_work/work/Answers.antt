@@ -3,7 +3,6 @@ use Rattle.settings.specs.Layout.Layouts.{printer_of}
 use Rattle.state.specs.Statuses.{whole_of}
 use Rattle.record.specs.Turns.{core_in}
 use Rattle.record.proofs.Turns.{item_worked}
-use borrow.Author.Rules.{rules}
 use Rattle.call_loop.proofs.item_work.work.Goals as goal
 
 pub work-worked-requires : goal.work-worked-requires

@@ -8,7 +8,6 @@ use Rattle.state.specs.Statuses.{whole_of}
 use Rattle.record.specs.View.{sourced}
 use Rattle.record.specs.Turns.{core_in}
 use Rattle.record.proofs.Turns.{line_dealt}
-use borrow.Author.Rules.{rules}
 use Rattle.call_loop.proofs.source_input.deal_line.Goals as goal
 
 pub deal-step-requires : goal.deal-step-requires

@@ -1,14 +1,12 @@
 use native.Mathlib.Omega.{arith}
-use Prim.Native.Nat.{◌≤◌}
 use mathlib.Core.Path.{ap, ◌∙◌}
 use mathlib.Core.Bool.{true}
-use lib.ListN.{length, take}
+use lib.ListN.{take}
 use lib.Seq.{length-take-le}
 use Rattle.fill.proofs.words.Parts.{part_zero}
 use Rattle.page.specs.declared.springs.Way.TheVariants as way
 use Rattle.record.specs.Turns.{resting, core_in, core_after}
 use Rattle.record.proofs.Taking.{may_deal, end_stands, end_dealt}
-use borrow.Author.Rules.{rules}
 use Rattle.call_loop.proofs.source_input.read_end.Goals as goal
 
 pub returns-then-source-eq0 : goal.returns-then-source-eq0

@@ -3,7 +3,6 @@ use mathlib.Core.Path.{ap, ◌∙◌}
 use Rattle.fill.proofs.words.Parts.{part_zero}
 use Rattle.record.specs.Turns.{record_of, resting, core_in}
 use Rattle.record.proofs.Taking.{may_deal_ended, more_taken, refused_taken, ended_taken}
-use borrow.Author.Rules.{rules}
 use Rattle.call_loop.proofs.source_input.take_line.Goals as goal
 
 pub gather-got-requires : goal.gather-got-requires

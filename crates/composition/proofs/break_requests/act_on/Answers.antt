@@ -1,6 +1,5 @@
 -- `composition::break_requests::act_on` meets its contract. Assumes nothing.
 use mathlib.Core.Path.{refl}
-use borrow.Author.Rules.{rules}
 use Rattle.rules.specs.Acts.{set_line}
 use Rattle.settings.specs.Layout.Layouts.{printer_of}
 use Rattle.composition.specs.PageRows.PageState.{page_state}

@@ -1,5 +1,4 @@
 -- `composition::break_requests::held_line` meets its contract. Assumes nothing.
-use borrow.Author.Rules.{rules}
 use Rattle.composition.proofs.break_requests.held_line.Goals as goal
 
 pub returns-then-held_first : goal.returns-then-held_first

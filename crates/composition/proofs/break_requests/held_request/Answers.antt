@@ -1,5 +1,4 @@
 -- `composition::break_requests::held_request` meets its contract. Assumes nothing.
-use borrow.Author.Rules.{rules}
 use Rattle.composition.proofs.break_requests.held_request.Goals as goal
 
 pub returns-then-acts_after : goal.returns-then-acts_after

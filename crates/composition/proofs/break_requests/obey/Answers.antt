@@ -1,6 +1,5 @@
 -- `composition::break_requests::obey` meets its contract. Assumes nothing.
 use mathlib.Core.Path.{sym, subst, ◌∙◌}
-use borrow.Author.Rules.{rules}
 use Rattle.traps.specs.Table.Table.{planted_of}
 use Rattle.settings.specs.Layout.Layouts.{printer_of}
 use Rattle.page.specs.Springs.Held.{Plain}

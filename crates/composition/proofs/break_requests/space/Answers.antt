@@ -1,5 +1,4 @@
 -- `composition::break_requests::space` meets its contract. Assumes nothing.
-use borrow.Author.Rules.{rules}
 use Rattle.settings.specs.Layout.Layouts.{printer_of}
 use Rattle.composition.specs.PageRows.PageState.{page_state}
 use Rattle.composition.proofs.page_rows.Work.{stays, same_work}

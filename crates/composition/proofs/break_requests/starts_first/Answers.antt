@@ -1,5 +1,4 @@
 -- `composition::break_requests::starts_first` meets its contract. Assumes nothing.
-use borrow.Author.Rules.{rules}
 use borrow.Author.Tests.{eq-eqb, ne_eqb}
 use Rattle.composition.proofs.break_requests.starts_first.Goals as goal
 

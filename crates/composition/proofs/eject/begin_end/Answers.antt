@@ -1,8 +1,6 @@
 -- `composition::eject::begin_end` meets its contract. Assumes nothing.
-use mathlib.Core.Path.{◌≡◌}
 use mathlib.Core.Bool.{true}
 use native.Mathlib.Omega.{arith}
-use borrow.Author.Rules.{rules}
 use Rattle.traps.specs.Table.Table.{planted_of}
 use Rattle.rules.specs.Rows as rule
 use Rattle.composition.specs.PageRows.PageState.{page_state}

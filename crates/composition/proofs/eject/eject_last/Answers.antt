@@ -1,7 +1,6 @@
 -- `composition::eject::eject_last` meets its contract. Assumes nothing.
 use mathlib.Core.List.{[]}
 use native.Mathlib.Omega.{arith}
-use borrow.Author.Rules.{rules}
 use Rattle.measure.specs.Counts.{down_of}
 use Rattle.traps.specs.Table.Table.{planted_of}
 use Rattle.page.specs.Position.Landing.{page_of}

@@ -1,8 +1,6 @@
 -- `composition::eject::left_of` meets its contract. Assumes nothing.
-use mathlib.Core.Path.{◌≡◌}
 use Prim.Native.Nat.{◌+◌, ◌≤◌, ◌<◌}
 use native.Mathlib.Omega.{arith}
-use borrow.Author.Rules.{rules}
 use borrow.Author.Tests.{lt-ltb, le-ltb}
 use Rattle.measure.specs.Counts.{down_of}
 use Rattle.composition.proofs.eject.left_of.Goals as goal

@@ -1,6 +1,5 @@
 -- `composition::filling::collect` meets its contract. Assumes nothing.
 use mathlib.Core.Path.{refl}
-use borrow.Author.Rules.{rules}
 use Rattle.composition.proofs.filling.collect.Goals as goal
 
 pub returns : goal.returns

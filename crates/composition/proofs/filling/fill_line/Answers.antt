@@ -4,9 +4,8 @@ use mathlib.Core.Bool.{Bool, false}
 use mathlib.Core.List.{List, []}
 use Prim.Native.Nat.{◌≤◌}
 use native.Mathlib.Omega.{arith}
-use borrow.Author.Rules.{rules}
 use Rattle.measure.specs.Counts.{across_of}
-use Rattle.rules.specs.Filling.{Word, words, leads, place, gap_after}
+use Rattle.rules.specs.Filling.{Word, words, leads, gap_after}
 use Rattle.rules.specs.TextLines.{fills, text_way}
 use Rattle.traps.specs.Table.Table.{planted_of}
 use Rattle.texts.specs.Table.Table.{texts_of}

@@ -3,8 +3,7 @@ use mathlib.Core.Path.{refl, ap}
 use mathlib.Core.Bool.{true}
 use mathlib.Core.List.{◌++◌}
 use native.Mathlib.Omega.{arith}
-use lib.ListN.{length, replicate}
-use borrow.Author.Rules.{rules}
+use lib.ListN.{replicate}
 use Rattle.measure.specs.Counts.{across_of, cells_across}
 use Rattle.rules.specs.Bytes.{fixed_blank}
 use Rattle.rules.specs.Settings as rule

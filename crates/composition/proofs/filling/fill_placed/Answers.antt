@@ -1,7 +1,6 @@
 -- `composition::filling::fill_placed` meets its contract. Assumes nothing.
 use mathlib.Core.Path.{refl}
 use native.Mathlib.Omega.{arith}
-use borrow.Author.Rules.{rules}
 use Rattle.measure.specs.Counts.{across_of}
 use Rattle.fill.specs.declared.collected.Placed.TheVariants as placed
 use Rattle.page.proofs.springs.Stacks.{fits_few}

@@ -3,9 +3,8 @@ use mathlib.Core.Path.{◌≡◌, sym, ap, ◌∙◌}
 use mathlib.Core.List.{List, []}
 use Prim.Native.Nat.{ℕ}
 use native.Mathlib.Omega.{arith}
-use borrow.Author.Rules.{rules}
 use Rattle.measure.specs.Counts.{across_of}
-use Rattle.rules.specs.Filling.{Word, words, place, leads}
+use Rattle.rules.specs.Filling.{Word, words, place}
 use Rattle.rules.specs.TextLines.{fill}
 use Rattle.traps.specs.Table.Table.{planted_of}
 use Rattle.texts.specs.Table.Table.{texts_of}

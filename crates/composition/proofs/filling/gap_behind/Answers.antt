@@ -1,6 +1,5 @@
 -- `composition::filling::gap_behind` meets its contract. Assumes nothing.
 use mathlib.Core.Path.{sym, ap, ◌∙◌}
-use borrow.Author.Rules.{rules}
 use Rattle.measure.specs.Counts.{cells_across}
 use Rattle.rules.specs.Filling.{words}
 use Rattle.fill.specs.Words.Parts.{bytes_between}

@@ -1,6 +1,5 @@
 -- `composition::filling::others_held` meets its contract. Assumes nothing.
 use mathlib.Core.Path.{sym, ◌∙◌}
-use borrow.Author.Rules.{rules}
 use Rattle.rules.specs.Filling.{words}
 use Rattle.fill.specs.Words.Parts.{bytes_between}
 use Rattle.composition.proofs.filling.Fills.{held_none, held_some}

@@ -3,8 +3,6 @@ use mathlib.Core.Path.{refl, ap, ◌∙◌}
 use mathlib.Core.Bool.{true}
 use mathlib.Core.Option.{some}
 use native.Mathlib.Omega.{arith}
-use lib.ListN.{length}
-use borrow.Author.Rules.{rules}
 use Rattle.measure.specs.Counts.{across_of}
 use Rattle.rules.specs.Settings as rule
 use Rattle.rules.specs.Filling.{words, full_row}

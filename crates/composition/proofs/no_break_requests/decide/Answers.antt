@@ -1,7 +1,6 @@
 -- `composition::no_break_requests::decide` meets its contract. Assumes nothing.
 use native.Mathlib.Omega.{arith}
 use lib.ListN.{drop}
-use borrow.Author.Rules.{rules}
 use Rattle.line_syntax.specs.declared.conditions.ConditionResult.TheVariants.{Holds, Fails, Malformed}
 use Rattle.composition.specs.PageRows.PageState.{page_state}
 use Rattle.composition.proofs.page_rows.Work.{stays}

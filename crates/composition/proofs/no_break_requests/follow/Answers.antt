@@ -3,7 +3,6 @@ use mathlib.Core.Path.{ap, ◌∙◌}
 use mathlib.Core.List.{List}
 use Prim.Native.Nat.{ℕ}
 use native.Mathlib.Omega.{arith}
-use borrow.Author.Rules.{rules}
 use Rattle.rules.specs.State.{again, control}
 use Rattle.input_stack.specs.declared.frames.What.TheVariants as what
 use Rattle.composition.proofs.no_break_requests.Follows.{all_from, followed_none, followed_line}

@@ -1,5 +1,4 @@
 -- `composition::no_break_requests::set_page` meets its contract. Assumes nothing.
-use borrow.Author.Rules.{rules}
 use Rattle.line_syntax.specs.Lines.Places.{argument_is}
 use Rattle.composition.proofs.no_break_requests.set_page.Goals as goal
 

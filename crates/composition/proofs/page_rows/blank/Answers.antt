@@ -1,6 +1,5 @@
 -- `composition::page_rows::blank` meets its contract. Assumes nothing.
 use mathlib.Core.Path.{refl}
-use borrow.Author.Rules.{rules}
 use Rattle.measure.specs.Counts.{down_of}
 use Rattle.rules.specs.Rows as rule
 use Rattle.composition.specs.PageRows.PageState.{page_state}

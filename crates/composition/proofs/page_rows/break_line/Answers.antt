@@ -1,6 +1,4 @@
 -- `composition::page_rows::break_line` meets its contract. Assumes nothing.
-use mathlib.Core.Path.{◌≡◌}
-use borrow.Author.Rules.{rules}
 use Rattle.traps.specs.Table.Table.{planted_of}
 use Rattle.page.specs.Springs.Held.{held_of}
 use Rattle.rules.specs.Rows as rule

@@ -1,5 +1,4 @@
 -- `composition::page_rows::settle` meets its contract. Assumes nothing.
-use borrow.Author.Rules.{rules}
 use Rattle.composition.proofs.page_rows.settle.Goals as goal
 
 pub returns-in-Is : goal.returns-in-Is

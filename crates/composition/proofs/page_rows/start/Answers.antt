@@ -1,7 +1,6 @@
 -- `composition::page_rows::start` meets its contract. Assumes nothing.
-use mathlib.Core.Path.{◌≡◌, refl}
+use mathlib.Core.Path.{refl}
 use native.Mathlib.Omega.{arith}
-use borrow.Author.Rules.{rules}
 use Rattle.rules.specs.Rows as rule
 use Rattle.composition.specs.PageRows.PageState.{page_state}
 use Rattle.composition.proofs.page_rows.Work.{moves}

@@ -1,5 +1,4 @@
 -- `composition::text_calls::call` meets its contract. Assumes nothing.
-use borrow.Author.Rules.{rules}
 use Rattle.composition.proofs.text_calls.Calls.{calls_text}
 use Rattle.composition.proofs.text_calls.call.Goals as goal
 

@@ -1,5 +1,4 @@
 -- `composition::text_calls::land` meets its contract. Assumes nothing.
-use borrow.Author.Rules.{rules}
 use Rattle.composition.proofs.text_calls.land.Goals as goal
 
 pub returns-then-called : goal.returns-then-called

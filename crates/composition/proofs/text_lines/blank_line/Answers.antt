@@ -1,7 +1,6 @@
 -- `composition::text_lines::blank_line` meets its contract. Assumes nothing.
 use mathlib.Core.Path.{◌∙◌}
 use native.Mathlib.Omega.{arith}
-use borrow.Author.Rules.{rules}
 use Rattle.traps.specs.Table.Table.{planted_of}
 use Rattle.composition.specs.PageRows.PageState.{page_state}
 use Rattle.composition.proofs.filling.Works.{worked_as}

@@ -2,7 +2,6 @@
 use mathlib.Core.Path.{sym, ap}
 use mathlib.Core.List.{List, [], ◌∷◌}
 use Prim.Native.Nat.{ℕ}
-use borrow.Author.Rules.{rules}
 use Rattle.measure.specs.Counts.{across_of}
 use Rattle.rules.specs.State.{again, plain_text}
 use Rattle.rules.specs.Rows.{break}

@@ -1,7 +1,6 @@
 -- `composition::text_lines::stand` meets its contract. Assumes nothing.
 use mathlib.Core.Path.{refl, ap, ◌∙◌}
 use native.Mathlib.Omega.{arith}
-use borrow.Author.Rules.{rules}
 use Rattle.rules.specs.Settings as rule
 use Rattle.rules.specs.Filling.{words, standing_row}
 use Rattle.traps.specs.Table.Table.{planted_of}

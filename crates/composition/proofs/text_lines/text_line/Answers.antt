@@ -1,7 +1,6 @@
 -- `composition::text_lines::text_line` meets its contract. Assumes nothing.
 use mathlib.Core.Path.{sym, ◌∙◌}
 use native.Mathlib.Omega.{arith}
-use borrow.Author.Rules.{rules}
 use Rattle.traps.specs.Table.Table.{planted_of}
 use Rattle.fill.specs.Words.Parts.{bytes_between}
 use Rattle.composition.specs.PageRows.PageState.{page_state}

@@ -1,6 +1,5 @@
 -- `composition::text_lines::word_line` meets its contract. Assumes nothing.
 use mathlib.Core.Path.{sym, ap, ◌∙◌}
-use borrow.Author.Rules.{rules}
 use Rattle.rules.specs.Filling.{words, leads}
 use Rattle.rules.specs.TextLines.{text_way, TextLineCase, as_it_stands}
 use Rattle.traps.specs.Table.Table.{planted_of}

@@ -18,12 +18,15 @@ returns c =
     let a = c.args in
     let n = c.count-n in
     let w = c.put_word.ensures in
-    let e = c.put_run.ensures in record { written = record {
+    let e = c.put_run.ensures in record {
+      written = record {
         is = w.is ∙ rw e (rw (← n.ensures) (begin_cells a.cells.now _ n.result));
         end = w.end ∙ rw (← n.ensures) (begin_length a.cells.now _ n.result);
         long = w.long ∙ rw e (simp length-sets);
-      }; places = record {
+      };
+      places = record {
         long = w.long ∙ rw e (simp length-sets c.requires.2);
         ordered = omega arith;
         few = omega (arith, w.end, n.ensures, c.requires.0, c.requires.1, printed_length (bytes_between a.line.now a.from a.to), part_width a.line.now a.from a.to (omega (arith, c.requires.0)));
-      } }
+      };
+    }

@@ -1,13 +1,12 @@
 -- `fill::collected::place` meets its contract. The invariant: what is collected so far, and that the words from here on give what all of them give. Assumes nothing.
-use borrow.Author.Rules.{rules}
 use mathlib.Core.Path.{◌≡◌, ◌∙◌}
 use native.Mathlib.Omega.{arith}
-use Prim.Native.Nat.{◌-◌, ◌<◌}
+use Prim.Native.Nat.{◌<◌}
 use Rattle.rules.specs.Filling.{width}
 use Rattle.rules.specs.Laws.Filling.{gap_cells_length}
 use Rattle.fill.specs.Words.Parts.{bytes_between}
 use Rattle.fill.proofs.collected.Writing.{part_width}
-use Rattle.fill.proofs.collected.Placing.{Placing, placing_start, placed_all, placed_full, placing_next, word_width, word_some}
+use Rattle.fill.proofs.collected.Placing.{placing_start, placed_all, placed_full, placing_next, word_width, word_some}
 use Rattle.fill.proofs.collected.place.Goals as goal
 use Rattle.fill.proofs.collected.place.Goals.{After-count}
 

@@ -2,9 +2,8 @@
 use borrow.Author.Rules.{rules}
 use mathlib.Core.Path.{◌≡◌, refl, sym, ◌∙◌}
 use native.Mathlib.Omega.{arith}
-use Prim.Native.Nat.{◌+◌, ◌-◌, ◌≤◌}
-use lib.ListN.{length, replicate, length-set}
-use lib.Seq.{sets}
+use Prim.Native.Nat.{◌+◌, ◌-◌}
+use lib.ListN.{length-set}
 use Rattle.fill.proofs.collected.Writing.{run_more, run_end}
 use Rattle.fill.proofs.collected.put_run.Goals as goal
 

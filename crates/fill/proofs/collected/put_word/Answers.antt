@@ -1,11 +1,10 @@
 -- `fill::collected::put_word` meets its contract. The invariant: what is still to be put from here on. Assumes nothing.
 use borrow.Author.Rules.{rules}
-use mathlib.Core.Path.{◌≡◌, refl, sym, ◌∙◌, ap}
+use mathlib.Core.Path.{refl, sym, ◌∙◌, ap}
 use native.Mathlib.Omega.{arith}
-use Prim.Native.Nat.{ℕ, ◌+◌, ◌-◌, ◌≤◌, ◌<◌}
+use Prim.Native.Nat.{ℕ, ◌+◌, ◌≤◌, ◌<◌}
 use lib.ListN.{length, length-set}
 use lib.Seq.{sets}
-use Rattle.rules.specs.Filling.{printed}
 use Rattle.rules.specs.Laws.Filling.{printed_length}
 use Rattle.fill.specs.Words.Parts.{bytes_between}
 use Rattle.fill.proofs.collected.Writing.{write_mark, write_byte, count_mark, count_byte, printed_end}

@@ -1,13 +1,9 @@
-use borrow.Author.Rules.{rules}
-use mathlib.Core.Path.{◌≡◌, refl, sym, ◌∙◌, ap}
-use native.Mathlib.Omega.{arith}
-use Prim.Native.Nat.{ℕ, ◌+◌, ◌-◌, ◌≤◌, ◌<◌}
-use lib.ListN.{length, length-set}
+use mathlib.Core.Path.{◌≡◌}
+use Prim.Native.Nat.{◌+◌, ◌-◌, ◌≤◌}
+use lib.ListN.{length}
 use lib.Seq.{sets}
 use Rattle.rules.specs.Filling.{printed}
-use Rattle.rules.specs.Laws.Filling.{printed_length}
 use Rattle.fill.specs.Words.Parts.{bytes_between}
-use Rattle.fill.proofs.collected.Writing.{write_mark, write_byte, count_mark, count_byte, printed_end}
 use Rattle.fill.proofs.collected.put_word.Given as goal
 
 abbrev pub invariant-loop-i : goal.invariant-loop-i

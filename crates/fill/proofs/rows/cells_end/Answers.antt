@@ -1,14 +1,7 @@
 -- `fill::rows::cells_end` meets its contract. The invariant: the cells passed are blanks, so that those up to here give the same row. Assumes nothing.
 use borrow.Author.Rules.{rules}
-use mathlib.Core.Path.{◌≡◌, refl, sym, ◌∙◌}
+use mathlib.Core.Path.{refl, sym, ◌∙◌}
 use native.Mathlib.Omega.{arith}
-use Prim.Native.Nat.{ℕ, ◌≤◌}
-use mathlib.Core.List.{◌++◌}
-use lib.ListN.{replicate}
-use borrow.Author.Tests.{not-true, not-false}
-use Rattle.rules.specs.Bytes.{space}
-use Rattle.rules.specs.Filling.{spread, trimmed}
-use Rattle.fill.specs.Words.Parts.{bytes_between}
 use Rattle.fill.proofs.unfilled.Spreading.{end_more}
 use Rattle.fill.proofs.rows.cells_end.Goals as goal
 

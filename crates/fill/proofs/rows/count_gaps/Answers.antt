@@ -1,10 +1,7 @@
 -- `fill::rows::count_gaps` meets its contract. The invariant: the gaps passed and those from here on. Assumes nothing.
 use borrow.Author.Rules.{rules}
-use mathlib.Core.Path.{◌≡◌, sym, ◌∙◌}
+use mathlib.Core.Path.{sym, ◌∙◌}
 use native.Mathlib.Omega.{arith}
-use Prim.Native.Nat.{◌+◌, ◌-◌, ◌≤◌}
-use Rattle.rules.specs.Filling.{gaps}
-use Rattle.fill.specs.Words.Parts.{bytes_between}
 use Rattle.fill.proofs.unfilled.Spreading.{gaps_more, gaps_other, gaps_end}
 use Rattle.fill.proofs.rows.count_gaps.Goals as goal
 

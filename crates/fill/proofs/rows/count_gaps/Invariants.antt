@@ -1,10 +1,7 @@
-use borrow.Author.Rules.{rules}
-use mathlib.Core.Path.{◌≡◌, sym, ◌∙◌}
-use native.Mathlib.Omega.{arith}
+use mathlib.Core.Path.{◌≡◌}
 use Prim.Native.Nat.{◌+◌, ◌-◌, ◌≤◌}
 use Rattle.rules.specs.Filling.{gaps}
 use Rattle.fill.specs.Words.Parts.{bytes_between}
-use Rattle.fill.proofs.unfilled.Spreading.{gaps_more, gaps_other, gaps_end}
 use Rattle.fill.proofs.rows.count_gaps.Given as goal
 
 abbrev pub invariant-loop-i : goal.invariant-loop-i

@@ -1,5 +1,4 @@
 -- `fill::rows::few_after` meets its contract. Assumes nothing.
-use borrow.Author.Rules.{rules}
 use mathlib.Core.Path.{◌∙◌}
 use borrow.Author.Tests.{eq-eqb, ne_eqb}
 use Rattle.fill.proofs.unfilled.Spreading.{few_gap}

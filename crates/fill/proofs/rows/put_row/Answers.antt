@@ -40,5 +40,8 @@ overflow_add-result c = omega (arith, below (goal.at.overflow_add-result c).Afte
 
 pub returns : goal.returns
 returns c =
-    let a = c.args in record { written = row_done a.row.now _ _ _ _ a.blanks _ c.put_run.ensures c.spread_cells-n.ensures
-          (cells_row a.cells.now a.length c.cells_end-end.result (omega (arith, c.requires.0)) c.cells_end-end.ensures a.blanks a.each a.few (omega (arith, c.if-end-eq0.false))); upper_bound = omega (arith, below (goal.at.returns c).After-spread_cells-n) }
+    let a = c.args in record {
+      written = row_done a.row.now _ _ _ _ a.blanks _ c.put_run.ensures c.spread_cells-n.ensures
+          (cells_row a.cells.now a.length c.cells_end-end.result (omega (arith, c.requires.0)) c.cells_end-end.ensures a.blanks a.each a.few (omega (arith, c.if-end-eq0.false)));
+      upper_bound = omega (arith, below (goal.at.returns c).After-spread_cells-n);
+    }

@@ -1,9 +1,7 @@
 -- `fill::rows::spread_cells` meets its contract. The invariant: what is still to be spread from here on. Assumes nothing.
-use borrow.Author.Rules.{rules}
 use mathlib.Core.Path.{refl, ◌∙◌}
 use native.Mathlib.Omega.{arith}
-use Prim.Native.Nat.{◌-◌}
-use Rattle.fill.proofs.unfilled.Spreading.{Spreading, spreading_room, spreading_next, spreading_done}
+use Rattle.fill.proofs.unfilled.Spreading.{spreading_room, spreading_next, spreading_done}
 use Rattle.fill.proofs.rows.spread_cells.Goals as goal
 
 pub loop-i-init : goal.loop-i-init

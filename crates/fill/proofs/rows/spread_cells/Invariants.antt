@@ -1,8 +1,5 @@
-use borrow.Author.Rules.{rules}
-use mathlib.Core.Path.{refl, ◌∙◌}
-use native.Mathlib.Omega.{arith}
 use Prim.Native.Nat.{◌-◌}
-use Rattle.fill.proofs.unfilled.Spreading.{Spreading, spreading_room, spreading_next, spreading_done}
+use Rattle.fill.proofs.unfilled.Spreading.{Spreading}
 use Rattle.fill.proofs.rows.spread_cells.Given as goal
 
 abbrev pub invariant-loop-i : goal.invariant-loop-i

@@ -1,5 +1,4 @@
 -- `fill::unfilled::left_blanks` meets its contract. Assumes nothing.
-use borrow.Author.Rules.{rules}
 use mathlib.Core.Path.{ap}
 use Rattle.measure.specs.Counts.{across_of}
 use Rattle.fill.proofs.unfilled.left_blanks.Goals as goal

@@ -44,5 +44,8 @@ overflow_add-result c = omega (arith, below (goal.at.overflow_add-result c).Afte
 
 pub returns : goal.returns
 returns c =
-    let a = c.args in record { written = row_done a.row.now _ _ _ _ a.blanks _ c.put_run.ensures c.put_word-n.ensures
-          (text_row_lem a.line.now a.at a.to c.text_end-end.result (omega (arith, c.requires.0)) c.text_end-end.ensures a.blanks (omega (arith, c.if-end-at.false, c.text_end-end.ensures.low))); upper_bound = omega (arith, below (goal.at.returns c).After-put_word-n) }
+    let a = c.args in record {
+      written = row_done a.row.now _ _ _ _ a.blanks _ c.put_run.ensures c.put_word-n.ensures
+          (text_row_lem a.line.now a.at a.to c.text_end-end.result (omega (arith, c.requires.0)) c.text_end-end.ensures a.blanks (omega (arith, c.if-end-at.false, c.text_end-end.ensures.low)));
+      upper_bound = omega (arith, below (goal.at.returns c).After-put_word-n);
+    }

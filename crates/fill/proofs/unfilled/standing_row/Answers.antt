@@ -1,5 +1,4 @@
 -- `fill::unfilled::standing_row` meets its contract: a line without its trailing spaces is its words as text. Assumes nothing.
-use borrow.Author.Rules.{rules}
 use mathlib.Core.Path.{◌≡◌, ◌∙◌}
 use native.Mathlib.Omega.{arith}
 use Prim.Native.Nat.{◌+◌, ◌-◌, ◌≤◌}

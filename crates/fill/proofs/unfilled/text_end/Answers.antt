@@ -1,14 +1,7 @@
 -- `fill::unfilled::text_end` meets its contract. The invariant: of the bytes passed only blanks are printed, so that those up to here give the same row. Assumes nothing.
 use borrow.Author.Rules.{rules}
-use mathlib.Core.Path.{◌≡◌, refl, sym, ◌∙◌}
+use mathlib.Core.Path.{refl, sym, ◌∙◌}
 use native.Mathlib.Omega.{arith}
-use Prim.Native.Nat.{ℕ, ◌-◌, ◌≤◌}
-use mathlib.Core.List.{◌++◌}
-use lib.ListN.{replicate}
-use borrow.Author.Tests.{not-true, not-false}
-use Rattle.rules.specs.Bytes.{space}
-use Rattle.rules.specs.Filling.{printed, trimmed}
-use Rattle.fill.specs.Words.Parts.{bytes_between}
 use Rattle.fill.proofs.unfilled.Rows.{text_more}
 use Rattle.fill.proofs.unfilled.text_end.Goals as goal
 

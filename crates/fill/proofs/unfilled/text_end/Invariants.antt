@@ -1,14 +1,10 @@
-use borrow.Author.Rules.{rules}
-use mathlib.Core.Path.{◌≡◌, refl, sym, ◌∙◌}
-use native.Mathlib.Omega.{arith}
+use mathlib.Core.Path.{◌≡◌}
 use Prim.Native.Nat.{ℕ, ◌-◌, ◌≤◌}
 use mathlib.Core.List.{◌++◌}
 use lib.ListN.{replicate}
-use borrow.Author.Tests.{not-true, not-false}
 use Rattle.rules.specs.Bytes.{space}
 use Rattle.rules.specs.Filling.{printed, trimmed}
 use Rattle.fill.specs.Words.Parts.{bytes_between}
-use Rattle.fill.proofs.unfilled.Rows.{text_more}
 use Rattle.fill.proofs.unfilled.text_end.Given as goal
 
 abbrev pub invariant-loop-i : goal.invariant-loop-i

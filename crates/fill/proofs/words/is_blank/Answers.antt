@@ -1,5 +1,4 @@
 -- `fill::words::is_blank` meets its contract. Assumes nothing.
-use borrow.Author.Rules.{rules}
 use native.Mathlib.Omega.{arith}
 use Rattle.fill.proofs.words.Words.{none_is}
 use Rattle.fill.proofs.words.is_blank.Goals as goal

@@ -1,5 +1,4 @@
 -- `fill::words::leads` meets its contract. Assumes nothing.
-use borrow.Author.Rules.{rules}
 use native.Mathlib.Omega.{arith}
 use Rattle.fill.proofs.words.Words.{leads_none, leads_some}
 use Rattle.fill.proofs.words.leads.Goals as goal

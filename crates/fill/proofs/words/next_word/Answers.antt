@@ -1,5 +1,4 @@
 -- `fill::words::next_word` meets its contract: the first word, and the words behind it. Assumes nothing.
-use borrow.Author.Rules.{rules}
 use mathlib.Core.Path.{sym, ◌∙◌, ap}
 use native.Mathlib.Omega.{arith}
 use mathlib.Core.List.{List}
@@ -26,10 +25,13 @@ returns c =
     let w = c.word_end-end in
     let g = c.as_cells.ensures in
     let k : a.to ≤ length a.line.now = omega arith in
-    let h : from < a.to = omega arith in record { result_value = rw g (first_found a.line.now a.at a.to from k (omega arith) f w.result.to w.ensures.place h); good_next = record {
+    let h : from < a.to = omega arith in record {
+      result_value = rw g (first_found a.line.now a.at a.to from k (omega arith) f w.result.to w.ensures.place h);
+      good_next = record {
         low = omega arith;
         gap = g;
         some = first_some a.line.now a.at a.to from k (omega arith) f w.result.to w.ensures.place h;
         high = w.ensures.high;
         width = w.ensures.width ∙ ap (λ (b : List ℕ). cells_across (width b)) (first_bytes a.line.now a.at a.to from k (omega arith) f w.result.to w.ensures.place h);
-      } }
+      };
+    }

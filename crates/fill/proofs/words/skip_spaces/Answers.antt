@@ -1,10 +1,7 @@
 -- `fill::words::skip_spaces` meets its contract. The invariant: the place behind the spaces that lead is the same from here on. Assumes nothing.
 use borrow.Author.Rules.{rules}
-use mathlib.Core.Path.{◌≡◌, refl, sym, ◌∙◌}
+use mathlib.Core.Path.{refl, sym, ◌∙◌}
 use native.Mathlib.Omega.{arith}
-use Prim.Native.Nat.{◌+◌, ◌-◌, ◌≤◌}
-use Rattle.fill.specs.Words.Parts.{bytes_between}
-use Rattle.fill.specs.Words.Words.{spaces}
 use Rattle.fill.proofs.words.Words.{spaces_more, spaces_stop, spaces_end}
 use Rattle.fill.proofs.words.skip_spaces.Goals as goal
 

@@ -1,10 +1,7 @@
-use borrow.Author.Rules.{rules}
-use mathlib.Core.Path.{◌≡◌, refl, sym, ◌∙◌}
-use native.Mathlib.Omega.{arith}
+use mathlib.Core.Path.{◌≡◌}
 use Prim.Native.Nat.{◌+◌, ◌-◌, ◌≤◌}
 use Rattle.fill.specs.Words.Parts.{bytes_between}
 use Rattle.fill.specs.Words.Words.{spaces}
-use Rattle.fill.proofs.words.Words.{spaces_more, spaces_stop, spaces_end}
 use Rattle.fill.proofs.words.skip_spaces.Given as goal
 
 abbrev pub invariant-loop-i : goal.invariant-loop-i

@@ -1,6 +1,5 @@
 -- `fill::words::slice` meets its contract. Assumes nothing.
 use mathlib.Core.Path.{refl}
-use borrow.Author.Rules.{rules}
 use Rattle.fill.specs.Words.Parts.{bytes_between}
 use Rattle.fill.proofs.words.slice.Goals as goal
 

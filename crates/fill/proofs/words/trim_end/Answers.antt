@@ -1,10 +1,7 @@
 -- `fill::words::trim_end` meets its contract. The invariant: the bytes passed are spaces, so that the line up to here has the same bytes without trailing spaces. Assumes nothing.
 use borrow.Author.Rules.{rules}
-use mathlib.Core.Path.{◌≡◌, refl, sym, ◌∙◌}
+use mathlib.Core.Path.{refl, sym, ◌∙◌}
 use native.Mathlib.Omega.{arith}
-use Prim.Native.Nat.{◌-◌, ◌≤◌}
-use Rattle.rules.specs.Filling.{trimmed}
-use Rattle.fill.specs.Words.Parts.{bytes_between}
 use Rattle.fill.proofs.words.Ends.{trim_more, trim_stop, trim_none}
 use Rattle.fill.proofs.words.trim_end.Goals as goal
 

@@ -1,10 +1,7 @@
-use borrow.Author.Rules.{rules}
-use mathlib.Core.Path.{◌≡◌, refl, sym, ◌∙◌}
-use native.Mathlib.Omega.{arith}
+use mathlib.Core.Path.{◌≡◌}
 use Prim.Native.Nat.{◌-◌, ◌≤◌}
 use Rattle.rules.specs.Filling.{trimmed}
 use Rattle.fill.specs.Words.Parts.{bytes_between}
-use Rattle.fill.proofs.words.Ends.{trim_more, trim_stop, trim_none}
 use Rattle.fill.proofs.words.trim_end.Given as goal
 
 abbrev pub invariant-loop-i : goal.invariant-loop-i

@@ -1,11 +1,8 @@
 -- `fill::words::width_of` meets its contract. The invariant: the cells passed and those from here on. Assumes nothing.
 use borrow.Author.Rules.{rules}
-use mathlib.Core.Path.{◌≡◌, sym, ap, ◌∙◌}
+use mathlib.Core.Path.{sym, ap, ◌∙◌}
 use native.Mathlib.Omega.{arith}
-use Prim.Native.Nat.{◌+◌, ◌-◌, ◌≤◌}
 use Rattle.measure.specs.Counts.{cells_across}
-use Rattle.rules.specs.Filling.{width}
-use Rattle.fill.specs.Words.Parts.{bytes_between}
 use Rattle.fill.proofs.words.Words.{width_next, width_done}
 use Rattle.fill.proofs.words.width_of.Goals as goal
 

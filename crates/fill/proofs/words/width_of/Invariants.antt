@@ -1,11 +1,7 @@
-use borrow.Author.Rules.{rules}
-use mathlib.Core.Path.{◌≡◌, sym, ap, ◌∙◌}
-use native.Mathlib.Omega.{arith}
+use mathlib.Core.Path.{◌≡◌}
 use Prim.Native.Nat.{◌+◌, ◌-◌, ◌≤◌}
-use Rattle.measure.specs.Counts.{cells_across}
 use Rattle.rules.specs.Filling.{width}
 use Rattle.fill.specs.Words.Parts.{bytes_between}
-use Rattle.fill.proofs.words.Words.{width_next, width_done}
 use Rattle.fill.proofs.words.width_of.Given as goal
 
 abbrev pub invariant-loop-i : goal.invariant-loop-i

@@ -1,13 +1,10 @@
 -- `fill::words::word_end` meets its contract. The invariant: the end of the word, and its width less that of the bytes passed, are the same from here on. Assumes nothing.
-use borrow.Author.Rules.{rules}
-use mathlib.Core.Path.{◌≡◌, refl, sym, ap, ◌∙◌}
+use mathlib.Core.Path.{refl, sym, ap, ◌∙◌}
 use native.Mathlib.Omega.{arith}
-use Prim.Native.Nat.{◌+◌, ◌-◌, ◌≤◌}
+use Prim.Native.Nat.{◌≤◌}
 use lib.ListN.{length}
 use Rattle.measure.specs.Counts.{cells_across}
-use Rattle.fill.specs.Words.Parts.{bytes_between}
-use Rattle.fill.specs.Words.Words.{run_length}
-use Rattle.fill.proofs.words.Words.{run_width, run_more, run_stop, run_end, width_more, width_stop, width_end}
+use Rattle.fill.proofs.words.Words.{run_more, run_stop, run_end, width_more, width_stop, width_end}
 use Rattle.fill.proofs.words.word_end.Goals as goal
 
 pub loop-i-init : goal.loop-i-init

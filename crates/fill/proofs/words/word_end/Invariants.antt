@@ -1,12 +1,8 @@
-use borrow.Author.Rules.{rules}
-use mathlib.Core.Path.{◌≡◌, refl, sym, ap, ◌∙◌}
-use native.Mathlib.Omega.{arith}
+use mathlib.Core.Path.{◌≡◌}
 use Prim.Native.Nat.{◌+◌, ◌-◌, ◌≤◌}
-use lib.ListN.{length}
-use Rattle.measure.specs.Counts.{cells_across}
 use Rattle.fill.specs.Words.Parts.{bytes_between}
 use Rattle.fill.specs.Words.Words.{run_length}
-use Rattle.fill.proofs.words.Words.{run_width, run_more, run_stop, run_end, width_more, width_stop, width_end}
+use Rattle.fill.proofs.words.Words.{run_width}
 use Rattle.fill.proofs.words.word_end.Given as goal
 
 abbrev pub invariant-loop-i : goal.invariant-loop-i

@@ -1,5 +1,4 @@
 -- `formatter::stored_lines::leave` meets its contract. Assumes nothing.
-use borrow.Author.Rules.{rules}
 use Rattle.formatter.proofs.stored_lines.leave.Goals as goal
 
 pub returns-then-opening : goal.returns-then-opening

@@ -2,7 +2,6 @@
 use native.Mathlib.Omega.{arith}
 use Prim.Native.Nat.{◌+◌}
 use Rattle.formatter.proofs.stored_lines.Reading.{macro_next, macro_none}
-use borrow.Author.Rules.{rules}
 use Rattle.formatter.proofs.stored_lines.macro_line.Goals as goal
 
 pub returns-then-size-from : goal.returns-then-size-from

@@ -1,7 +1,6 @@
 -- `formatter::stored_lines::string_line` meets its contract. Assumes nothing.
 use native.Mathlib.Omega.{arith}
 use Rattle.formatter.proofs.stored_lines.Reading.{string_next, string_none}
-use borrow.Author.Rules.{rules}
 use Rattle.formatter.proofs.stored_lines.string_line.Goals as goal
 
 pub returns-then-place-eq0 : goal.returns-then-place-eq0

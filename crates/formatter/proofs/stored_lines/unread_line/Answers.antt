@@ -1,7 +1,6 @@
 -- `formatter::stored_lines::unread_line` meets its contract. Assumes nothing.
 use native.Mathlib.Omega.{arith}
 use Rattle.formatter.proofs.stored_lines.Reading.{found_line}
-use borrow.Author.Rules.{rules}
 use Rattle.formatter.proofs.stored_lines.unread_line.Goals as goal
 
 pub macro_line-requires : goal.macro_line-requires

@@ -23,7 +23,6 @@ use Rattle.formatter.specs.declared.stored_lines.Unread.{Unread}
 use Rattle.state.specs.Steps.{with_status_stack}
 use Rattle.formatter.specs.StoredLines.Works.{FoundIs}
 use Rattle.formatter.specs.StoredLines.WorkLaws.{sound_below, sound_placed, topped_placed, given_placed, step_leave, step_line, step_past, leave_refines, text_few}
-use borrow.Author.Rules.{rules}
 use Rattle.formatter.proofs.stored_text.read_text.Goals as goal
 
 pub look_up-found-requires : goal.look_up-found-requires

@@ -1,6 +1,5 @@
 -- `input_stack::frames::request_of` meets its contract. Assumes nothing.
 use mathlib.Core.Path.{refl, sym}
-use borrow.Author.Rules.{rules}
 use Rattle.input_stack.specs.Frames.Words.{request_rest}
 use Rattle.input_stack.proofs.frames.request_of.Goals as goal
 

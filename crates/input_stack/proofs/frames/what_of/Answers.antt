@@ -1,6 +1,5 @@
 -- `input_stack::frames::what_of` meets its contract. Assumes nothing.
 use mathlib.Core.Path.{sym}
-use borrow.Author.Rules.{rules}
 use Rattle.input_stack.specs.Frames.Words.{what_by_lem, what_rest}
 use Rattle.input_stack.proofs.frames.what_of.Goals as goal
 

@@ -1,7 +1,6 @@
 -- `input_stack::frames::words_of` meets its contract. Assumes nothing.
 use mathlib.Core.Path.{refl}
 use native.Mathlib.Omega.{arith}
-use borrow.Author.Rules.{rules}
 use Rattle.input_stack.specs.declared.frames.What.TheVariants as what
 use Rattle.input_stack.specs.Frames.Words.{what_back}
 use Rattle.input_stack.proofs.frames.words_of.Goals as goal

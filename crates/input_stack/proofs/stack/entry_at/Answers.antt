@@ -1,5 +1,4 @@
 -- `input_stack::stack::entry_at` meets its contract. Assumes nothing.
-use borrow.Author.Rules.{rules}
 use Rattle.input_stack.specs.Stack.Frames.{entry_at}
 use Rattle.input_stack.proofs.stack.entry_at.Goals as goal
 

@@ -1,9 +1,8 @@
 -- `input_stack::stack::is_on_stack` meets its contract. The invariant: the text lies on the stack if it lies below i. Assumes nothing.
-use Prim.Native.Nat.{◌≤◌, ◌-◌}
+use Prim.Native.Nat.{◌-◌}
 use mathlib.Core.Path.{◌≡◌, refl, sym, ap, ◌∙◌}
 use mathlib.Core.Bool.{Bool, true, false, ◌||◌}
 use native.Mathlib.Omega.{arith}
-use borrow.Author.Rules.{rules}
 use Rattle.input_stack.specs.declared.stack.Entry.{Entry}
 use Rattle.input_stack.specs.Stack.Frames.{is_called, called_below}
 use Rattle.input_stack.proofs.stack.Laws.{called_step, called_none}

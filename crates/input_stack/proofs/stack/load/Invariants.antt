@@ -1,12 +1,6 @@
-use Prim.Native.Nat.{◌≤◌, ◌-◌, ◌*◌}
-use mathlib.Core.Path.{◌≡◌, refl, sym, ap}
-use native.Mathlib.Omega.{arith}
-use lib.ListN.{length, take, drop, length-set, length-drop}
-use lib.Seq.{get_or-drop}
-use borrow.Author.Rules.{rules}
-use Rattle.input_stack.specs.declared.stack.Entry.{Entry}
-use Rattle.input_stack.specs.Stack.Frames.{top_entry}
-use Rattle.input_stack.proofs.stack.Laws.{front_step}
+use Prim.Native.Nat.{◌≤◌, ◌-◌}
+use mathlib.Core.Path.{◌≡◌}
+use lib.ListN.{length, take, drop}
 use Rattle.input_stack.proofs.stack.load.Given as goal
 
 abbrev pub invariant-loop-j : goal.invariant-loop-j

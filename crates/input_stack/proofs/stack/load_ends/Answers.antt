@@ -1,8 +1,8 @@
 -- `input_stack::stack::load_ends` meets its contract. The invariant: j of them are copied. Assumes nothing.
-use Prim.Native.Nat.{◌≤◌, ◌-◌, ◌+◌, ◌*◌}
+use Prim.Native.Nat.{◌-◌, ◌+◌, ◌*◌}
 use mathlib.Core.Path.{◌≡◌, refl, sym, ◌∙◌}
 use native.Mathlib.Omega.{arith}
-use lib.ListN.{length, take, drop, length-set, length-drop}
+use lib.ListN.{drop, length-set, length-drop}
 use lib.Seq.{get_or-drop, take_all}
 use Rattle.input_stack.proofs.stack.Laws.{front_step}
 use Rattle.input_stack.proofs.stack.load_ends.Goals as goal

@@ -3,7 +3,6 @@ use Prim.Native.Nat.{◌*◌}
 use mathlib.Core.Path.{ap, ◌∙◌}
 use native.Mathlib.Omega.{arith}
 use lib.ListN.{length}
-use borrow.Author.Rules.{rules}
 use Rattle.input_stack.specs.Frames.Words.{item_words}
 use Rattle.input_stack.proofs.stack.Laws.{pushed, entered_length}
 use Rattle.input_stack.proofs.stack.push.Goals as goal

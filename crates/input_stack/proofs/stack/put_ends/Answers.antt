@@ -1,8 +1,7 @@
 -- `input_stack::stack::put_ends` meets its contract. The invariant: j of them are copied. Assumes nothing.
-use Prim.Native.Nat.{◌≤◌, ◌-◌}
 use mathlib.Core.Path.{◌≡◌, refl, ap, ◌∙◌}
 use native.Mathlib.Omega.{arith}
-use lib.ListN.{length, length-set}
+use lib.ListN.{length-set}
 use lib.Seq.{paste, paste-zero}
 use Rattle.texts.proofs.table.Lists.{copy_step}
 use Rattle.input_stack.proofs.stack.put_ends.Goals as goal

@@ -1,6 +1,5 @@
 -- `input_stack::stack::put_entry` meets its contract. Assumes nothing.
 use mathlib.Core.Path.{refl}
-use borrow.Author.Rules.{rules}
 use Rattle.input_stack.proofs.stack.put_entry.Goals as goal
 
 pub returns : goal.returns

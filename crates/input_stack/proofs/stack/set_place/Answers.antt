@@ -4,7 +4,6 @@ use mathlib.Core.Path.{sym, ap}
 use mathlib.Core.Bool.{Bool}
 use lib.ListN.{get_or}
 use borrow.Author.Tests.{eq-eqb, ne_eqb}
-use borrow.Author.Rules.{rules}
 use Rattle.input_stack.specs.Stack.Frames.{placed_by, placed_at}
 use Rattle.input_stack.proofs.stack.set_place.Goals as goal
 

@@ -1,5 +1,4 @@
 -- `line_execution::expanded_lines::closed` meets its contract. Assumes nothing.
-use borrow.Author.Rules.{rules}
 use Rattle.line_execution.proofs.expanded_lines.closed.Goals as goal
 
 pub returns : goal.returns

@@ -18,7 +18,6 @@ use Rattle.line_expansion.specs.declared.Dealt.TheVariants as dealt
 use Rattle.line_expansion.specs.Dealing.{keeps_in, dealt_of, DealtInvariant}
 use Rattle.state.specs.Statuses.{whole_of, page_ready}
 use Rattle.line_execution.specs.ExpandedLines.StepLaws.{front_short, closes_open, keeps_open, words_short, control_closed, closed_refines, kept_refines}
-use borrow.Author.Rules.{rules}
 use Rattle.line_execution.proofs.expanded_lines.finish.Goals as goal
 use Rattle.line_execution.proofs.expanded_lines.finish.Goals.{Start}
 

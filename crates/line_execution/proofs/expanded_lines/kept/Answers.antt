@@ -1,5 +1,4 @@
 -- `line_execution::expanded_lines::kept` meets its contract. Assumes nothing.
-use borrow.Author.Rules.{rules}
 use Rattle.line_execution.proofs.expanded_lines.kept.Goals as goal
 
 pub returns-in-Longer : goal.returns-in-Longer

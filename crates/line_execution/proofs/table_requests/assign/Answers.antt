@@ -1,5 +1,4 @@
 -- `line_execution::table_requests::assign` meets its contract. Assumes nothing.
-use borrow.Author.Rules.{rules}
 use Rattle.line_execution.proofs.table_requests.Parted.{assigned_as, assigns_line}
 use Rattle.line_execution.proofs.table_requests.assign.Goals as goal
 

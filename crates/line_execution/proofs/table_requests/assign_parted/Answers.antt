@@ -1,5 +1,4 @@
 -- `line_execution::table_requests::assign_parted` meets its contract. Assumes nothing.
-use borrow.Author.Rules.{rules}
 use Rattle.line_execution.proofs.table_requests.Parted.{assigned_as, assigns_known}
 use Rattle.line_execution.proofs.table_requests.assign_parted.Goals as goal
 

@@ -1,5 +1,4 @@
 -- `line_execution::table_requests::open` meets its contract. Assumes nothing.
-use borrow.Author.Rules.{rules}
 use Rattle.line_execution.proofs.table_requests.Parted.{opened_line}
 use Rattle.line_execution.proofs.table_requests.open.Goals as goal
 

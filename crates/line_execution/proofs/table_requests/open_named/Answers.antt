@@ -1,6 +1,5 @@
 -- `line_execution::table_requests::open_named` meets its contract. Assumes nothing.
 use mathlib.Core.Path.{◌≡◌, refl, sym, ap, ◌∙◌, subst}
-use borrow.Author.Rules.{rules}
 use Rattle.rules.specs.Names.{Named, one, name_of}
 use Rattle.line_syntax.specs.Lines.Lines.{named_is}
 use Rattle.requests.specs.declared.definitions.Changed.TheVariants as changed

@@ -1,5 +1,4 @@
 -- `line_execution::table_requests::plant` meets its contract. Assumes nothing.
-use borrow.Author.Rules.{rules}
 use Rattle.line_execution.proofs.table_requests.Parted.{planted_as, plants_line}
 use Rattle.line_execution.proofs.table_requests.plant.Goals as goal
 

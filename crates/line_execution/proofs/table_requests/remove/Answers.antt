@@ -1,5 +1,4 @@
 -- `line_execution::table_requests::remove` meets its contract. Assumes nothing.
-use borrow.Author.Rules.{rules}
 use Rattle.line_execution.proofs.table_requests.Parted.{changed_as, removes_line}
 use Rattle.line_execution.proofs.table_requests.remove.Goals as goal
 

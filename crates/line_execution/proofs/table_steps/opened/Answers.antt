@@ -1,5 +1,4 @@
 -- `line_execution::table_steps::opened` meets its contract. Assumes nothing.
-use borrow.Author.Rules.{rules}
 use Rattle.line_execution.proofs.table_steps.opened.Goals as goal
 
 pub returns-in-Count : goal.returns-in-Count

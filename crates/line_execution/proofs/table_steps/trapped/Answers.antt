@@ -3,7 +3,6 @@ use mathlib.Core.Path.{ap}
 use Rattle.page.specs.declared.springs.Way.{Way}
 use Rattle.state.specs.Steps.{stayed, with_planted}
 use Rattle.line_execution.specs.TableSteps.StepLaws.{way_refused}
-use borrow.Author.Rules.{rules}
 use Rattle.line_execution.proofs.table_steps.trapped.Goals as goal
 
 pub returns-then-refused-eq0 : goal.returns-then-refused-eq0

@@ -1,7 +1,7 @@
 -- `line_syntax::conditions::expression_holds` meets its contract. Assumes nothing.
 use mir.Syntax.{w32}
-use borrow.Author.Rules.{rules, sfits_of}
-use mathlib.Core.Path.{◌≡◌, ap, ◌∙◌}
+use borrow.Author.Rules.{sfits_of}
+use mathlib.Core.Path.{ap, ◌∙◌}
 use lib.IntN.{ℤ}
 use mir.Facts.{to_z-of_z}
 use Rattle.rules.specs.Refusals.{Judged, value, ◌>>=◌}

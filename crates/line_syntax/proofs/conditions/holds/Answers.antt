@@ -1,6 +1,5 @@
 -- `line_syntax::conditions::holds` meets its contract. Assumes nothing.
-use borrow.Author.Rules.{rules}
-use mathlib.Core.Path.{◌≡◌, ap, ◌∙◌}
+use mathlib.Core.Path.{ap, ◌∙◌}
 use native.Mathlib.Omega.{arith}
 use Rattle.line_syntax.proofs.conditions.Conditions.{holds_none, holds_not, holds_plain}
 use Prim.Native.Nat.{◌-◌}

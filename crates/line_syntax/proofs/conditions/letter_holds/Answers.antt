@@ -1,6 +1,5 @@
 -- `line_syntax::conditions::letter_holds` meets its contract. Assumes nothing.
-use borrow.Author.Rules.{rules}
-use mathlib.Core.Path.{◌≡◌, ◌∙◌}
+use mathlib.Core.Path.{◌∙◌}
 use Rattle.line_syntax.proofs.conditions.Conditions.{odd, even, never, always, by_letter, no_letter}
 use Rattle.line_syntax.proofs.conditions.letter_holds.Goals as goal
 

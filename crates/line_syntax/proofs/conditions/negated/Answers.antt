@@ -1,6 +1,4 @@
 -- `line_syntax::conditions::negated` meets its contract. Assumes nothing.
-use borrow.Author.Rules.{rules}
-use mathlib.Core.Path.{◌≡◌, ◌∙◌}
 use Rattle.line_syntax.proofs.conditions.negated.Goals as goal
 
 pub returns-in-Holds : goal.returns-in-Holds

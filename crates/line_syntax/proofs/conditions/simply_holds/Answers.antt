@@ -1,6 +1,6 @@
 -- `line_syntax::conditions::simply_holds` meets its contract. Assumes nothing.
 use borrow.Author.Rules.{rules}
-use mathlib.Core.Path.{◌≡◌, ◌∙◌}
+use mathlib.Core.Path.{◌∙◌}
 use native.Mathlib.Omega.{arith}
 use Rattle.line_syntax.proofs.conditions.Conditions.{simply_none, simply_more, one_byte_lem}
 use Rattle.line_syntax.proofs.conditions.simply_holds.Goals as goal

@@ -1,5 +1,5 @@
 -- `line_syntax::conditions::truth` meets its contract. Assumes nothing.
-use mathlib.Core.Path.{◌≡◌, sym, ap, ◌∙◌}
+use mathlib.Core.Path.{sym, ap}
 use Rattle.rules.specs.Refusals.{value}
 use Rattle.line_syntax.proofs.conditions.truth.Goals as goal
 

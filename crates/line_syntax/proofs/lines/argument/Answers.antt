@@ -5,7 +5,6 @@ use native.Mathlib.Omega.{arith}
 use lib.ListN.{length, get_or}
 use Rattle.scan.proofs.expansion.Givens.{argument_none}
 use Rattle.line_syntax.proofs.lines.PlaceLaws.{begins_first, begins_later, argument_from}
-use borrow.Author.Rules.{rules}
 use Rattle.line_syntax.proofs.lines.argument.Goals as goal
 use Rattle.line_syntax.proofs.lines.argument.Goals.{Else-k-eq0}
 

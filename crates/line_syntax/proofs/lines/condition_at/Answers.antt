@@ -1,6 +1,5 @@
 -- `line_syntax::lines::condition_at` meets its contract. Assumes nothing.
 use Rattle.line_syntax.proofs.lines.PlaceLaws.{condition_is_lem}
-use borrow.Author.Rules.{rules}
 use Rattle.line_syntax.proofs.lines.condition_at.Goals as goal
 
 pub returns : goal.returns

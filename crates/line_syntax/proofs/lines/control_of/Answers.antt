@@ -2,7 +2,6 @@
 use mathlib.Core.Path.{refl}
 use Rattle.line_syntax.specs.declared.lines.Named.TheVariants.{Nothing, One, TooLong}
 use Rattle.line_syntax.proofs.lines.LineLaws.{control_is}
-use borrow.Author.Rules.{rules}
 use Rattle.line_syntax.proofs.lines.control_of.Goals as goal
 
 pub returns-in-One : goal.returns-in-One

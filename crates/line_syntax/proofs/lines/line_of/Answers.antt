@@ -1,7 +1,6 @@
 -- `line_syntax::lines::line_of` meets its contract, by the first byte. Assumes nothing.
 use native.Mathlib.Omega.{arith}
 use Rattle.line_syntax.proofs.lines.LineLaws.{line_empty, line_period, line_quote, line_text}
-use borrow.Author.Rules.{rules}
 use Rattle.line_syntax.proofs.lines.line_of.Goals as goal
 
 pub returns-then-line-eq0 : goal.returns-then-line-eq0

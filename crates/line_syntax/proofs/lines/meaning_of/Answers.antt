@@ -1,7 +1,6 @@
 -- `line_syntax::lines::meaning_of` meets its contract: a text, else a request. Assumes nothing.
 use mathlib.Core.Option.{none, some}
 use Rattle.line_syntax.proofs.lines.MeaningLaws.{calls_it, means_request_lem}
-use borrow.Author.Rules.{rules}
 use Rattle.line_syntax.proofs.lines.meaning_of.Goals as goal
 
 pub returns-in-There : goal.returns-in-There

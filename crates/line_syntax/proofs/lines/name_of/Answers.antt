@@ -1,6 +1,5 @@
 -- `line_syntax::lines::name_of` meets its contract: a law for each length. Assumes nothing.
 use Rattle.line_syntax.proofs.lines.LineLaws.{name_none, name_one, name_two, name_long}
-use borrow.Author.Rules.{rules}
 use Rattle.line_syntax.proofs.lines.name_of.Goals as goal
 
 pub returns-then-n-eq0 : goal.returns-then-n-eq0

@@ -3,7 +3,6 @@ use mathlib.Core.Path.{sym}
 use native.Mathlib.Omega.{arith}
 use Rattle.scan.proofs.output.Buffers.{escaped_slash, escaped_mark, escaped_blank, escaped_other}
 use Rattle.line_syntax.proofs.lines.BackLaws.{put_none, put_one, put_as}
-use borrow.Author.Rules.{rules}
 use Rattle.line_syntax.proofs.lines.put_back.Goals as goal
 
 pub returns-in-92 : goal.returns-in-92

@@ -1,7 +1,6 @@
 -- `line_syntax::lines::put_pair` meets its contract: one byte, and one more. Assumes nothing.
 use native.Mathlib.Omega.{arith}
 use Rattle.line_syntax.proofs.lines.BackLaws.{put_none, put_one}
-use borrow.Author.Rules.{rules}
 use Rattle.line_syntax.proofs.lines.put_pair.Goals as goal
 
 pub returns : goal.returns

@@ -1,7 +1,6 @@
 -- `line_syntax::lines::string_at` meets its contract: what stands behind the spaces decides. Assumes nothing.
 use borrow.Author.Tests.{ne_eqb}
 use Rattle.line_syntax.proofs.lines.PlaceLaws.{string_end, string_quoted, string_bare}
-use borrow.Author.Rules.{rules}
 use Rattle.line_syntax.proofs.lines.string_at.Goals as goal
 
 pub returns-then-line-i : goal.returns-then-line-i

@@ -1,11 +1,7 @@
 -- `line_syntax::lines::write_back` meets its contract. The invariant: the first i bytes are written back. Assumes nothing.
-use Prim.Native.Nat.{◌-◌, ◌≤◌}
 use native.Mathlib.Omega.{arith}
-use lib.ListN.{length, take}
 use Rattle.rules.specs.Escapes.{escaped}
-use Rattle.line_syntax.specs.Lines.Backs.{PutBack}
 use Rattle.line_syntax.proofs.lines.BackLaws.{put_none, back_room, back_again, back_whole}
-use borrow.Author.Rules.{rules}
 use Rattle.line_syntax.proofs.lines.write_back.Goals as goal
 
 pub loop-i-init : goal.loop-i-init

@@ -1,10 +1,7 @@
 use Prim.Native.Nat.{◌-◌, ◌≤◌}
-use native.Mathlib.Omega.{arith}
 use lib.ListN.{length, take}
 use Rattle.rules.specs.Escapes.{escaped}
 use Rattle.line_syntax.specs.Lines.Backs.{PutBack}
-use Rattle.line_syntax.proofs.lines.BackLaws.{put_none, back_room, back_again, back_whole}
-use borrow.Author.Rules.{rules}
 use Rattle.line_syntax.proofs.lines.write_back.Given as goal
 
 abbrev pub invariant-loop-i : goal.invariant-loop-i

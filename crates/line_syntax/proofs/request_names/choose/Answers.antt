@@ -1,7 +1,6 @@
 -- `line_syntax::request_names::choose` meets its contract, byte by byte. Assumes nothing.
 use Rattle.line_syntax.specs.RequestNames.Requests.{request_from}
 use Rattle.line_syntax.proofs.request_names.RequestLaws.{chosen, not_second, not_first}
-use borrow.Author.Rules.{rules}
 use Rattle.line_syntax.proofs.request_names.choose.Goals as goal
 
 pub returns-then-name-pair-2 : goal.returns-then-name-pair-2

@@ -6,7 +6,6 @@ use Rattle.rules.specs.Bytes.{first_where}
 use Rattle.rules.specs.Requests.{requests, request_of}
 use Rattle.line_syntax.specs.RequestNames.Requests.{among}
 use Rattle.line_syntax.proofs.request_names.RequestLaws.{among_append, among_first}
-use borrow.Author.Rules.{rules}
 use Rattle.line_syntax.proofs.request_names.request_of.Goals as goal
 
 pub returns : goal.returns

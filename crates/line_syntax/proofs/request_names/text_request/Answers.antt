@@ -1,6 +1,5 @@
 -- `line_syntax::request_names::text_request` meets its contract, name by name. Assumes nothing.
 use Rattle.line_syntax.proofs.request_names.RequestLaws.{link, last}
-use borrow.Author.Rules.{rules}
 use Rattle.line_syntax.proofs.request_names.text_request.Goals as goal
 
 pub returns : goal.returns

@@ -1,5 +1,4 @@
 -- `number::arithmetic::judge` meets its contract: the two tests are the one test of the size. Assumes nothing.
-use mathlib.Core.Path.{◌≡◌}
 use Prim.Native.Nat.{◌≤◌}
 use lib.IntN.{nat_abs}
 use mir.Facts.{to_z-of_z}

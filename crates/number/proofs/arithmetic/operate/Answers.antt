@@ -8,7 +8,6 @@ use lib.Signed.{lt_z, le_z, quot_z, rem_z}
 use mir.Syntax.{w32, w64}
 use mir.Val.{SFits, to_z, of_z}
 use mir.Facts.{to_z-of_z, sfits_widen}
-use borrow.Author.Rules.{rules}
 use Rattle.measure.proofs.Signed.{widened}
 use Rattle.rules.specs.Refusals.{Judged}
 use Rattle.rules.specs.Numbers.{within, truth as truth_of, is_true, equal_z, operate as operateOf}

@@ -1,13 +1,13 @@
 -- The answers of the cycle of calls {expression, term}: the rules' cases, by what the calls gave. Assumes nothing.
 use mathlib.Core.Path.{◌≡◌, sym, ◌∙◌}
-use Prim.Native.Nat.{ℕ, suc, ◌+◌, ◌-◌, ◌*◌, ◌≤◌, ◌<◌}
+use Prim.Native.Nat.{ℕ, suc, ◌+◌, ◌≤◌, ◌<◌}
 use native.Mathlib.Omega.{arith}
 use lib.ListN.{length, get_or}
 use lib.IntN.{ℤ, pos, nat_abs, neg_ℤ, ◌-ℤ◌, +ℤ_idl}
 use mir.Syntax.{w32}
 use mir.Val.{SFits, to_z, of_z}
 use mir.Facts.{to_z-of_z}
-use borrow.Author.Rules.{rules, sfits_of}
+use borrow.Author.Rules.{sfits_of}
 use Rattle.measure.specs.RoundingLaws.{abs_neg}
 use Rattle.rules.specs.Numbers.{operate as operateOf}
 use Rattle.number.specs.Arithmetic.Values.{judged_of}
@@ -15,7 +15,7 @@ use Rattle.number.specs.Expression.Meaning.{TermIs}
 use Rattle.number.specs.declared.expression.Joint.TheVariants.{By}
 use Rattle.number.specs.declared.expression.Read.TheVariants.{Value}
 use Rattle.number.proofs.arithmetic.Laws.{small_32}
-use Rattle.number.proofs.expression.Cases.{JointIs, From, cut_first, start, done, cut, refused, turn, plain, minus_cut, minus_is, plus_is, deep, inner, shut, unshut, small}
+use Rattle.number.proofs.expression.Cases.{JointIs, start, done, cut, refused, turn, plain, minus_cut, minus_is, plus_is, deep, inner, shut, unshut, small}
 use Rattle.number.proofs.expression.+expression_term.Goals as goal
 use Rattle.number.proofs.expression.+expression_term.Goals.{expression-In-By, expression-In-Value-term, expression-After-operate, term-After-byte_at-b, term-In-Value-term}
 

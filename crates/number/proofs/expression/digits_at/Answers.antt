@@ -1,10 +1,8 @@
 -- `number::expression::digits_at` meets its contract. The invariant: what the rules read from here on is what they read from the start. Assumes nothing.
-use mathlib.Core.Path.{◌≡◌, ◌∙◌}
-use Prim.Native.Nat.{◌+◌, ◌-◌, ◌*◌, ◌≤◌}
+use mathlib.Core.Path.{◌∙◌}
+use Prim.Native.Nat.{◌+◌, ◌-◌, ◌*◌}
 use native.Mathlib.Omega.{arith}
-use lib.ListN.{length, get_or, drop}
-use borrow.Author.Rules.{rules}
-use Rattle.rules.specs.Numbers.{digits}
+use lib.ListN.{get_or}
 use Rattle.number.proofs.expression.Places.{low, high, digit, turn, stop, end, read, huge}
 use Rattle.number.proofs.expression.digits_at.Goals as goal
 

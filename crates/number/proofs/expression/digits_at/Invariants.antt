@@ -1,10 +1,7 @@
-use mathlib.Core.Path.{◌≡◌, ◌∙◌}
-use Prim.Native.Nat.{◌+◌, ◌-◌, ◌*◌, ◌≤◌}
-use native.Mathlib.Omega.{arith}
-use lib.ListN.{length, get_or, drop}
-use borrow.Author.Rules.{rules}
+use mathlib.Core.Path.{◌≡◌}
+use Prim.Native.Nat.{◌-◌, ◌≤◌}
+use lib.ListN.{length, drop}
 use Rattle.rules.specs.Numbers.{digits}
-use Rattle.number.proofs.expression.Places.{low, high, digit, turn, stop, end, read, huge}
 use Rattle.number.proofs.expression.digits_at.Given as goal
 
 abbrev pub invariant-loop-i : goal.invariant-loop-i

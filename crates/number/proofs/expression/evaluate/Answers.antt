@@ -1,7 +1,7 @@
 -- `number::expression::evaluate` meets its contract. Assumes nothing.
 use mir.Syntax.{w32}
 use mir.Facts.{to_z-of_z}
-use borrow.Author.Rules.{rules, sfits_of}
+use borrow.Author.Rules.{sfits_of}
 use Rattle.number.proofs.expression.Arguments.{none, more, all}
 use Rattle.number.proofs.expression.evaluate.Goals as goal
 

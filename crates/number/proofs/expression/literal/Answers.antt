@@ -1,9 +1,8 @@
 -- `number::expression::literal` meets its contract: the cases of the rules' literal, by what the calls gave. Assumes nothing.
-use mathlib.Core.Path.{◌≡◌, sym, ap, ◌∙◌}
-use Prim.Native.Nat.{ℕ, ◌+◌, ◌≤◌, ◌<◌}
+use mathlib.Core.Path.{sym, ap, ◌∙◌}
+use Prim.Native.Nat.{ℕ, ◌+◌, ◌<◌}
 use native.Mathlib.Omega.{arith}
 use lib.ListN.{length}
-use borrow.Author.Rules.{rules}
 use Rattle.measure.specs.Scales.{scale_of, literal_of}
 use Rattle.number.specs.Expression.Reading.{bounded_of, read_of}
 use Rattle.number.proofs.expression.Literals.{Found, found, is_huge, is_empty, further, own_scale, default_scale, letter, bounded_forward}

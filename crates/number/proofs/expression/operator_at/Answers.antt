@@ -1,9 +1,8 @@
 -- `number::expression::operator_at` meets its contract: each arm's byte picks an operator of the rules' tables. Assumes nothing.
 use mathlib.Core.Path.{◌≡◌, refl, sym, ◌∙◌}
-use Prim.Native.Nat.{ℕ, ◌+◌, ◌≤◌, ◌<◌}
+use Prim.Native.Nat.{ℕ, ◌+◌, ◌<◌}
 use native.Mathlib.Omega.{arith}
 use lib.ListN.{length, get_or}
-use borrow.Author.Rules.{rules}
 use borrow.Author.Tests.{ne_eqb}
 use mathlib.Core.Bool.{false}
 use lib.Dec.{eqb}
@@ -99,6 +98,9 @@ returns-in_default c =
     let m = c.in_default.in_default-own.rest in
     let x = c.byte_at-b.result in
     let other : (k : ℕ) → (x ≡ k → ⊥) → eqb x k ≡ false = λ k n. ne_eqb x k n in
-    let e = c.byte_at-b.ensures.value in record { result_value = none_at a.s.now a.at
+    let e = c.byte_at-b.ensures.value in record {
+      result_value = none_at a.s.now a.at
           (rw (← e) (absent operators_before_equal x (other 60 m.0.0.1, (other 62 m.0.1, (other 61 m.1, tt)))))
-          (rw (← e) (absent operators x (other 43 m.0.0.0.0.0.0.0.0.0.1, (other 45 m.0.0.0.0.0.0.0.0.1, (other 42 m.0.0.0.0.0.0.0.1, (other 47 m.0.0.0.0.0.0.1, (other 37 m.0.0.0.0.0.1, (other 60 m.0.0.1, (other 62 m.0.1, (other 61 m.1, (other 38 m.0.0.0.0.1, (other 58 m.0.0.0.1, tt)))))))))))); good_joint = tt }
+          (rw (← e) (absent operators x (other 43 m.0.0.0.0.0.0.0.0.0.1, (other 45 m.0.0.0.0.0.0.0.0.1, (other 42 m.0.0.0.0.0.0.0.1, (other 47 m.0.0.0.0.0.0.1, (other 37 m.0.0.0.0.0.1, (other 60 m.0.0.1, (other 62 m.0.1, (other 61 m.1, (other 38 m.0.0.0.0.1, (other 58 m.0.0.0.1, tt))))))))))));
+      good_joint = tt;
+    }

@@ -1,9 +1,9 @@
 -- `number::scales::cells` meets its contract: the value of the argument, rounded. Assumes nothing.
 use mir.Syntax.{w32}
-use mathlib.Core.Path.{◌≡◌, ap, ◌∙◌}
+use mathlib.Core.Path.{ap, ◌∙◌}
 use lib.IntN.{ℤ}
 use mir.Facts.{to_z-of_z}
-use borrow.Author.Rules.{rules, sfits_of}
+use borrow.Author.Rules.{sfits_of}
 use Rattle.measure.specs.Rounding.{nearest_of}
 use Rattle.measure.specs.declared.Cells.{Cells}
 use Rattle.rules.specs.Refusals.{Judged, value, ◌>>=◌}

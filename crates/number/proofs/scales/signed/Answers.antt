@@ -1,6 +1,4 @@
 -- `number::scales::signed` meets its contract. Assumes nothing.
-use mathlib.Core.Path.{◌∙◌}
-use borrow.Author.Rules.{rules}
 use borrow.Author.Tests.{ne_eqb}
 use Rattle.number.proofs.expression.Arguments.{signed_at}
 use Rattle.number.proofs.scales.signed.Goals as goal

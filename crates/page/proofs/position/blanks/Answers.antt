@@ -1,7 +1,6 @@
 -- `page::position::blanks` meets its contract. Assumes nothing.
 use mathlib.Core.Path.{sym, ap, ◌∙◌}
 use native.Mathlib.Omega.{arith}
-use borrow.Author.Rules.{rules}
 use Rattle.measure.specs.Counts.{down_of}
 use Rattle.page.specs.Position.Landing.{blanks_of}
 use Rattle.page.proofs.position.Landings.{no_blanks, all_blanks, some_blanks}

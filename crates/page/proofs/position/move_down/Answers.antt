@@ -1,8 +1,7 @@
 -- `page::position::move_down` meets its contract. Assumes nothing.
-use mathlib.Core.Path.{◌≡◌, ap, ◌∙◌}
+use mathlib.Core.Path.{ap, ◌∙◌}
 use Prim.Native.Nat.{◌+◌}
 use native.Mathlib.Omega.{arith}
-use borrow.Author.Rules.{rules}
 use Rattle.measure.specs.Counts.{down_of}
 use Rattle.measure.specs.declared.Rows.{Rows}
 use Rattle.rules.specs.Traps.{seen_at}

@@ -5,7 +5,6 @@ use Rattle.measure.specs.Counts.{down_of}
 use Rattle.rules.specs.Traps.{nearest_trap}
 use Rattle.rules.specs.Laws.Traps.{nearest_above, nearest_most}
 use Rattle.traps.specs.Table.Table.{planted_of}
-use borrow.Author.Rules.{rules}
 use Rattle.page.proofs.position.rows_below.Goals as goal
 use Rattle.page.proofs.position.rows_below.Goals.{After-down}
 

@@ -4,7 +4,6 @@ use Rattle.measure.specs.Counts.{down_of}
 use Rattle.traps.specs.Table.Table.{planted_of}
 use Rattle.page.specs.Position.Landing.{page_of}
 use Rattle.page.proofs.position.Landings.{next_there, next_past}
-use borrow.Author.Rules.{rules}
 use Rattle.page.proofs.position.start_page.Goals as goal
 
 pub returns-then-page-lt1000000 : goal.returns-then-page-lt1000000

@@ -1,8 +1,5 @@
 -- `page::springs::call` meets its contract. Assumes nothing.
-use mathlib.Core.Path.{◌≡◌}
 use native.Mathlib.Omega.{arith}
-use borrow.Author.Rules.{rules}
-use Prim.Native.Nat.{◌≤◌}
 use Rattle.page.proofs.springs.Stacks.{held_few, last_few, not_called, was_called}
 use Rattle.page.proofs.springs.call.Goals as goal
 

@@ -1,6 +1,5 @@
 -- `page::springs::down` meets its contract. Assumes nothing.
 use mathlib.Core.Path.{◌≡◌, sym, ap, ◌∙◌, subst}
-use borrow.Author.Rules.{rules}
 use Rattle.measure.specs.Counts.{down_of}
 use Rattle.traps.specs.Table.Table.{planted_of}
 use Rattle.page.specs.Position.Landing.{Landing, page_of, landing_is, landing_down}

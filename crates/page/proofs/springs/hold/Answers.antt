@@ -1,6 +1,4 @@
 -- `page::springs::hold` meets its contract. Assumes nothing.
-use mathlib.Core.Path.{◌≡◌}
-use borrow.Author.Rules.{rules}
 use Rattle.page.proofs.springs.Stacks.{held_none, held_item}
 use Rattle.page.proofs.springs.hold.Goals as goal
 

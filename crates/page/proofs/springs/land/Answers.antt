@@ -1,6 +1,4 @@
 -- `page::springs::land` meets its contract. Assumes nothing.
-use mathlib.Core.Path.{◌≡◌}
-use borrow.Author.Rules.{rules}
 use Rattle.traps.specs.Table.Table.{found_is}
 use Rattle.page.proofs.springs.Stacks.{landed_on, landed_done, landed_past}
 use Rattle.page.proofs.springs.land.Goals as goal

@@ -1,5 +1,4 @@
 -- `page::springs::land_called` meets its contract. Assumes nothing.
-use mathlib.Core.Path.{◌≡◌}
 use Rattle.page.proofs.springs.land_called.Goals as goal
 
 pub returns-then-called : goal.returns-then-called

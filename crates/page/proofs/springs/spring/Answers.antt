@@ -1,8 +1,7 @@
 -- `page::springs::spring` meets its contract. Assumes nothing.
-use mathlib.Core.Path.{◌≡◌, refl, sym, ◌∙◌}
+use mathlib.Core.Path.{refl, sym, ◌∙◌}
 use mathlib.Core.Option.{none, some}
 use native.Mathlib.Omega.{arith}
-use borrow.Author.Rules.{rules}
 use Rattle.texts.proofs.table.Laws.{found_text, not_text}
 use Rattle.page.proofs.springs.Stacks.{no_arguments, sprung_held, sprung_called}
 use Rattle.page.proofs.springs.spring.Goals as goal

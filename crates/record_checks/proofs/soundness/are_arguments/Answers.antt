@@ -1,10 +1,9 @@
 -- `record_checks::soundness::are_arguments` meets its contract. The invariant: the arguments are in order if those from i on are, behind the place `from`. Assumes nothing.
 use mathlib.Core.List.{List}
-use Prim.Native.Nat.{ℕ, ◌≤◌, ◌<◌, ◌+◌, ◌*◌, ◌-◌}
+use Prim.Native.Nat.{ℕ, ◌≤◌, ◌<◌, ◌+◌, ◌*◌}
 use mathlib.Core.Path.{◌≡◌, sym, ◌∙◌}
 use native.Mathlib.Omega.{arith}
-use lib.ListN.{length, take, drop, get_or}
-use Rattle.record_checks.specs.Soundness.Checks.{ends_in_order, are_arguments}
+use lib.ListN.{length, get_or}
 use Rattle.record_checks.proofs.soundness.Walks.{given, given_long, given_at_lem, order_before, order_past, order_on, order_end, arguments_many, arguments_few}
 use Rattle.record_checks.proofs.soundness.are_arguments.Goals as goal
 use Rattle.record_checks.proofs.soundness.are_arguments.Goals.{Start}

@@ -1,10 +1,7 @@
-use mathlib.Core.List.{List}
-use Prim.Native.Nat.{ℕ, ◌≤◌, ◌<◌, ◌+◌, ◌*◌, ◌-◌}
-use mathlib.Core.Path.{◌≡◌, sym, ◌∙◌}
-use native.Mathlib.Omega.{arith}
-use lib.ListN.{length, take, drop, get_or}
+use Prim.Native.Nat.{◌≤◌, ◌+◌, ◌*◌, ◌-◌}
+use mathlib.Core.Path.{◌≡◌}
+use lib.ListN.{take, drop}
 use Rattle.record_checks.specs.Soundness.Checks.{ends_in_order, are_arguments}
-use Rattle.record_checks.proofs.soundness.Walks.{given, given_long, given_at_lem, order_before, order_past, order_on, order_end, arguments_many, arguments_few}
 use Rattle.record_checks.proofs.soundness.are_arguments.Given as goal
 
 abbrev pub invariant-loop-i : goal.invariant-loop-i

@@ -1,7 +1,6 @@
 -- `record_checks::soundness::are_texts` meets its contract, test by test. Assumes nothing.
 use mathlib.Core.Path.{ap}
 use mathlib.Core.Bool.{not}
-use borrow.Author.Rules.{rules}
 use borrow.Author.Tests.{eq-eqb, ne_eqb}
 use Rattle.record_checks.specs.Soundness.Checks.{are_texts}
 use Rattle.record_checks.proofs.soundness.Tests.{fails, passes, table_most}

@@ -1,5 +1,4 @@
 -- `record_checks::soundness::is_collected` meets its contract, test by test. Assumes nothing.
-use borrow.Author.Rules.{rules}
 use borrow.Author.Tests.{le-leb, lt-leb}
 use Rattle.record_checks.specs.Soundness.Checks.{is_collected}
 use Rattle.record_checks.proofs.soundness.is_collected.Goals as goal

@@ -1,15 +1,6 @@
 -- `record_checks::soundness::is_item` meets its contract. Assumes nothing.
-use mathlib.Core.Path.{◌≡◌, refl, sym, ◌∙◌}
-use mathlib.Core.Bool.{true}
-use mathlib.Core.List.{List, [], ◌∷◌}
-use Prim.Native.Nat.{ℕ}
-use types.Run.{OneOf, miss}
-use denote.Enum.Declared.{tag_of}
+use mathlib.Core.Path.{sym, ◌∙◌}
 use borrow.Author.Rules.{rules}
-use Rattle.rules.specs.declared.Name.{Name}
-use Rattle.input_stack.specs.declared.frames.What.{What}
-use Rattle.input_stack.specs.declared.frames.What.TheVariants as what
-use Rattle.input_stack.specs.contracts.frames.What.{the_type}
 use Rattle.record_checks.specs.Soundness.Checks.{is_item}
 use Rattle.record_checks.proofs.soundness.is_item.Goals as goal
 

@@ -1,7 +1,6 @@
 -- `record_checks::soundness::is_layout` meets its contract, test by test. Assumes nothing.
 use mathlib.Core.Path.{ap}
 use mathlib.Core.Bool.{not}
-use borrow.Author.Rules.{rules}
 use Rattle.record_checks.specs.Soundness.Checks.{is_layout}
 use Rattle.record_checks.proofs.soundness.Tests.{fails, passes}
 use Rattle.record_checks.proofs.soundness.is_layout.Goals as goal

@@ -1,5 +1,4 @@
 -- `record_checks::soundness::is_length` meets its contract. Assumes nothing.
-use borrow.Author.Rules.{rules}
 use borrow.Author.Tests.{le-leb, lt-leb}
 use Rattle.record_checks.proofs.soundness.is_length.Goals as goal
 

@@ -1,5 +1,4 @@
 -- `record_checks::soundness::is_page` meets its contract. Assumes nothing.
-use borrow.Author.Rules.{rules}
 use borrow.Author.Tests.{lt-ltb, le-ltb}
 use Rattle.record_checks.specs.Soundness.Checks.{is_page}
 use Rattle.record_checks.proofs.soundness.is_page.Goals as goal

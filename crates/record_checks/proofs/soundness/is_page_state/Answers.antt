@@ -1,7 +1,6 @@
 -- `record_checks::soundness::is_page_state` meets its contract, test by test. Assumes nothing.
 use mathlib.Core.Path.{ap}
 use mathlib.Core.Bool.{not}
-use borrow.Author.Rules.{rules}
 use Rattle.record_checks.specs.Soundness.Checks.{is_page_state}
 use Rattle.record_checks.proofs.soundness.Tests.{fails, passes}
 use Rattle.record_checks.proofs.soundness.is_page_state.Goals as goal

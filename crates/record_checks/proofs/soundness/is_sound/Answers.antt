@@ -1,7 +1,6 @@
 -- `record_checks::soundness::is_sound` meets its contract, test by test. Assumes nothing.
 use mathlib.Core.Path.{ap}
 use mathlib.Core.Bool.{not}
-use borrow.Author.Rules.{rules}
 use Rattle.record_checks.specs.Soundness.Checks.{is_sound}
 use Rattle.record_checks.proofs.soundness.Tests.{fails, passes, texts_most}
 use Rattle.record_checks.proofs.soundness.is_sound.Goals as goal

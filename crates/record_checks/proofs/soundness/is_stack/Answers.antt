@@ -4,8 +4,6 @@ use mathlib.Core.Path.{◌≡◌, refl, sym, ap, ◌∙◌}
 use mathlib.Core.Bool.{Bool, true, false, ◌&&◌, not}
 use native.Mathlib.Omega.{arith}
 use lib.ListN.{take, drop}
-use borrow.Author.Rules.{rules}
-use borrow.Author.Tests.{not-true, not-false}
 use Rattle.texts.specs.Table.Table.{names_of}
 use Rattle.input_stack.specs.declared.stack.Entry.{Entry}
 use Rattle.record_checks.specs.Soundness.Checks.{is_frame, are_frames, is_depth, is_stack}

@@ -1,5 +1,4 @@
 -- `record_checks::soundness::is_there` meets its contract. Assumes nothing.
-use borrow.Author.Rules.{rules}
 use mathlib.Core.Path.{sym, ap, ◌∙◌}
 use Rattle.record_checks.specs.Soundness.Checks.{is_at}
 use Rattle.record_checks.proofs.soundness.is_there.Goals as goal

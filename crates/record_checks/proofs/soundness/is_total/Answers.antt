@@ -1,5 +1,4 @@
 -- `record_checks::soundness::is_total` meets its contract. Assumes nothing.
-use borrow.Author.Rules.{rules}
 use Rattle.record_checks.proofs.soundness.is_total.Goals as goal
 
 pub returns-in-Is : goal.returns-in-Is

@@ -1,12 +1,10 @@
 -- `record_checks::state_limits::are_places` meets its contract. The invariant: the rows are within the bounds if those of the traps from i on are. Assumes nothing.
-use Prim.Native.Nat.{◌≤◌, ◌+◌, ◌-◌}
+use Prim.Native.Nat.{◌+◌}
 use mathlib.Core.Path.{◌≡◌, refl, sym, ◌∙◌}
 use mathlib.Core.Bool.{Bool, true, false, ◌&&◌}
 use native.Mathlib.Omega.{arith}
 use lib.ListN.{take, drop}
-use borrow.Author.Rules.{rules}
-use borrow.Author.Tests.{not-true, not-false}
-use Rattle.traps.proofs.table.Places.{sized, blank}
+use Rattle.traps.proofs.table.Places.{blank}
 use Rattle.record_checks.specs.StateLimits.LimitChecks.{are_places}
 use Rattle.record_checks.proofs.state_limits.LimitWalks.{places_at, places_end}
 use Rattle.record_checks.proofs.state_limits.are_places.Goals as goal

@@ -1,7 +1,6 @@
 -- `record_checks::state_limits::are_settings` meets its contract, test by test. Assumes nothing.
 use mathlib.Core.Path.{ap}
 use mathlib.Core.Bool.{not}
-use borrow.Author.Rules.{rules}
 use Rattle.record_checks.specs.StateLimits.LimitChecks.{are_settings}
 use Rattle.record_checks.proofs.soundness.Tests.{fails, passes}
 use Rattle.record_checks.proofs.state_limits.are_settings.Goals as goal

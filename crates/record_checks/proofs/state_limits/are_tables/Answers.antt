@@ -1,7 +1,6 @@
 -- `record_checks::state_limits::are_tables` meets its contract, test by test. Assumes nothing.
 use mathlib.Core.Path.{ap}
 use mathlib.Core.Bool.{not}
-use borrow.Author.Rules.{rules}
 use Rattle.record_checks.specs.StateLimits.LimitChecks.{are_tables}
 use Rattle.record_checks.proofs.soundness.Tests.{fails, passes}
 use Rattle.record_checks.proofs.state_limits.LimitWalks.{traps_most, names_most}

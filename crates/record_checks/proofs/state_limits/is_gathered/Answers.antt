@@ -1,12 +1,11 @@
 -- `record_checks::state_limits::is_gathered` meets its contract. The invariant: the bytes pass if none before i is odd and those from i on pass. Assumes nothing.
-use Prim.Native.Nat.{◌+◌, ◌≤◌, ◌-◌}
-use mathlib.Core.Path.{◌≡◌, sym, ap, ◌∙◌}
+use Prim.Native.Nat.{◌+◌}
+use mathlib.Core.Path.{sym, ap, ◌∙◌}
 use mathlib.Core.Bool.{◌&&◌}
 use native.Mathlib.Omega.{arith}
 use lib.Dec.{eqb}
 use lib.ListN.{take, drop, get_or}
-use borrow.Author.Rules.{rules}
-use Rattle.record_checks.specs.StateLimits.LimitChecks.{are_bytes, is_gathered}
+use Rattle.record_checks.specs.StateLimits.LimitChecks.{are_bytes}
 use Rattle.record_checks.proofs.state_limits.LimitWalks.{odd_most, bytes_odd, bytes_all, gathered_many, gathered_few}
 use Rattle.record_checks.proofs.state_limits.is_gathered.Goals as goal
 

@@ -1,12 +1,9 @@
-use Prim.Native.Nat.{◌+◌, ◌≤◌, ◌-◌}
-use mathlib.Core.Path.{◌≡◌, sym, ap, ◌∙◌}
+use Prim.Native.Nat.{◌≤◌, ◌-◌}
+use mathlib.Core.Path.{◌≡◌}
 use mathlib.Core.Bool.{◌&&◌}
-use native.Mathlib.Omega.{arith}
 use lib.Dec.{eqb}
-use lib.ListN.{take, drop, get_or}
-use borrow.Author.Rules.{rules}
+use lib.ListN.{take, drop}
 use Rattle.record_checks.specs.StateLimits.LimitChecks.{are_bytes, is_gathered}
-use Rattle.record_checks.proofs.state_limits.LimitWalks.{odd_most, bytes_odd, bytes_all, gathered_many, gathered_few}
 use Rattle.record_checks.proofs.state_limits.is_gathered.Given as goal
 
 abbrev pub invariant-loop-i : goal.invariant-loop-i

@@ -1,10 +1,8 @@
 -- `record_checks::state_limits::is_layered` meets its contract. The invariant: all items lie as they may if those below i do, under one that is held or not. Assumes nothing.
-use Prim.Native.Nat.{◌≤◌, ◌-◌}
+use Prim.Native.Nat.{◌-◌}
 use mathlib.Core.Path.{◌≡◌, sym, ap, ◌∙◌}
 use mathlib.Core.Bool.{Bool, true, false, not, ◌&&◌, ◌||◌}
 use native.Mathlib.Omega.{arith}
-use borrow.Author.Rules.{rules}
-use borrow.Author.Tests.{not-true, not-false}
 use Rattle.input_stack.specs.declared.stack.Entry.{Entry}
 use Rattle.page.specs.Springs.Held.{is_text}
 use Rattle.record_checks.specs.StateLimits.LimitChecks.{layered_to}

@@ -1,6 +1,5 @@
 -- `record_checks::state_limits::is_next` meets its contract. Assumes nothing.
 use mathlib.Core.Path.{ap, ◌∙◌}
-use borrow.Author.Rules.{rules}
 use borrow.Author.Tests.{eq-eqb, ne_eqb}
 use Rattle.input_stack.specs.declared.stack.Entry.{Entry}
 use Rattle.page.specs.Springs.Held.{is_text}

@@ -1,6 +1,4 @@
 -- `record_checks::state_limits::is_open_over` meets its contract. Assumes nothing.
-use borrow.Author.Rules.{rules}
-use borrow.Author.Tests.{not-true, not-false}
 use Rattle.record_checks.proofs.state_limits.is_open_over.Goals as goal
 
 pub returns-then-not-running : goal.returns-then-not-running

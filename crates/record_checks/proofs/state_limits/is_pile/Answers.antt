@@ -1,7 +1,6 @@
 -- `record_checks::state_limits::is_pile` meets its contract, test by test. Assumes nothing.
 use mathlib.Core.Path.{ap}
 use mathlib.Core.Bool.{not}
-use borrow.Author.Rules.{rules}
 use Rattle.record_checks.specs.StateLimits.LimitChecks.{is_pile}
 use Rattle.record_checks.proofs.soundness.Tests.{fails, passes}
 use Rattle.record_checks.proofs.state_limits.LimitWalks.{layered_most}

@@ -1,5 +1,5 @@
 -- `record_words::decoding::closing_by` meets its contract, by its two tests. Assumes nothing.
-use borrow.Author.Tests.{not-true, not-false, ne_eqb}
+use borrow.Author.Tests.{ne_eqb}
 use Rattle.record_words.proofs.decoding.closing_by.Goals as goal
 
 pub returns-then-not-there : goal.returns-then-not-there

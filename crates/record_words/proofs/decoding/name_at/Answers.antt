@@ -1,5 +1,4 @@
 -- `record_words::decoding::name_at` meets its contract, by those of its calls. Assumes nothing.
-use borrow.Author.Rules.{rules}
 use Rattle.record_words.proofs.decoding.name_at.Goals as goal
 
 pub returns : goal.returns

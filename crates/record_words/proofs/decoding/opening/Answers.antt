@@ -1,5 +1,4 @@
 -- `record_words::decoding::opening` meets its contract, by those of its calls. Assumes nothing.
-use borrow.Author.Rules.{rules}
 use Rattle.record_words.proofs.decoding.opening.Goals as goal
 
 pub returns : goal.returns

@@ -1,5 +1,4 @@
 -- `record_words::decoding::planted` meets its contract, by those of its calls. Assumes nothing.
-use borrow.Author.Rules.{rules}
 use Rattle.record_words.proofs.decoding.planted.Goals as goal
 
 pub returns : goal.returns

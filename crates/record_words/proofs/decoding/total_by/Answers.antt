@@ -1,5 +1,4 @@
 -- `record_words::decoding::total_by` meets its contract, by its test. Assumes nothing.
-use borrow.Author.Rules.{rules}
 use Rattle.record_words.proofs.decoding.total_by.Goals as goal
 
 pub returns-then-there : goal.returns-then-there

@@ -1,5 +1,4 @@
 -- `record_words::decoding::waiting` meets its contract, by those of its calls. Assumes nothing.
-use borrow.Author.Rules.{rules}
 use Rattle.record_words.proofs.decoding.waiting.Goals as goal
 
 pub returns : goal.returns

@@ -1,7 +1,7 @@
 -- `record_words::encoding::put_count` meets its contract: the word is read back from its bits. Assumes nothing.
 use mir.Syntax.{w32}
 use mir.Facts.{to_z-of_z}
-use borrow.Author.Rules.{rules, sfits_of}
+use borrow.Author.Rules.{sfits_of}
 use Rattle.record_words.proofs.encoding.put_count.Goals as goal
 
 pub returns : goal.returns

@@ -1,5 +1,4 @@
 -- `record_words::encoding::put_flag` meets its contract, by its test. Assumes nothing.
-use borrow.Author.Rules.{rules}
 use Rattle.record_words.proofs.encoding.put_flag.Goals as goal
 
 pub returns-then-flag : goal.returns-then-flag

@@ -1,5 +1,4 @@
 -- `record_words::encoding::put_layout` meets its contract, by those of its calls. Assumes nothing.
-use borrow.Author.Rules.{rules}
 use Rattle.record_words.proofs.encoding.put_layout.Goals as goal
 
 pub returns : goal.returns

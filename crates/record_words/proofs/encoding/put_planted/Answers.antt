@@ -1,12 +1,9 @@
 -- `record_words::encoding::put_planted` meets its contract. The invariant: the words of i traps are written. Assumes nothing.
-use Prim.Native.Nat.{ℕ, ◌≤◌, ◌<◌, ◌-◌}
 use mathlib.Core.Path.{◌≡◌, refl}
 use native.Mathlib.Omega.{arith}
-use lib.ListN.{length, take, get_or}
-use lib.Seq.{sets, take_all}
+use lib.ListN.{length}
+use lib.Seq.{take_all}
 use borrow.Author.Count.{below_more}
-use Rattle.traps.proofs.table.Places.{sized}
-use Rattle.record_words.specs.Decoding.Words.{trap_words, TwoByteName, blank_trap}
 use Rattle.record_words.proofs.encoding.Puts.{trap_step}
 use Rattle.record_words.proofs.encoding.put_planted.Goals as goal
 use Rattle.record_words.proofs.encoding.put_planted.Goals.{Start}
@@ -37,12 +34,11 @@ pub loop-i-smaller : goal.loop-i-smaller
 loop-i-smaller c = omega arith
 
 pub loop-i-preserved : goal.loop-i-preserved
-loop-i-preserved c =
-    (
-      omega arith,
-      rw (c.put_trap.ensures.0, c.loop-i.invariant.1) (trap_step _ c.args.planted.traps c.loop-i.i _ (omega (arith, long (goal.at.loop-i-preserved c).Start))),
-      below_more _ _ c.loop-i.invariant.2 c.put_trap.ensures.1,
-    )
+loop-i-preserved c = (
+  omega arith,
+  rw (c.put_trap.ensures.0, c.loop-i.invariant.1) (trap_step _ c.args.planted.traps c.loop-i.i _ (omega (arith, long (goal.at.loop-i-preserved c).Start))),
+  below_more _ _ c.loop-i.invariant.2 c.put_trap.ensures.1,
+)
 
 pub returns : goal.returns
 returns c =

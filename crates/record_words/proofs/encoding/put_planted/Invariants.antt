@@ -1,12 +1,8 @@
 use Prim.Native.Nat.{ℕ, ◌≤◌, ◌<◌, ◌-◌}
-use mathlib.Core.Path.{◌≡◌, refl}
-use native.Mathlib.Omega.{arith}
-use lib.ListN.{length, take, get_or}
-use lib.Seq.{sets, take_all}
-use borrow.Author.Count.{below_more}
-use Rattle.traps.proofs.table.Places.{sized}
+use mathlib.Core.Path.{◌≡◌}
+use lib.ListN.{take, get_or}
+use lib.Seq.{sets}
 use Rattle.record_words.specs.Decoding.Words.{trap_words, TwoByteName, blank_trap}
-use Rattle.record_words.proofs.encoding.Puts.{trap_step}
 use Rattle.record_words.proofs.encoding.put_planted.Given as goal
 
 abbrev pub invariant-loop-i : goal.invariant-loop-i

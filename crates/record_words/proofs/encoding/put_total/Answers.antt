@@ -1,5 +1,4 @@
 -- `record_words::encoding::put_total` meets its contract, by cases of the total. Assumes nothing.
-use borrow.Author.Rules.{rules}
 use Rattle.record_words.proofs.encoding.put_total.Goals as goal
 
 pub returns-in-Is : goal.returns-in-Is

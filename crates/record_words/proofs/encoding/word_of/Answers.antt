@@ -5,7 +5,6 @@ use native.Mathlib.Omega.{arith}
 use lib.IntN.{pos}
 use mir.Syntax.{w32}
 use mir.Facts.{to_z_pos}
-use borrow.Author.Rules.{rules}
 use Rattle.record_words.proofs.encoding.word_of.Goals as goal
 
 pub returns-then-count-lt2147483647 : goal.returns-then-count-lt2147483647

@@ -2,7 +2,6 @@
 use lib.ListN.{replicate, length-replicate}
 use lib.IntN.{pos}
 use Rattle.record_words.proofs.encoding.Puts.{written}
-use borrow.Author.Rules.{rules}
 use Rattle.record_words.proofs.encoding.write.Goals as goal
 
 pub returns : goal.returns

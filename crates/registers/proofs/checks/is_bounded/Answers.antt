@@ -1,15 +1,13 @@
 -- `registers::checks::is_bounded` meets its contract. The invariant: the numbers are within the bounds if those from i on are. Assumes nothing.
-use Prim.Native.Nat.{◌≤◌, ◌<◌, ◌+◌, ◌-◌}
 use mathlib.Core.Path.{◌≡◌, sym, ◌∙◌}
 use mathlib.Core.Bool.{Bool, true, false}
 use native.Mathlib.Omega.{arith}
-use lib.ListN.{drop, get_or}
-use lib.IntN.{ℤ, pos}
-use borrow.Author.Rules.{rules}
+use lib.ListN.{get_or}
+use lib.IntN.{pos}
 use mir.Syntax.{w32}
 use mir.Facts.{to_z-of_z}
-use Rattle.registers.specs.Checks.Checks.{in_bounds, all_within, is_bounded}
-use Rattle.registers.proofs.checks.CheckLaws.{pairs_of, within_on, value_stop, step_stop, within_end, bounded_many, bounded_few}
+use Rattle.registers.specs.Checks.Checks.{in_bounds}
+use Rattle.registers.proofs.checks.CheckLaws.{within_on, value_stop, step_stop, within_end, bounded_many, bounded_few}
 use Rattle.registers.proofs.checks.is_bounded.Goals as goal
 use Rattle.registers.proofs.checks.is_bounded.Goals.{After-is_within, After-is_within-then-is_within}
 
@@ -49,12 +47,11 @@ pub loop-i-smaller : goal.loop-i-smaller
 loop-i-smaller c = omega arith
 
 pub loop-i-preserved : goal.loop-i-preserved
-loop-i-preserved c =
-    (
-      omega arith,
-      c.loop-i.invariant.1 ∙ within_on c.args.values.now c.args.steps.now c.args.count c.requires (omega arith) c.loop-i.i c.loop-i-test.true
-          (value_is (goal.at.loop-i-preserved c).After-is_within true c.if-is_within.true) (step_is (goal.at.loop-i-preserved c).After-is_within-then-is_within true c.if-is_within-2.true),
-    )
+loop-i-preserved c = (
+  omega arith,
+  c.loop-i.invariant.1 ∙ within_on c.args.values.now c.args.steps.now c.args.count c.requires (omega arith) c.loop-i.i c.loop-i-test.true
+      (value_is (goal.at.loop-i-preserved c).After-is_within true c.if-is_within.true) (step_is (goal.at.loop-i-preserved c).After-is_within-then-is_within true c.if-is_within-2.true),
+)
 
 pub returns-else-is_within-2 : goal.returns-else-is_within-2
 returns-else-is_within-2 c =

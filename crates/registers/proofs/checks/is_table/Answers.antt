@@ -1,11 +1,9 @@
 -- `registers::checks::is_table` meets its contract. The invariant: the names are in order if those from i on are. Assumes nothing.
-use Prim.Native.Nat.{◌≤◌, ◌<◌, ◌+◌, ◌-◌}
 use mathlib.Core.Path.{◌≡◌, refl, sym, ap, ◌∙◌}
 use mathlib.Core.Bool.{false}
 use native.Mathlib.Omega.{arith}
 use mathlib.Core.List.{List}
-use lib.ListN.{length, drop, get_or}
-use borrow.Author.Rules.{rules}
+use lib.ListN.{length, get_or}
 use Rattle.rules.specs.declared.Name.{Name}
 use Rattle.rules.specs.Names as rules
 use Rattle.rules.specs.Names.{two_bytes}
@@ -13,7 +11,7 @@ use Rattle.registers.specs.declared.table.Order.{Order}
 use Rattle.registers.specs.declared.table.Order.TheVariants.{Earlier, Same, Later}
 use Rattle.registers.specs.Table.Columns.{Names, names_of}
 use Rattle.registers.specs.Table.Places.{order_of}
-use Rattle.registers.specs.Checks.Checks.{is_earlier, in_order, is_register_table}
+use Rattle.registers.specs.Checks.Checks.{is_earlier, is_register_table}
 use Rattle.registers.proofs.table.Laws.{names_of_length}
 use Rattle.registers.proofs.checks.CheckLaws.{order_on, order_stop, order_end, rows_order, names_of_lem, table_many, table_few}
 use Rattle.registers.proofs.checks.is_table.Goals as goal

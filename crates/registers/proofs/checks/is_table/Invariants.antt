@@ -1,20 +1,8 @@
-use Prim.Native.Nat.{◌≤◌, ◌<◌, ◌+◌, ◌-◌}
-use mathlib.Core.Path.{◌≡◌, refl, sym, ap, ◌∙◌}
-use mathlib.Core.Bool.{false}
-use native.Mathlib.Omega.{arith}
-use mathlib.Core.List.{List}
-use lib.ListN.{length, drop, get_or}
-use borrow.Author.Rules.{rules}
-use Rattle.rules.specs.declared.Name.{Name}
-use Rattle.rules.specs.Names as rules
-use Rattle.rules.specs.Names.{two_bytes}
-use Rattle.registers.specs.declared.table.Order.{Order}
-use Rattle.registers.specs.declared.table.Order.TheVariants.{Earlier, Same, Later}
-use Rattle.registers.specs.Table.Columns.{Names, names_of}
-use Rattle.registers.specs.Table.Places.{order_of}
-use Rattle.registers.specs.Checks.Checks.{is_earlier, in_order, is_register_table}
-use Rattle.registers.proofs.table.Laws.{names_of_length}
-use Rattle.registers.proofs.checks.CheckLaws.{order_on, order_stop, order_end, rows_order, names_of_lem, table_many, table_few}
+use Prim.Native.Nat.{◌+◌, ◌-◌}
+use mathlib.Core.Path.{◌≡◌}
+use lib.ListN.{drop}
+use Rattle.registers.specs.Table.Columns.{names_of}
+use Rattle.registers.specs.Checks.Checks.{in_order, is_register_table}
 use Rattle.registers.proofs.checks.is_table.Given as goal
 
 abbrev pub invariant-loop-next : goal.invariant-loop-next

@@ -1,7 +1,6 @@
 -- `registers::interpolation::predefined` meets its contract, byte by byte. Assumes nothing.
 use mathlib.Core.Path.{refl, ◌∙◌}
 use native.Mathlib.Omega.{arith}
-use borrow.Author.Rules.{rules}
 use Rattle.rules.specs.Names.{one_byte, two_bytes}
 use Rattle.registers.proofs.interpolation.ReadOnlyLaws.{is_page_lem, is_rows, shown_at_lem, differs, not_shown}
 use Rattle.registers.proofs.interpolation.predefined.Goals as goal

@@ -1,7 +1,7 @@
 -- `registers::interpolation::read` meets its contract: each value is read back from its bits. Assumes nothing.
 use mir.Syntax.{w32}
 use mir.Facts.{to_z-of_z}
-use borrow.Author.Rules.{rules, sfits_of}
+use borrow.Author.Rules.{sfits_of}
 use Rattle.registers.proofs.interpolation.read.Goals as goal
 
 pub returns-in-Page : goal.returns-in-Page

@@ -2,7 +2,7 @@
 use mathlib.Core.Path.{◌≡◌, sym, ap, ◌∙◌}
 use mir.Syntax.{w32}
 use mir.Facts.{to_z-of_z}
-use borrow.Author.Rules.{rules, sfits_of}
+use borrow.Author.Rules.{sfits_of}
 use Rattle.rules.specs.Registers.{shown}
 use Rattle.registers.specs.Interpolation.ReadOnly.{shows_of, value_shown, seen_of}
 use Rattle.registers.proofs.interpolation.ReadOnlyLaws.{refer_still, refer_up, refer_down, refer_step, refer_bad}

@@ -1,9 +1,8 @@
 -- `registers::table::find` meets its contract. The invariant: the name's place is as many rows below i as it has among the names from i on. Assumes nothing.
-use Prim.Native.Nat.{◌≤◌, ◌<◌, ◌-◌}
 use mathlib.Core.Path.{◌≡◌, sym, ◌∙◌}
 use native.Mathlib.Omega.{arith}
 use mathlib.Core.List.{List}
-use lib.ListN.{length, drop, get_or}
+use lib.ListN.{length, get_or}
 use borrow.Author.Rules.{rules}
 use Rattle.rules.specs.declared.Name.{Name}
 use Rattle.rules.specs.Names as rules
@@ -11,8 +10,8 @@ use Rattle.rules.specs.Names.{two_bytes}
 use Rattle.registers.specs.declared.table.Order.{Order}
 use Rattle.registers.specs.declared.table.Order.TheVariants.{Earlier, Same, Later}
 use Rattle.registers.specs.Table.Columns.{names_of}
-use Rattle.registers.specs.Table.Places.{register_place, order_of}
-use Rattle.registers.proofs.table.Laws.{further, further_0, place_earlier, place_same, place_later, place_end, names_of_length, row_order}
+use Rattle.registers.specs.Table.Places.{order_of}
+use Rattle.registers.proofs.table.Laws.{further_0, place_earlier, place_same, place_later, place_end, names_of_length, row_order}
 use Rattle.registers.proofs.table.find.Goals as goal
 use Rattle.registers.proofs.table.find.Goals.{After-order_at, Start}
 

@@ -1,8 +1,6 @@
 -- `registers::table::insert_byte` meets its contract. The invariant: what is carried is still to be inserted at i. Assumes nothing.
-use Prim.Native.Nat.{◌≤◌, ◌-◌}
-use mathlib.Core.Path.{◌≡◌, refl, sym, ◌∙◌}
+use mathlib.Core.Path.{refl, sym, ◌∙◌}
 use borrow.Author.Rules.{rules}
-use Rattle.registers.specs.Table.Moves.{inserted}
 use Rattle.registers.proofs.table.Laws.{insert_step, insert_done}
 use Rattle.registers.proofs.table.insert_byte.Goals as goal
 

@@ -1,8 +1,6 @@
 use Prim.Native.Nat.{◌≤◌, ◌-◌}
-use mathlib.Core.Path.{◌≡◌, refl, sym, ◌∙◌}
-use borrow.Author.Rules.{rules}
+use mathlib.Core.Path.{◌≡◌}
 use Rattle.registers.specs.Table.Moves.{inserted}
-use Rattle.registers.proofs.table.Laws.{insert_step, insert_done}
 use Rattle.registers.proofs.table.insert_byte.Given as goal
 
 abbrev pub invariant-loop-i : goal.invariant-loop-i

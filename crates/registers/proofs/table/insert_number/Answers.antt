@@ -1,13 +1,11 @@
 -- `registers::table::insert_number` meets its contract, as `insert_byte` does; the numbers are read back from their bits. Assumes nothing.
-use Prim.Native.Nat.{◌≤◌, ◌-◌}
-use mathlib.Core.Path.{◌≡◌, refl, sym, ◌∙◌}
+use mathlib.Core.Path.{refl, sym, ◌∙◌}
 use lib.ListN.{get_or}
 use lib.IntN.{pos}
 use borrow.Author.Rules.{rules}
 use mir.Syntax.{w32}
 use mir.Val.{to_z}
 use mir.Facts.{to_z-of_z}
-use Rattle.registers.specs.Table.Moves.{inserted}
 use Rattle.registers.proofs.table.Laws.{insert_step, insert_done}
 use Rattle.registers.proofs.table.insert_number.Goals as goal
 

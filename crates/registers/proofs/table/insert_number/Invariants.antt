@@ -1,13 +1,6 @@
 use Prim.Native.Nat.{◌≤◌, ◌-◌}
-use mathlib.Core.Path.{◌≡◌, refl, sym, ◌∙◌}
-use lib.ListN.{get_or}
-use lib.IntN.{pos}
-use borrow.Author.Rules.{rules}
-use mir.Syntax.{w32}
-use mir.Val.{to_z}
-use mir.Facts.{to_z-of_z}
+use mathlib.Core.Path.{◌≡◌}
 use Rattle.registers.specs.Table.Moves.{inserted}
-use Rattle.registers.proofs.table.Laws.{insert_step, insert_done}
 use Rattle.registers.proofs.table.insert_number.Given as goal
 
 abbrev pub invariant-loop-i : goal.invariant-loop-i

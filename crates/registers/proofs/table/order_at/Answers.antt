@@ -1,6 +1,5 @@
 -- `registers::table::order_at` meets its contract: each way out says by the bytes that were looked at how the two names stand. Assumes nothing.
 use native.Mathlib.Omega.{arith}
-use borrow.Author.Rules.{rules}
 use mathlib.Core.Path.{sym}
 use lib.ListN.{get_or}
 use Rattle.rules.specs.declared.Name.{Name}

@@ -3,7 +3,6 @@ use Prim.Native.Nat.{◌≤◌, ◌<◌}
 use mathlib.Core.Path.{◌≡◌, sym, ◌∙◌}
 use native.Mathlib.Omega.{arith}
 use mir.Facts.{to_z-of_z}
-use borrow.Author.Rules.{rules}
 use Rattle.registers.specs.declared.table.RegisterPlace.TheVariants.{At, Not}
 use Rattle.registers.specs.Table.Columns.{names_of}
 use Rattle.registers.specs.Table.Places.{register_place}

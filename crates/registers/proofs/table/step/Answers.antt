@@ -6,7 +6,7 @@ use lib.ListN.{get_or}
 use lib.IntN.{pos}
 use mir.Syntax.{w32}
 use mir.Facts.{to_z-of_z}
-use borrow.Author.Rules.{rules, sfits_of}
+use borrow.Author.Rules.{sfits_of}
 use Rattle.registers.specs.declared.table.RegisterPlace.TheVariants.{At}
 use Rattle.registers.specs.Table.Columns.{names_of}
 use Rattle.registers.specs.Table.Places.{register_place}

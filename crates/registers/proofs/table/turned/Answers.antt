@@ -1,7 +1,6 @@
 -- `registers::table::turned` meets its contract: a sum and a difference of two i32 fit an i64. Assumes nothing.
 use mir.Syntax.{w64}
 use mir.Facts.{to_z-of_z, sfits_widen}
-use borrow.Author.Rules.{rules}
 use Rattle.measure.proofs.Signed.{widened}
 use Rattle.registers.proofs.table.Signed.{sum_fits, difference_fits}
 use Rattle.registers.proofs.table.turned.Goals as goal

@@ -1,5 +1,4 @@
 -- `requests::definitions::define` meets its contract: by its first argument. Assumes nothing.
-use borrow.Author.Rules.{rules}
 use Rattle.scan.specs.Arguments.Parting.{Took}
 use Rattle.requests.proofs.definitions.TextLaws.{text_short, part_fits, defines_there, defines_none}
 use Rattle.requests.proofs.definitions.define.Goals as goal

@@ -2,7 +2,6 @@
 use mathlib.Core.Path.{sym}
 use native.Mathlib.Omega.{arith}
 use lib.Seq.{length-take-le}
-use borrow.Author.Rules.{rules}
 use Rattle.requests.proofs.definitions.define_back.Goals as goal
 
 pub slice_bounds-define_text-end : goal.slice_bounds-define_text-end

@@ -2,7 +2,6 @@
 use mathlib.Core.Path.{sym, ap, ◌∙◌}
 use lib.ListN.{take}
 use lib.Seq.{length-take-le}
-use borrow.Author.Rules.{rules}
 use Rattle.line_syntax.specs.Lines.Lines.{named_is}
 use Rattle.requests.proofs.definitions.TextLaws.{define_by, define_unnamed, define_long}
 use Rattle.requests.proofs.definitions.define_by.Goals as goal

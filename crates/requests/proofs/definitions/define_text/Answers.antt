@@ -1,6 +1,5 @@
 -- `requests::definitions::define_text` meets its contract: a law for each way out. Assumes nothing.
 use mathlib.Core.Path.{sym, ◌∙◌}
-use borrow.Author.Rules.{rules}
 use Rattle.texts.specs.Table.Table.{texts_of}
 use Rattle.requests.specs.Definitions.Texts.{alone, defines_as}
 use Rattle.requests.proofs.definitions.TextLaws.{refuses, define_held, defined, define_full}

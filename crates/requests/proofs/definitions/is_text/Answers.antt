@@ -1,6 +1,5 @@
 -- `requests::definitions::is_text` meets its contract: by what `look_up` found. Assumes nothing.
 use mathlib.Core.Path.{sym, ap, ◌∙◌}
-use borrow.Author.Rules.{rules}
 use Rattle.rules.specs.Bytes.{is_there}
 use Rattle.texts.specs.Table.Places.{text_found}
 use Rattle.texts.specs.declared.table.FoundText.{FoundText}

@@ -1,6 +1,5 @@
 -- `requests::definitions::open` meets its contract: by what its name is. Assumes nothing.
 use mathlib.Core.Path.{sym, ap, ◌∙◌}
-use borrow.Author.Rules.{rules}
 use Rattle.line_syntax.specs.Lines.Lines.{named_is}
 use Rattle.requests.proofs.definitions.TextLaws.{open_by, open_unnamed, open_long}
 use Rattle.requests.proofs.definitions.open.Goals as goal

@@ -1,6 +1,5 @@
 -- `requests::definitions::open_name` meets its contract: a law for each way out. Assumes nothing.
 use mathlib.Core.Path.{sym, ◌∙◌}
-use borrow.Author.Rules.{rules}
 use Rattle.rules.specs.Acts.{open_text}
 use Rattle.rules.specs.Names.{one}
 use Rattle.texts.specs.Table.Table.{texts_of}

@@ -1,6 +1,5 @@
 -- `requests::definitions::remove` meets its contract: by what its name is. Assumes nothing.
 use mathlib.Core.Path.{sym, ap, ◌∙◌}
-use borrow.Author.Rules.{rules}
 use Rattle.line_syntax.specs.Lines.Lines.{named_is}
 use Rattle.requests.proofs.definitions.TextLaws.{remove_by, remove_unnamed, remove_long}
 use Rattle.requests.proofs.definitions.remove.Goals as goal

@@ -1,7 +1,5 @@
 -- `requests::definitions::remove_name` meets its contract: a law for each way out. Assumes nothing.
 use mathlib.Core.Path.{sym, ◌∙◌}
-use borrow.Author.Rules.{rules}
-use borrow.Author.Tests.{not-true, not-false}
 use Rattle.rules.specs.Acts.{remove_text}
 use Rattle.texts.specs.Table.Table.{texts_of}
 use Rattle.requests.specs.Definitions.Texts.{alone}

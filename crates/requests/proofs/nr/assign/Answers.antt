@@ -1,6 +1,5 @@
 -- `requests::nr::assign` meets its contract: by what its name is. Assumes nothing.
 use mathlib.Core.Path.{sym, ap, ◌∙◌}
-use borrow.Author.Rules.{rules}
 use Rattle.line_syntax.specs.Lines.Lines.{named_is}
 use Rattle.requests.specs.Nr.Registers.{assigns}
 use Rattle.requests.proofs.nr.RegisterLaws.{same, refuses, by_name, unnamed, too_long_lem}

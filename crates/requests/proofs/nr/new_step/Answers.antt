@@ -2,7 +2,6 @@
 use mathlib.Core.Path.{◌∙◌}
 use native.Mathlib.Omega.{arith}
 use mir.Facts.{to_z-of_z}
-use borrow.Author.Rules.{rules}
 use Rattle.settings.specs.Layout.Layouts.{printer_of}
 use Rattle.requests.proofs.nr.RegisterLaws.{step_kept, step_read}
 use Rattle.requests.proofs.nr.new_step.Goals as goal

@@ -2,7 +2,7 @@
 use mir.Syntax.{w32}
 use mathlib.Core.Path.{sym, ap, ◌∙◌}
 use mir.Facts.{to_z-of_z}
-use borrow.Author.Rules.{sfits_of, rules}
+use borrow.Author.Rules.{sfits_of}
 use Rattle.number.specs.Arithmetic.Values.{judged_of}
 use Rattle.settings.specs.Layout.Layouts.{printer_of}
 use Rattle.requests.proofs.nr.RegisterLaws.{value_is, value_bad}

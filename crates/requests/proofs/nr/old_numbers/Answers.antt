@@ -2,7 +2,7 @@
 use mathlib.Core.Path.{sym, ap, ◌∙◌}
 use mir.Facts.{to_z-of_z}
 use mir.Syntax.{w32}
-use borrow.Author.Rules.{sfits_of, rules}
+use borrow.Author.Rules.{sfits_of}
 use Rattle.registers.specs.Table.Answers.{register_found}
 use Rattle.rules.specs.Registers.{value_or0, step_or0}
 use Rattle.requests.proofs.nr.old_numbers.Goals as goal

@@ -1,7 +1,6 @@
 -- `requests::nr::summed` meets its contract: the sum of two i32 fits an i64. Assumes nothing.
 use mir.Facts.{to_z-of_z, sfits_widen}
 use mir.Syntax.{w64}
-use borrow.Author.Rules.{rules}
 use Rattle.measure.proofs.Signed.{widened}
 use Rattle.requests.proofs.nr.RegisterLaws.{sum_fits}
 use Rattle.requests.proofs.nr.summed.Goals as goal

@@ -3,7 +3,7 @@ use mathlib.Core.Path.{sym, ap, ◌∙◌}
 use native.Mathlib.Omega.{arith}
 use mir.Syntax.{w32}
 use mir.Facts.{to_z-of_z}
-use borrow.Author.Rules.{sfits_of, rules}
+use borrow.Author.Rules.{sfits_of}
 use Rattle.requests.specs.Nr.Registers.{new_numbers_of, assigns_to}
 use Rattle.requests.proofs.nr.RegisterLaws.{same, refuses, no_value, read_only, malformed, stored, full}
 use Rattle.requests.proofs.nr.write_register.Goals as goal

@@ -1,7 +1,6 @@
 -- `requests::wh::plant` meets its contract: by its row. Assumes nothing.
 use mathlib.Core.Path.{sym, ap, ◌∙◌}
 use native.Mathlib.Omega.{arith}
-use borrow.Author.Rules.{rules}
 use Rattle.number.specs.Scales.Rounded.{judged_rows}
 use Rattle.settings.specs.Layout.Layouts.{printer_of}
 use Rattle.requests.proofs.wh.TrapLaws.{no_row, row_known, row_bad}

@@ -1,6 +1,5 @@
 -- `requests::wh::plant_at` meets its contract: by what its name is. Assumes nothing.
 use mathlib.Core.Path.{sym, ap, ◌∙◌}
-use borrow.Author.Rules.{rules}
 use Rattle.line_syntax.specs.Lines.Lines.{named_is}
 use Rattle.requests.proofs.wh.TrapLaws.{by_name, removed, unnamed}
 use Rattle.requests.proofs.wh.plant_at.Goals as goal

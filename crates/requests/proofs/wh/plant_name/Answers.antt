@@ -1,5 +1,4 @@
 -- `requests::wh::plant_name` meets its contract: by whether there are more than 16 traps. Assumes nothing.
-use borrow.Author.Rules.{rules}
 use Rattle.requests.proofs.wh.TrapLaws.{planted_full, planted_new}
 use Rattle.requests.proofs.wh.plant_name.Goals as goal
 

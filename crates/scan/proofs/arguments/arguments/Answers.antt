@@ -1,10 +1,8 @@
 -- `scan::arguments::arguments` meets its contract: one argument after the other. Assumes nothing.
-use mathlib.Core.Path.{◌≡◌, sym, subst}
-use Prim.Native.Nat.{◌-◌}
+use mathlib.Core.Path.{sym, subst}
 use native.Mathlib.Omega.{arith}
-use borrow.Author.Rules.{rules}
 use Rattle.scan.specs.Arguments.Parting.{Took, PartedAll}
-use Rattle.scan.proofs.arguments.Parting.{Onward, none_yet, one_more, no_more, nine_there}
+use Rattle.scan.proofs.arguments.Parting.{none_yet, one_more, no_more, nine_there}
 use Rattle.scan.proofs.arguments.arguments.Goals as goal
 use Rattle.scan.proofs.arguments.arguments.Goals.{After-struct_known-1}
 

@@ -1,9 +1,5 @@
-use mathlib.Core.Path.{◌≡◌, sym, subst}
 use Prim.Native.Nat.{◌-◌}
-use native.Mathlib.Omega.{arith}
-use borrow.Author.Rules.{rules}
-use Rattle.scan.specs.Arguments.Parting.{Took, PartedAll}
-use Rattle.scan.proofs.arguments.Parting.{Onward, none_yet, one_more, no_more, nine_there}
+use Rattle.scan.proofs.arguments.Parting.{Onward}
 use Rattle.scan.proofs.arguments.arguments.Given as goal
 
 abbrev pub invariant-loop-count : goal.invariant-loop-count

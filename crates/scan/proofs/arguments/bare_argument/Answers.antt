@@ -1,12 +1,10 @@
 -- `scan::arguments::bare_argument` meets its contract. Assumes nothing.
-use Prim.Native.Nat.{◌+◌, ◌-◌, ◌≤◌}
-use mathlib.Core.Path.{◌≡◌, refl, ◌∙◌}
+use Prim.Native.Nat.{◌+◌}
+use mathlib.Core.Path.{refl}
 use native.Mathlib.Omega.{arith}
-use lib.ListN.{length}
-use borrow.Author.Rules.{rules}
 use borrow.Author.Tests.{ne_eqb}
 use Rattle.rules.specs.Arguments.{bare}
-use Rattle.scan.proofs.arguments.Parts.{Onward, onward, ends, bare_turn, bare_stop, any_end}
+use Rattle.scan.proofs.arguments.Parts.{onward, ends, bare_turn, bare_stop, any_end}
 use Rattle.scan.proofs.arguments.bare_argument.Goals as goal
 
 pub loop-i-init : goal.loop-i-init

@@ -1,11 +1,7 @@
 use Prim.Native.Nat.{◌+◌, ◌-◌, ◌≤◌}
-use mathlib.Core.Path.{◌≡◌, refl, ◌∙◌}
-use native.Mathlib.Omega.{arith}
 use lib.ListN.{length}
-use borrow.Author.Rules.{rules}
-use borrow.Author.Tests.{ne_eqb}
 use Rattle.rules.specs.Arguments.{bare}
-use Rattle.scan.proofs.arguments.Parts.{Onward, onward, ends, bare_turn, bare_stop, any_end}
+use Rattle.scan.proofs.arguments.Parts.{Onward}
 use Rattle.scan.proofs.arguments.bare_argument.Given as goal
 
 abbrev pub invariant-loop-i : goal.invariant-loop-i

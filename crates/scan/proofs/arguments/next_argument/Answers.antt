@@ -1,9 +1,8 @@
 -- `scan::arguments::next_argument` meets its contract: what stands behind the spaces decides. Assumes nothing.
-use mathlib.Core.Path.{◌≡◌, refl}
+use mathlib.Core.Path.{refl}
 use Prim.Native.Nat.{◌+◌}
 use native.Mathlib.Omega.{arith}
 use lib.ListN.{drop}
-use borrow.Author.Rules.{rules}
 use borrow.Author.Tests.{ne_eqb}
 use Rattle.rules.specs.Arguments.{bare, quoted, up_to}
 use Rattle.scan.proofs.arguments.Parting.{no_first, quoted_first, bare_first, takes}

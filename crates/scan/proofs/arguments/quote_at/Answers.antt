@@ -1,6 +1,5 @@
 -- `scan::arguments::quote_at` meets its contract: behind the end stands no byte. Assumes nothing.
 use lib.ListN.{get_or-eq_default}
-use borrow.Author.Rules.{rules}
 use Rattle.scan.proofs.arguments.quote_at.Goals as goal
 
 pub returns-else-at-line : goal.returns-else-at-line

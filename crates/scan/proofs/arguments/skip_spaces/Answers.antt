@@ -1,11 +1,7 @@
 -- `scan::arguments::skip_spaces` meets its contract. The invariant: what follows the spaces from here on is what follows them from the start. Assumes nothing.
-use Prim.Native.Nat.{◌+◌, ◌-◌, ◌≤◌}
-use mathlib.Core.Path.{◌≡◌, sym, ◌∙◌}
+use mathlib.Core.Path.{sym, ◌∙◌}
 use native.Mathlib.Omega.{arith}
-use lib.ListN.{length, drop}
-use borrow.Author.Rules.{rules}
 use borrow.Author.Tests.{ne_eqb}
-use Rattle.rules.specs.Arguments.{after_spaces}
 use Rattle.scan.proofs.arguments.Parts.{space_more, space_stop, space_end}
 use Rattle.scan.proofs.arguments.skip_spaces.Goals as goal
 

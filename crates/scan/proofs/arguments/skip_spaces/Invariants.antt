@@ -1,11 +1,7 @@
-use Prim.Native.Nat.{◌+◌, ◌-◌, ◌≤◌}
-use mathlib.Core.Path.{◌≡◌, sym, ◌∙◌}
-use native.Mathlib.Omega.{arith}
+use Prim.Native.Nat.{◌-◌, ◌≤◌}
+use mathlib.Core.Path.{◌≡◌}
 use lib.ListN.{length, drop}
-use borrow.Author.Rules.{rules}
-use borrow.Author.Tests.{ne_eqb}
 use Rattle.rules.specs.Arguments.{after_spaces}
-use Rattle.scan.proofs.arguments.Parts.{space_more, space_stop, space_end}
 use Rattle.scan.proofs.arguments.skip_spaces.Given as goal
 
 abbrev pub invariant-loop-i : goal.invariant-loop-i

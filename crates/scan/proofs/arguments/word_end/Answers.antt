@@ -1,13 +1,8 @@
 -- `scan::arguments::word_end` meets its contract. The invariant: the bytes passed, then the word from here on. Assumes nothing.
-use Prim.Native.Nat.{◌+◌, ◌-◌, ◌≤◌}
-use mathlib.Core.Path.{◌≡◌, ◌∙◌}
 use native.Mathlib.Omega.{arith}
-use lib.ListN.{length, drop}
-use borrow.Author.Rules.{rules}
 use borrow.Author.Tests.{ne_eqb}
-use lib.ListN.{take}
-use Rattle.rules.specs.Arguments.{bare, up_to}
-use Rattle.scan.proofs.arguments.Parts.{ahead, passing, passes, passed, bare_stop, any_end}
+use Rattle.rules.specs.Arguments.{bare}
+use Rattle.scan.proofs.arguments.Parts.{passing, passes, passed, bare_stop, any_end}
 use Rattle.scan.proofs.arguments.word_end.Goals as goal
 
 pub loop-i-init : goal.loop-i-init

@@ -1,12 +1,9 @@
-use Prim.Native.Nat.{◌+◌, ◌-◌, ◌≤◌}
-use mathlib.Core.Path.{◌≡◌, ◌∙◌}
-use native.Mathlib.Omega.{arith}
+use Prim.Native.Nat.{◌-◌, ◌≤◌}
+use mathlib.Core.Path.{◌≡◌}
 use lib.ListN.{length, drop}
-use borrow.Author.Rules.{rules}
-use borrow.Author.Tests.{ne_eqb}
 use lib.ListN.{take}
 use Rattle.rules.specs.Arguments.{bare, up_to}
-use Rattle.scan.proofs.arguments.Parts.{ahead, passing, passes, passed, bare_stop, any_end}
+use Rattle.scan.proofs.arguments.Parts.{ahead}
 use Rattle.scan.proofs.arguments.word_end.Given as goal
 
 abbrev pub invariant-loop-i : goal.invariant-loop-i

@@ -3,7 +3,6 @@ use Rattle.scan.proofs.escapes.Readers.{is_cut, is_last, digit, below, above}
 use lib.ListN.{get_or}
 use mathlib.Core.Path.{refl}
 use native.Mathlib.Omega.{arith}
-use borrow.Author.Rules.{rules}
 use Rattle.scan.proofs.escapes.argument_at.Goals as goal
 
 pub returns-then-text-at : goal.returns-then-text-at

@@ -11,7 +11,6 @@ use Rattle.scan.specs.Escapes.Readings.{escape_of}
 use Rattle.rules.specs.declared.Mode.TheVariants.{Copy}
 use Rattle.rules.specs.Bytes.{first_where}
 use lib.ListN.{get_or}
-use borrow.Author.Rules.{rules}
 use Rattle.scan.proofs.escapes.copy_at.Goals as goal
 
 -- `scan::escapes::copy_at` meets its contract: each byte picks an entry of the rules' table. Assumes nothing.

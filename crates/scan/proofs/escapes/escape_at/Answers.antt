@@ -1,5 +1,4 @@
 -- `scan::escapes::escape_at` meets its contract, mode by mode. Assumes nothing.
-use borrow.Author.Rules.{rules}
 use Rattle.scan.proofs.escapes.escape_at.Goals as goal
 
 pub returns-in-Plain : goal.returns-in-Plain

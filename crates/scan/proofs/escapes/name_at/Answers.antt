@@ -1,7 +1,6 @@
 -- `scan::escapes::name_at` meets its contract: a law for each way out. Assumes nothing.
 use Rattle.scan.proofs.escapes.Readers.{name_none, name_one, name_cut, name_two}
 use native.Mathlib.Omega.{arith}
-use borrow.Author.Rules.{rules}
 use Rattle.scan.proofs.escapes.name_at.Goals as goal
 
 pub returns-then-text-at : goal.returns-then-text-at

@@ -1,7 +1,6 @@
 -- `scan::escapes::number_at` meets its contract: a name is read as the name of a register. Assumes nothing.
 use Rattle.scan.proofs.escapes.Readers.{is_named}
 use mathlib.Core.Path.{refl}
-use borrow.Author.Rules.{rules}
 use Rattle.scan.proofs.escapes.number_at.Goals as goal
 
 pub returns-in-Named : goal.returns-in-Named

@@ -10,7 +10,6 @@ use Rattle.scan.specs.Escapes.Readings.{escape_of}
 use Rattle.rules.specs.declared.Mode.TheVariants.{Plain}
 use Rattle.rules.specs.Bytes.{first_where}
 use lib.ListN.{get_or}
-use borrow.Author.Rules.{rules}
 use Rattle.scan.proofs.escapes.plain_at.Goals as goal
 
 -- `scan::escapes::plain_at` meets its contract: each byte picks an entry of the rules' table. Assumes nothing.

@@ -1,7 +1,6 @@
 -- `scan::escapes::register_at` meets its contract: a sign and a name, or a name. Assumes nothing.
 use Rattle.scan.proofs.escapes.Readers.{is_cut, is_more, up, down, is_still}
 use mathlib.Core.Path.{refl}
-use borrow.Author.Rules.{rules}
 use Rattle.scan.proofs.escapes.register_at.Goals as goal
 
 pub returns-then-text-at : goal.returns-then-text-at

@@ -1,7 +1,6 @@
 -- `scan::escapes::string_at` meets its contract: a name is read as the name of a string. Assumes nothing.
 use Rattle.scan.proofs.escapes.Readers.{is_named}
 use mathlib.Core.Path.{refl}
-use borrow.Author.Rules.{rules}
 use Rattle.scan.proofs.escapes.string_at.Goals as goal
 
 pub returns-in-Named : goal.returns-in-Named

@@ -1,14 +1,12 @@
 -- The answers of the cycle of calls {carry_out, expand_text}: the depth rises to at most 8. Assumes nothing.
-use Prim.Native.Nat.{ℕ, ◌+◌, ◌*◌, ◌-◌, ◌<◌}
+use Prim.Native.Nat.{ℕ}
 use native.Mathlib.Omega.{arith}
-use lib.ListN.{length}
-use borrow.Author.Rules.{rules}
 use Rattle.scan.specs.Escapes.Readings.{action_in}
 use Rattle.scan.specs.Arguments.Around.{around}
 use Rattle.scan.specs.Expansion.Acts.{ActsTo}
 use Rattle.scan.specs.Expansion.Expansion.{ReadEscape}
 use Rattle.scan.specs.declared.expansion.Acted.TheVariants.{Enters}
-use Rattle.scan.proofs.expansion.Driver.{wrote, ends, refuses, enters, Going, start, over, stopped, goes_on, ended, refused}
+use Rattle.scan.proofs.expansion.Driver.{wrote, ends, refuses, enters, start, over, stopped, goes_on, ended, refused}
 use Rattle.scan.proofs.expansion.+carry_out_expand_text.Goals as goal
 use Rattle.scan.proofs.expansion.+carry_out_expand_text.Goals.{carry_out-In-Enters, expand_text-In-Escape}
 

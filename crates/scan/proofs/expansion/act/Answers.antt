@@ -5,7 +5,6 @@ use Rattle.rules.specs.declared.Register.{Register}
 use Rattle.registers.specs.Table.Columns.{table_of}
 use Rattle.rules.specs.Escapes.{Surroundings}
 use mathlib.Core.List.{List, [], ◌∷◌}
-use borrow.Author.Rules.{rules}
 use Rattle.scan.proofs.expansion.act.Goals as goal
 use Rattle.scan.proofs.expansion.act.Goals.{Start}
 

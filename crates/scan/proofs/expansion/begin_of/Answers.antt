@@ -5,7 +5,6 @@ use mathlib.Core.List.{List}
 use Prim.Native.Nat.{ℕ, zero, suc, ◌-◌}
 use mathlib.Core.Path.{◌≡◌, refl, sym, ap}
 use native.Mathlib.Omega.{arith}
-use borrow.Author.Rules.{rules}
 use Rattle.scan.proofs.expansion.begin_of.Goals as goal
 
 before : (es : List ℕ) (k : ℕ) → (k ≡ 0 → ⊥) → begin_of es k ≡ get_or es (k - 1) 0

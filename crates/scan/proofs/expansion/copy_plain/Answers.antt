@@ -1,9 +1,5 @@
 -- `scan::expansion::copy_plain` meets its contract. The invariant: what the rules make of the text is what they make of it from i on. Assumes nothing.
-use borrow.Author.Rules.{rules}
 use Rattle.scan.proofs.expansion.Totals.{pass_start, pass_byte, stop_left, stop_room}
-use Rattle.scan.specs.Output.Writes.{Passed}
-use lib.ListN.{length}
-use Prim.Native.Nat.{◌-◌}
 use native.Mathlib.Omega.{arith}
 use Rattle.scan.proofs.expansion.copy_plain.Goals as goal
 

@@ -1,9 +1,6 @@
-use borrow.Author.Rules.{rules}
-use Rattle.scan.proofs.expansion.Totals.{pass_start, pass_byte, stop_left, stop_room}
 use Rattle.scan.specs.Output.Writes.{Passed}
 use lib.ListN.{length}
 use Prim.Native.Nat.{◌-◌}
-use native.Mathlib.Omega.{arith}
 use Rattle.scan.proofs.expansion.copy_plain.Given as goal
 
 abbrev pub invariant-loop-i : goal.invariant-loop-i

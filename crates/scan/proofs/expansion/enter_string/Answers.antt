@@ -1,7 +1,6 @@
 -- `scan::expansion::enter_string` meets its contract: a law for each kind of text. Assumes nothing.
 use Rattle.scan.proofs.expansion.Actions.{entered_none, entered_macro, entered_deep, entered_string}
 use native.Mathlib.Omega.{arith}
-use borrow.Author.Rules.{rules}
 use Rattle.scan.proofs.expansion.enter_string.Goals as goal
 
 pub returns-then-depth-ge8 : goal.returns-then-depth-ge8

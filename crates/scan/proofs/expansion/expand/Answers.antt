@@ -1,7 +1,6 @@
 -- `scan::expansion::expand` meets its contract: the text of a line is within no other. Assumes nothing.
 use Rattle.scan.proofs.expansion.Driver.{line_over, line_ended, line_refused}
 use native.Mathlib.Omega.{arith}
-use borrow.Author.Rules.{rules}
 use Rattle.scan.proofs.expansion.expand.Goals as goal
 
 pub expand_text-requires : goal.expand_text-requires

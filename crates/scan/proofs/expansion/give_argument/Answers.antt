@@ -8,7 +8,6 @@ use lib.ListN.{length, get_or, take, drop}
 use Prim.Native.Nat.{ℕ, ◌-◌, ◌≤◌}
 use mathlib.Core.Path.{◌≡◌, sym, ap, ◌∙◌}
 use native.Mathlib.Omega.{arith}
-use borrow.Author.Rules.{rules}
 use Rattle.scan.proofs.expansion.give_argument.Goals as goal
 use Rattle.scan.proofs.expansion.give_argument.Goals.{After-begin_of-begin}
 

@@ -1,7 +1,6 @@
 -- `scan::expansion::next_escape` meets its contract: a law for each way out. Assumes nothing.
 use Rattle.scan.proofs.expansion.Steps.{next_stops, next_over, next_cut, next_read}
 use native.Mathlib.Omega.{arith}
-use borrow.Author.Rules.{rules}
 use Rattle.scan.proofs.expansion.next_escape.Goals as goal
 
 pub returns-then-text-i : goal.returns-then-text-i

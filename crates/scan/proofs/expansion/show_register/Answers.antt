@@ -1,6 +1,6 @@
 -- `scan::expansion::show_register` meets its contract: a law for each answer of the reference. Assumes nothing.
 use Rattle.scan.proofs.expansion.Actions.{shown_is, shown_bad, shown_read_only}
-use borrow.Author.Rules.{rules, sfits_of}
+use borrow.Author.Rules.{sfits_of}
 use mir.Facts.{to_z-of_z}
 use mir.Syntax.{w32}
 use Rattle.scan.proofs.expansion.show_register.Goals as goal

@@ -1,5 +1,4 @@
 -- `scan::expansion::wrote_as` meets its contract. Assumes nothing.
-use borrow.Author.Rules.{rules}
 use Rattle.scan.proofs.expansion.wrote_as.Goals as goal
 
 pub returns-in-To : goal.returns-in-To

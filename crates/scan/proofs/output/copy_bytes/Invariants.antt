@@ -1,10 +1,7 @@
-use borrow.Author.Rules.{rules}
-use Rattle.scan.proofs.output.Buffers.{put_none, copy_again, copy_whole}
 use Rattle.scan.specs.Output.Writes.{Put}
 use lib.ListN.{length, take}
 use Prim.Native.Nat.{◌+◌, ◌-◌, ◌≤◌}
 use mathlib.Core.Path.{◌≡◌}
-use native.Mathlib.Omega.{arith}
 use Rattle.scan.proofs.output.copy_bytes.Given as goal
 
 abbrev pub invariant-loop-i : goal.invariant-loop-i

@@ -1,6 +1,5 @@
 -- `scan::output::digits_of` meets its contract. The invariant: n is still to be written before the digits that stand there. Assumes nothing.
-use borrow.Author.Rules.{rules}
-use Rattle.scan.proofs.output.Decimals.{Digits, start, again, last}
+use Rattle.scan.proofs.output.Decimals.{start, again, last}
 use native.Mathlib.Omega.{arith}
 use Rattle.scan.proofs.output.digits_of.Goals as goal
 

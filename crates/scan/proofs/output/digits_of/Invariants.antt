@@ -1,6 +1,4 @@
-use borrow.Author.Rules.{rules}
-use Rattle.scan.proofs.output.Decimals.{Digits, start, again, last}
-use native.Mathlib.Omega.{arith}
+use Rattle.scan.proofs.output.Decimals.{Digits}
 use Rattle.scan.proofs.output.digits_of.Given as goal
 
 abbrev pub invariant-loop-n : goal.invariant-loop-n

@@ -1,7 +1,6 @@
 -- `scan::output::put_byte` meets its contract. Assumes nothing.
 use Rattle.scan.proofs.output.Buffers.{put_none, put_one}
 use native.Mathlib.Omega.{arith}
-use borrow.Author.Rules.{rules}
 use Rattle.scan.proofs.output.put_byte.Goals as goal
 
 pub returns : goal.returns

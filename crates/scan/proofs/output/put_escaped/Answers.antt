@@ -1,6 +1,5 @@
 -- `scan::output::put_escaped` meets its contract, byte by byte. Assumes nothing.
 use Rattle.scan.proofs.output.Buffers.{escaped_slash, escaped_mark, escaped_blank, escaped_other}
-use borrow.Author.Rules.{rules}
 use Rattle.scan.proofs.output.put_escaped.Goals as goal
 
 pub returns-in-92 : goal.returns-in-92

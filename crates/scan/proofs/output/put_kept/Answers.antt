@@ -1,7 +1,6 @@
 -- `scan::output::put_kept` meets its contract: one byte, and one more. Assumes nothing.
 use Rattle.scan.proofs.output.Buffers.{put_none, put_one}
 use native.Mathlib.Omega.{arith}
-use borrow.Author.Rules.{rules}
 use Rattle.scan.proofs.output.put_kept.Goals as goal
 
 pub returns : goal.returns

@@ -1,10 +1,6 @@
 -- `scan::output::write_back` meets its contract. The invariant: the first i bytes are written, with their escapes. Assumes nothing.
-use borrow.Author.Rules.{rules}
 use Rattle.scan.proofs.output.Buffers.{put_none, back_again, back_full, back_whole}
-use Rattle.scan.specs.Output.Writes.{Put}
 use Rattle.rules.specs.Escapes.{escaped}
-use lib.ListN.{length, take}
-use Prim.Native.Nat.{◌-◌, ◌≤◌}
 use native.Mathlib.Omega.{arith}
 use Rattle.scan.proofs.output.write_back.Goals as goal
 

@@ -1,10 +1,7 @@
-use borrow.Author.Rules.{rules}
-use Rattle.scan.proofs.output.Buffers.{put_none, back_again, back_full, back_whole}
 use Rattle.scan.specs.Output.Writes.{Put}
 use Rattle.rules.specs.Escapes.{escaped}
 use lib.ListN.{length, take}
 use Prim.Native.Nat.{◌-◌, ◌≤◌}
-use native.Mathlib.Omega.{arith}
 use Rattle.scan.proofs.output.write_back.Given as goal
 
 abbrev pub invariant-loop-i : goal.invariant-loop-i

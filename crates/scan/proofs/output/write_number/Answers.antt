@@ -3,10 +3,8 @@ use Rattle.scan.proofs.output.Decimals.{plain_bytes, signed_bytes}
 use mir.Facts.{to_z-of_z}
 use lib.IntN.{ℤ, nat_abs}
 use lib.ListN.{length-set}
-use Prim.Native.Nat.{◌-◌}
 use mathlib.Core.Path.{◌≡◌, ◌∙◌, ap}
 use native.Mathlib.Omega.{arith}
-use borrow.Author.Rules.{rules}
 use Rattle.scan.proofs.output.write_number.Goals as goal
 use Rattle.scan.proofs.output.write_number.Goals.{After-magnitude}
 

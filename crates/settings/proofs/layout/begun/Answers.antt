@@ -1,5 +1,4 @@
 -- `settings::layout::begun` meets its contract. Assumes nothing.
-use borrow.Author.Rules.{rules}
 use Rattle.settings.specs.Layout.Layouts.{layout_of}
 use Rattle.settings.specs.Layout.LayoutLaws.{begun_limits}
 use Rattle.settings.proofs.layout.Layouts.{laid}

@@ -1,6 +1,5 @@
 -- `settings::layout::counted` meets its contract. Assumes nothing.
 use mathlib.Core.Path.{ap, ◌∙◌}
-use borrow.Author.Rules.{rules}
 use Prim.Native.Nat.{◌-◌}
 use Rattle.rules.specs.LayoutSetters.{with_centred}
 use Rattle.settings.specs.Layout.Layouts.{layout_of}

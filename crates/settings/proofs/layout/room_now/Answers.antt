@@ -1,7 +1,6 @@
 -- `settings::layout::room_now` meets its contract: the difference is cut at 0. Assumes nothing.
 use mathlib.Core.Path.{ap}
 use native.Mathlib.Omega.{arith}
-use borrow.Author.Rules.{rules}
 use Rattle.measure.specs.Counts.{across_of}
 use Rattle.settings.proofs.layout.room_now.Goals as goal
 

@@ -1,6 +1,5 @@
 -- `settings::layout::set_length` meets its contract. Assumes nothing.
 use mathlib.Core.Path.{ap, ◌∙◌}
-use borrow.Author.Rules.{rules}
 use Rattle.rules.specs.Refusals.{value}
 use Rattle.settings.specs.Lengths.Views.{range_of}
 use Rattle.settings.specs.Layout.Layouts.{printer_of, layout_of, length_of, with_length}

@@ -1,7 +1,6 @@
 -- `settings::layout::spacing` meets its contract. Assumes nothing.
 use mathlib.Core.Path.{◌∙◌}
 use native.Mathlib.Omega.{arith}
-use borrow.Author.Rules.{rules}
 use Rattle.settings.specs.Layout.Layouts.{printer_of}
 use Rattle.settings.proofs.layout.Layouts.{space_none, space_some}
 use Rattle.settings.proofs.layout.spacing.Goals as goal

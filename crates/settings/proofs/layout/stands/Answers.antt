@@ -1,5 +1,4 @@
 -- `settings::layout::stands` meets its contract. Assumes nothing.
-use borrow.Author.Rules.{rules}
 use Rattle.settings.proofs.layout.stands.Goals as goal
 
 pub returns-then-layout : goal.returns-then-layout

@@ -1,7 +1,6 @@
 -- `settings::layout::ten_to_the_inch` meets its contract. Assumes nothing.
 use mathlib.Core.Path.{refl}
 use native.Mathlib.Omega.{arith}
-use borrow.Author.Rules.{rules}
 use Rattle.settings.proofs.layout.ten_to_the_inch.Goals as goal
 
 pub returns : goal.returns

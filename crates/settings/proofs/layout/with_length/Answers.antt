@@ -1,6 +1,5 @@
 -- `settings::layout::with_length` meets its contract. Assumes nothing.
 use mathlib.Core.Path.{refl}
-use borrow.Author.Rules.{rules}
 use Rattle.settings.proofs.layout.with_length.Goals as goal
 
 pub returns-in-Line : goal.returns-in-Line

@@ -2,7 +2,6 @@
 use native.Mathlib.Omega.{arith}
 use mir.Syntax.{w64}
 use mir.Facts.{to_z-of_z, to_z_pos, sfits_widen}
-use borrow.Author.Rules.{rules}
 use Rattle.measure.proofs.Signed.{widened}
 use Rattle.settings.proofs.lengths.Ranges.{sum_fits}
 use Rattle.settings.proofs.lengths.changed.Goals as goal

@@ -1,9 +1,9 @@
 -- `settings::lengths::count_from` meets its contract. Assumes nothing.
 use mir.Syntax.{w64}
-use mathlib.Core.Path.{◌≡◌, ap, ◌∙◌}
+use mathlib.Core.Path.{ap, ◌∙◌}
 use mathlib.Core.Bool.{Bool}
 use mir.Facts.{to_z-of_z}
-use borrow.Author.Rules.{rules, sfits_of}
+use borrow.Author.Rules.{sfits_of}
 use Rattle.rules.specs.Settings.{changed, in_range}
 use Rattle.settings.proofs.lengths.count_from.Goals as goal
 

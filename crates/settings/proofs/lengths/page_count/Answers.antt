@@ -1,7 +1,6 @@
 -- `settings::lengths::page_count` meets its contract. Assumes nothing.
 use mathlib.Core.Path.{ap, ◌∙◌}
 use Prim.Native.Nat.{ℕ}
-use borrow.Author.Rules.{rules}
 use mir.Facts.{to_z-of_z}
 use Rattle.rules.specs.Settings.{page_range}
 use Rattle.settings.proofs.lengths.page_count.Goals as goal

@@ -2,7 +2,7 @@
 use mir.Syntax.{w64}
 use mathlib.Core.Path.{ap, ◌∙◌}
 use mathlib.Core.Bool.{Bool}
-use borrow.Author.Rules.{rules, sfits_of}
+use borrow.Author.Rules.{sfits_of}
 use mir.Facts.{to_z-of_z}
 use Rattle.rules.specs.Settings.{changed, page_range}
 use Rattle.settings.proofs.lengths.page_within.Goals as goal

@@ -1,9 +1,9 @@
 -- `settings::lengths::set` meets its contract: the cases of the rules' setting, by what the calls gave. Assumes nothing.
 use mir.Syntax.{w32}
-use mathlib.Core.Path.{◌≡◌, ap, ◌∙◌}
+use mathlib.Core.Path.{ap, ◌∙◌}
 use native.Mathlib.Omega.{arith}
 use Prim.Native.Nat.{ℕ}
-use borrow.Author.Rules.{rules, sfits_of}
+use borrow.Author.Rules.{sfits_of}
 use mir.Facts.{to_z-of_z}
 use Rattle.measure.specs.declared.Cells.{Cells}
 use Rattle.rules.specs.Refusals.{value}

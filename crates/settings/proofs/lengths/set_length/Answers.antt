@@ -1,5 +1,4 @@
 -- `settings::lengths::set_length` meets its contract. Assumes nothing.
-use borrow.Author.Rules.{rules}
 use Rattle.settings.proofs.lengths.set_length.Goals as goal
 
 pub returns-in-Line : goal.returns-in-Line

@@ -3,7 +3,7 @@ use mir.Syntax.{w32}
 use mathlib.Core.Path.{ap, ◌∙◌}
 use Prim.Native.Nat.{ℕ}
 use native.Mathlib.Omega.{arith}
-use borrow.Author.Rules.{rules, sfits_of}
+use borrow.Author.Rules.{sfits_of}
 use lib.IntN.{ℤ}
 use mir.Facts.{to_z-of_z}
 use Rattle.rules.specs.Refusals.{Judged, value, ◌>>=◌}

@@ -1,6 +1,5 @@
 -- `settings::line_settings::set_line` meets its contract. Assumes nothing.
 use mathlib.Core.Path.{ap}
-use borrow.Author.Rules.{rules}
 use Rattle.rules.specs.Refusals.{value}
 use Rattle.settings.proofs.layout.Layouts.{line_set}
 use Rattle.settings.proofs.line_settings.set_line.Goals as goal

@@ -3,7 +3,6 @@ use mathlib.Core.Path.{ap, ◌∙◌}
 use mathlib.Core.Option.{some}
 use Prim.Native.Nat.{ℕ}
 use native.Mathlib.Omega.{arith}
-use borrow.Author.Rules.{rules}
 use Rattle.rules.specs.Refusals.{Judged, value, ◌>>=◌}
 use Rattle.rules.specs.LayoutSetters.{with_total}
 use Rattle.settings.specs.Lengths.ViewLaws.{total_is}

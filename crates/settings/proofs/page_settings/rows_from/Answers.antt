@@ -1,6 +1,5 @@
 -- `settings::page_settings::rows_from` meets its contract. Assumes nothing.
 use mathlib.Core.Path.{ap, ◌∙◌}
-use borrow.Author.Rules.{rules}
 use Rattle.measure.specs.declared.Rows.{Rows}
 use Rattle.measure.specs.Counts.{down_of}
 use Rattle.rules.specs.Refusals.{value}

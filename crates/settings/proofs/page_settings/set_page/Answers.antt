@@ -1,6 +1,5 @@
 -- `settings::page_settings::set_page` meets its contract. Assumes nothing.
 use mathlib.Core.Path.{ap}
-use borrow.Author.Rules.{rules}
 use Rattle.measure.specs.Counts.{down_of}
 use Rattle.rules.specs.Refusals.{value}
 use Rattle.settings.proofs.layout.Layouts.{page_set}

@@ -1,7 +1,6 @@
 -- `settings::page_settings::set_page_length` meets its contract. Assumes nothing.
 use mathlib.Core.Path.{ap}
 use Prim.Native.Nat.{ℕ}
-use borrow.Author.Rules.{rules}
 use Rattle.rules.specs.Refusals.{Judged, value, ◌>>=◌}
 use Rattle.rules.specs.LayoutSetters.{with_page_length}
 use Rattle.settings.specs.Layout.Layouts.{layout_of}

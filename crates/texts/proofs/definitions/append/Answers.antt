@@ -1,6 +1,5 @@
 -- `texts::definitions::append` meets its contract. Assumes nothing.
 use Rattle.texts.proofs.definitions.EntryLaws.{appended}
-use borrow.Author.Rules.{rules}
 use Rattle.texts.proofs.definitions.append.Goals as goal
 
 pub returns : goal.returns

@@ -1,6 +1,5 @@
 -- `texts::definitions::close_macro` meets its contract. Assumes nothing.
 use Rattle.texts.proofs.definitions.EntryLaws.{closed_macro}
-use borrow.Author.Rules.{rules}
 use Rattle.texts.proofs.definitions.close_macro.Goals as goal
 
 pub returns : goal.returns

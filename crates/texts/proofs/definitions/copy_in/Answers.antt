@@ -1,5 +1,4 @@
 -- `texts::definitions::copy_in` meets its contract. The invariant: j bytes are copied. Assumes nothing.
-use Prim.Native.Nat.{◌≤◌, ◌-◌}
 use mathlib.Core.Path.{◌≡◌, refl, ap, ◌∙◌}
 use native.Mathlib.Omega.{arith}
 use lib.ListN.{length, length-set}

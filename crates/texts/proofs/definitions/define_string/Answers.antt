@@ -13,7 +13,6 @@ use Rattle.texts.specs.Table.Changes.{room_of}
 use Rattle.texts.proofs.table.Laws.{found_row}
 use Rattle.texts.proofs.table.Lists.{sum_step, sum_mono}
 use Rattle.texts.proofs.definitions.EntryLaws.{room_small, define_65, define_past, define_new, define_over_room, define_old}
-use borrow.Author.Rules.{rules}
 use Rattle.texts.proofs.definitions.define_string.Goals as goal
 use Rattle.texts.proofs.definitions.define_string.Goals.{After-too_long, After-too_long-in-Not, In-At, In-Not}
 

@@ -9,7 +9,6 @@ use borrow.Author.Tests.{ltb-true, ltb-false}
 use Rattle.texts.specs.Table.Table.{total_length}
 use Rattle.texts.specs.Table.Changes.{room_of}
 use Rattle.texts.proofs.definitions.EntryLaws.{room_small, keep_refused, kept_line}
-use borrow.Author.Rules.{rules}
 use Rattle.texts.proofs.definitions.keep_line.Goals as goal
 use Rattle.texts.proofs.definitions.keep_line.Goals.{After-too_long}
 

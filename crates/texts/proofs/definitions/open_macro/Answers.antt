@@ -8,7 +8,6 @@ use Rattle.texts.specs.Table.Places.{text_place}
 use mathlib.Core.List.{[]}
 use Rattle.texts.proofs.table.Laws.{found_row}
 use Rattle.texts.proofs.definitions.EntryLaws.{open_old, open_new, open_65}
-use borrow.Author.Rules.{rules}
 use Rattle.texts.proofs.definitions.open_macro.Goals as goal
 use Rattle.texts.proofs.definitions.open_macro.Goals.{In-At, In-Not}
 

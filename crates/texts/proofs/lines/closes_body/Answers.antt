@@ -1,7 +1,6 @@
 -- `texts::lines::closes_body` meets its contract. Assumes nothing.
 use mathlib.Core.Path.{◌∙◌}
 use Rattle.texts.proofs.lines.LineLaws.{closing}
-use borrow.Author.Rules.{rules}
 use Rattle.texts.proofs.lines.closes_body.Goals as goal
 
 pub returns : goal.returns

@@ -5,7 +5,6 @@ use native.Mathlib.Omega.{arith}
 use lib.ListN.{length}
 use Rattle.texts.specs.Lines.Lines.{first_line}
 use Rattle.texts.proofs.lines.LineLaws.{line_front}
-use borrow.Author.Rules.{rules}
 use Rattle.texts.proofs.lines.first_line.Goals as goal
 
 pub returns : goal.returns

@@ -2,7 +2,6 @@
 use lib.ListN.{get_or}
 use borrow.Author.Tests.{eq-eqb, ne_eqb}
 use Rattle.texts.proofs.lines.LineLaws.{pair_two, pair_other}
-use borrow.Author.Rules.{rules}
 use Rattle.texts.proofs.lines.is_pair.Goals as goal
 
 pub returns-then-line-pair : goal.returns-then-line-pair

@@ -1,5 +1,4 @@
 -- `texts::lines::line_end` meets its contract. The invariant: the first line has i bytes more than the one that begins at i. Assumes nothing.
-use Prim.Native.Nat.{◌≤◌, ◌+◌, ◌-◌}
 use mathlib.Core.Path.{◌≡◌}
 use native.Mathlib.Omega.{arith}
 use lib.ListN.{length, drop}

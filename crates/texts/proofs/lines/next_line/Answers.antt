@@ -3,7 +3,6 @@ use Prim.Native.Nat.{ℕ}
 use mathlib.Core.Path.{ap}
 use native.Mathlib.Nat.{sub-zero}
 use lib.ListN.{take}
-use borrow.Author.Rules.{rules}
 use Rattle.texts.proofs.lines.next_line.Goals as goal
 
 pub slice_bounds-result-end : goal.slice_bounds-result-end

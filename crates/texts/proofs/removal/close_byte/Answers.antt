@@ -1,9 +1,7 @@
 -- `texts::removal::close_byte` meets its contract. The invariant: the rows behind i are still to move up. Assumes nothing.
-use Prim.Native.Nat.{◌≤◌, ◌-◌}
-use mathlib.Core.Path.{◌≡◌, refl, sym, ◌∙◌}
+use mathlib.Core.Path.{refl, sym, ◌∙◌}
 use native.Mathlib.Omega.{arith}
-use lib.ListN.{length, length-set}
-use Rattle.texts.specs.Table.Changes.{closed_up}
+use lib.ListN.{length-set}
 use Rattle.texts.proofs.table.Lists.{closed_step, closed_done}
 use Rattle.texts.proofs.removal.close_byte.Goals as goal
 

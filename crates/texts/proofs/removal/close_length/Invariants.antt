@@ -1,9 +1,7 @@
 use Prim.Native.Nat.{◌≤◌, ◌-◌}
-use mathlib.Core.Path.{◌≡◌, refl, sym, ◌∙◌}
-use native.Mathlib.Omega.{arith}
-use lib.ListN.{length, length-set}
+use mathlib.Core.Path.{◌≡◌}
+use lib.ListN.{length}
 use Rattle.texts.specs.Table.Changes.{closed_up}
-use Rattle.texts.proofs.table.Lists.{closed_step, closed_done}
 use Rattle.texts.proofs.removal.close_length.Given as goal
 
 abbrev pub invariant-loop-i : goal.invariant-loop-i

@@ -1,8 +1,8 @@
 -- `texts::removal::move_down` meets its contract. The invariant: j bytes have moved. Assumes nothing.
-use Prim.Native.Nat.{◌≤◌, ◌-◌}
+use Prim.Native.Nat.{◌-◌}
 use mathlib.Core.Path.{◌≡◌, refl, ap, ◌∙◌}
 use native.Mathlib.Omega.{arith}
-use lib.ListN.{length, drop, length-set}
+use lib.ListN.{drop, length-set}
 use lib.Seq.{paste, paste-zero}
 use Rattle.texts.proofs.table.Lists.{move_step}
 use Rattle.texts.proofs.removal.move_down.Goals as goal

@@ -7,7 +7,6 @@ use Rattle.texts.specs.Table.Table.{names_of}
 use Rattle.texts.specs.Table.Places.{text_place}
 use Rattle.texts.proofs.table.Laws.{found_row}
 use Rattle.texts.proofs.table.ChangeLaws.{remove_found, remove_not}
-use borrow.Author.Rules.{rules}
 use Rattle.texts.proofs.removal.remove.Goals as goal
 use Rattle.texts.proofs.removal.remove.Goals.{In-At}
 

@@ -4,7 +4,6 @@ use native.Mathlib.Omega.{arith}
 use lib.ListN.{length, take}
 use Rattle.texts.specs.Table.Table.{total_length}
 use Rattle.texts.proofs.table.ChangeLaws.{starts_rise, taken_out}
-use borrow.Author.Rules.{rules}
 use Rattle.texts.proofs.removal.take_out.Goals as goal
 use Rattle.texts.proofs.removal.take_out.Goals.{Start}
 

@@ -1,11 +1,7 @@
 -- `texts::table::is_table` meets its contract. The invariant: the room is the sum of the first i lengths and what is left. Assumes nothing.
-use Prim.Native.Nat.{◌≤◌, ◌+◌, ◌-◌}
-use mathlib.Core.Path.{◌≡◌, sym}
+use mathlib.Core.Path.{sym}
 use native.Mathlib.Omega.{arith}
-use lib.ListN.{take}
-use borrow.Author.Rules.{rules}
 use Rattle.texts.specs.Table.Table.{total_length}
-use Rattle.texts.specs.Table.Changes.{room_of}
 use Rattle.texts.proofs.table.Lists.{sum_step}
 use Rattle.texts.proofs.table.CheckLaws.{table_many, table_over, table_fits}
 use Rattle.texts.proofs.table.is_table.Goals as goal

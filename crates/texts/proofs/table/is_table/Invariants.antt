@@ -1,12 +1,8 @@
 use Prim.Native.Nat.{◌≤◌, ◌+◌, ◌-◌}
-use mathlib.Core.Path.{◌≡◌, sym}
-use native.Mathlib.Omega.{arith}
+use mathlib.Core.Path.{◌≡◌}
 use lib.ListN.{take}
-use borrow.Author.Rules.{rules}
 use Rattle.texts.specs.Table.Table.{total_length}
 use Rattle.texts.specs.Table.Changes.{room_of}
-use Rattle.texts.proofs.table.Lists.{sum_step}
-use Rattle.texts.proofs.table.CheckLaws.{table_many, table_over, table_fits}
 use Rattle.texts.proofs.table.is_table.Given as goal
 
 abbrev pub invariant-loop-i : goal.invariant-loop-i

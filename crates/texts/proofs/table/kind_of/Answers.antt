@@ -1,5 +1,4 @@
 -- `texts::table::kind_of` meets its contract. Assumes nothing.
-use borrow.Author.Rules.{rules}
 use Rattle.texts.proofs.table.Laws.{kind_string}
 use Rattle.texts.proofs.table.kind_of.Goals as goal
 

@@ -1,15 +1,12 @@
 -- `texts::table::lacks_name` meets its contract. The invariant: the rows from the place on lack the name if those from i on do. Assumes nothing.
-use Prim.Native.Nat.{◌≤◌, ◌-◌}
 use mathlib.Core.Bool.{Bool, true, false}
 use mathlib.Core.Path.{◌≡◌, refl, sym, ◌∙◌}
 use mathlib.Core.List.{List}
 use native.Mathlib.Omega.{arith}
-use lib.ListN.{length, drop, get_or}
-use borrow.Author.Rules.{rules}
+use lib.ListN.{length, get_or}
 use Rattle.rules.specs.declared.Name.{Name}
 use Rattle.rules.specs.Names.{two_bytes, same_name}
 use Rattle.texts.specs.Table.Table.{names_of}
-use Rattle.texts.specs.Table.Checks.{lacks_name}
 use Rattle.texts.proofs.table.Laws.{names_of_length, row_same}
 use Rattle.texts.proofs.table.CheckLaws.{lacks_here, lacks_on, lacks_end}
 use Rattle.texts.proofs.table.lacks_name.Goals as goal

@@ -1,16 +1,8 @@
-use Prim.Native.Nat.{◌≤◌, ◌-◌}
-use mathlib.Core.Bool.{Bool, true, false}
-use mathlib.Core.Path.{◌≡◌, refl, sym, ◌∙◌}
-use mathlib.Core.List.{List}
-use native.Mathlib.Omega.{arith}
-use lib.ListN.{length, drop, get_or}
-use borrow.Author.Rules.{rules}
-use Rattle.rules.specs.declared.Name.{Name}
-use Rattle.rules.specs.Names.{two_bytes, same_name}
+use Prim.Native.Nat.{◌-◌}
+use mathlib.Core.Path.{◌≡◌}
+use lib.ListN.{drop}
 use Rattle.texts.specs.Table.Table.{names_of}
 use Rattle.texts.specs.Table.Checks.{lacks_name}
-use Rattle.texts.proofs.table.Laws.{names_of_length, row_same}
-use Rattle.texts.proofs.table.CheckLaws.{lacks_here, lacks_on, lacks_end}
 use Rattle.texts.proofs.table.lacks_name.Given as goal
 
 abbrev pub invariant-loop-i : goal.invariant-loop-i

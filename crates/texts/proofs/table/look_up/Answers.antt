@@ -3,7 +3,6 @@ use Prim.Native.Nat.{◌≤◌, ◌<◌, ◌+◌}
 use mathlib.Core.Path.{◌≡◌, sym, ◌∙◌}
 use native.Mathlib.Omega.{arith}
 use lib.ListN.{length, take, get_or}
-use borrow.Author.Rules.{rules}
 use Rattle.texts.specs.declared.table.TextPlace.TheVariants.{At}
 use Rattle.texts.specs.Table.Table.{names_of, total_length}
 use Rattle.texts.specs.Table.Places.{text_place}

@@ -1,5 +1,5 @@
 -- `texts::table::no_name_twice` meets its contract. The invariant: the names are distinct if those from i on are. Assumes nothing.
-use Prim.Native.Nat.{◌≤◌, ◌+◌, ◌-◌}
+use Prim.Native.Nat.{◌+◌}
 use mathlib.Core.Bool.{Bool, true, false}
 use mathlib.Core.Path.{◌≡◌, sym, ap, ◌∙◌}
 use mathlib.Core.List.{List}
@@ -8,7 +8,7 @@ use lib.ListN.{length, drop, get_or}
 use Rattle.rules.specs.declared.Name.{Name}
 use Rattle.rules.specs.Names.{two_bytes}
 use Rattle.texts.specs.Table.Table.{Names, names_of}
-use Rattle.texts.specs.Table.Checks.{lacks_name, all_distinct, no_name_twice}
+use Rattle.texts.specs.Table.Checks.{lacks_name}
 use Rattle.texts.proofs.table.Laws.{names_of_length, names_of_at}
 use Rattle.texts.proofs.table.CheckLaws.{distinct_on, distinct_stop, distinct_end, names_of_lem, twice_many, twice_few}
 use Rattle.texts.proofs.table.no_name_twice.Goals as goal

@@ -1,5 +1,4 @@
 -- `texts::table::same_at` meets its contract, byte by byte. Assumes nothing.
-use borrow.Author.Rules.{rules}
 use lib.ListN.{get_or}
 use Rattle.texts.proofs.table.Laws.{same_second, other_first}
 use Rattle.texts.proofs.table.same_at.Goals as goal

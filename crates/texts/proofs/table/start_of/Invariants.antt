@@ -1,10 +1,7 @@
-use Prim.Native.Nat.{ℕ, ◌≤◌, ◌+◌, ◌-◌}
-use mathlib.Core.Path.{◌≡◌, refl, ap, ◌∙◌}
-use native.Mathlib.Omega.{arith}
-use lib.ListN.{take, get_or}
-use borrow.Author.Rules.{rules}
+use Prim.Native.Nat.{◌≤◌, ◌-◌}
+use mathlib.Core.Path.{◌≡◌}
+use lib.ListN.{take}
 use Rattle.texts.specs.Table.Table.{total_length}
-use Rattle.texts.proofs.table.Lists.{sum_step, sum_mono}
 use Rattle.texts.proofs.table.start_of.Given as goal
 
 abbrev pub invariant-loop-i : goal.invariant-loop-i

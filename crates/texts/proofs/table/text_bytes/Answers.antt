@@ -3,7 +3,6 @@ use Prim.Native.Nat.{◌≤◌, ◌+◌, ◌-◌}
 use mathlib.Core.Path.{◌≡◌, ap}
 use native.Mathlib.Omega.{arith}
 use lib.ListN.{length}
-use borrow.Author.Rules.{rules}
 use Rattle.texts.specs.Table.Places.{bytes_or}
 use Rattle.texts.proofs.table.text_bytes.Goals as goal
 use Rattle.texts.proofs.table.text_bytes.Goals.{In-There}

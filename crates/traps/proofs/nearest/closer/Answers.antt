@@ -1,6 +1,5 @@
 -- `traps::nearest::closer` meets its contract. Assumes nothing.
 use mathlib.Core.Path.{◌≡◌}
-use borrow.Author.Rules.{rules}
 use borrow.Author.Tests.{lt-ltb, le-ltb}
 use Rattle.rules.specs.Traps.{row_of}
 use Rattle.traps.specs.declared.nearest.TrapRow.{TrapRow}

@@ -1,5 +1,5 @@
 -- `traps::nearest::nearest_of` meets its contract: the nearest row with the traps that are left is that of the whole. Assumes nothing.
-use Rattle.std.proofs.Common.{◌≡◌, ◌≤◌, ◌<◌, ◌+◌, ℕ, List, length, drop, get_or, sym, ◌∙◌, ap, arith}
+use Rattle.std.proofs.Common.{◌≡◌, ◌≤◌, ◌<◌, ◌+◌, ℕ, List, length, drop, get_or, sym, ◌∙◌, arith}
 use lib.Seq.{take-length}
 use Rattle.rules.specs.declared.Trap.{Trap}
 use Rattle.rules.specs.Traps.{row_of, nearer, nearest_trap}

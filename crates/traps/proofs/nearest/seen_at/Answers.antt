@@ -4,7 +4,6 @@ use Prim.Native.Nat.{ℕ}
 use Rattle.measure.specs.Counts.{down_of}
 use Rattle.rules.specs.Traps.{seen_at}
 use Rattle.traps.specs.Table.Table.{planted_of}
-use borrow.Author.Rules.{rules}
 use Rattle.traps.proofs.nearest.seen_at.Goals as goal
 
 pub returns : goal.returns

@@ -1,12 +1,10 @@
 -- `traps::nearest::seen_in` meets its contract: no trap passed stands at the row. Assumes nothing.
-use Prim.Native.Nat.{◌≤◌, ◌-◌}
 use mathlib.Core.Path.{◌≡◌, sym, ◌∙◌}
 use native.Mathlib.Omega.{arith}
-use lib.ListN.{length, take, drop}
+use lib.ListN.{length}
 use borrow.Author.Rules.{rules}
-use Rattle.rules.specs.Traps.{seen_at}
 use Rattle.traps.specs.Table.TableLaws.{seen_here, seen_on, seen_end}
-use Rattle.traps.proofs.table.Places.{sized, blank}
+use Rattle.traps.proofs.table.Places.{blank}
 use Rattle.traps.proofs.nearest.seen_in.Goals as goal
 use Rattle.traps.proofs.nearest.seen_in.Goals.{Start}
 

@@ -1,11 +1,7 @@
 use Prim.Native.Nat.{◌≤◌, ◌-◌}
-use mathlib.Core.Path.{◌≡◌, sym, ◌∙◌}
-use native.Mathlib.Omega.{arith}
-use lib.ListN.{length, take, drop}
-use borrow.Author.Rules.{rules}
+use mathlib.Core.Path.{◌≡◌}
+use lib.ListN.{take, drop}
 use Rattle.rules.specs.Traps.{seen_at}
-use Rattle.traps.specs.Table.TableLaws.{seen_here, seen_on, seen_end}
-use Rattle.traps.proofs.table.Places.{sized, blank}
 use Rattle.traps.proofs.nearest.seen_in.Given as goal
 
 abbrev pub invariant-loop-i : goal.invariant-loop-i

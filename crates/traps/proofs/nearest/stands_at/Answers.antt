@@ -1,6 +1,5 @@
 -- `traps::nearest::stands_at` meets its contract. Assumes nothing.
 use mathlib.Core.Path.{◌≡◌}
-use borrow.Author.Rules.{rules}
 use Rattle.rules.specs.Traps.{row_of}
 use Rattle.traps.specs.declared.nearest.TrapRow.{TrapRow}
 use Rattle.traps.specs.Table.Table.{row_is}

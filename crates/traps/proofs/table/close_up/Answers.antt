@@ -1,12 +1,12 @@
 -- `traps::table::close_up` meets its contract: j traps are at their new places. Assumes nothing.
-use Prim.Native.Nat.{◌+◌, ◌-◌, ◌≤◌}
+use Prim.Native.Nat.{◌+◌, ◌-◌}
 use mathlib.Core.Path.{◌≡◌}
 use native.Mathlib.Omega.{arith}
 use lib.ListN.{length, drop}
-use lib.Seq.{paste, paste-zero}
+use lib.Seq.{paste-zero}
 use borrow.Author.Rules.{rules}
 use Rattle.traps.specs.Table.TableLaws.{close_none, close_on, close_next}
-use Rattle.traps.proofs.table.Places.{sized, blank}
+use Rattle.traps.proofs.table.Places.{blank}
 use Rattle.traps.proofs.table.close_up.Goals as goal
 use Rattle.traps.proofs.table.close_up.Goals.{Start}
 

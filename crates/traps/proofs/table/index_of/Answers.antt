@@ -1,12 +1,10 @@
 -- `traps::table::index_of` meets its contract: no trap passed has the place. Assumes nothing.
-use Prim.Native.Nat.{◌+◌, ◌≤◌, ◌-◌}
 use mathlib.Core.Path.{◌≡◌, sym, ◌∙◌}
 use native.Mathlib.Omega.{arith}
-use lib.ListN.{length, take, drop, get_or}
+use lib.ListN.{length, get_or}
 use borrow.Author.Rules.{sfits_of, rules}
-use Rattle.traps.specs.Table.Table.{index_of}
 use Rattle.traps.specs.Table.TableLaws.{index_is, index_after, index_end}
-use Rattle.traps.proofs.table.Places.{sized, blank, same, differ}
+use Rattle.traps.proofs.table.Places.{blank, same, differ}
 use Rattle.traps.proofs.table.index_of.Goals as goal
 use Rattle.traps.proofs.table.index_of.Goals.{Start}
 

@@ -1,11 +1,7 @@
 use Prim.Native.Nat.{◌+◌, ◌≤◌, ◌-◌}
-use mathlib.Core.Path.{◌≡◌, sym, ◌∙◌}
-use native.Mathlib.Omega.{arith}
-use lib.ListN.{length, take, drop, get_or}
-use borrow.Author.Rules.{sfits_of, rules}
+use mathlib.Core.Path.{◌≡◌}
+use lib.ListN.{take, drop}
 use Rattle.traps.specs.Table.Table.{index_of}
-use Rattle.traps.specs.Table.TableLaws.{index_is, index_after, index_end}
-use Rattle.traps.proofs.table.Places.{sized, blank, same, differ}
 use Rattle.traps.proofs.table.index_of.Given as goal
 
 abbrev pub invariant-loop-i : goal.invariant-loop-i

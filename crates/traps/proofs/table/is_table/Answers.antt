@@ -1,11 +1,11 @@
 -- `traps::table::is_table` meets its contract. The invariant: no two traps have one place if no two of those from i on have. Assumes nothing.
-use Prim.Native.Nat.{◌≤◌, ◌+◌, ◌-◌}
+use Prim.Native.Nat.{◌+◌}
 use mathlib.Core.Path.{◌≡◌, sym, ◌∙◌}
 use mathlib.Core.Bool.{Bool, true, false}
 use native.Mathlib.Omega.{arith}
 use lib.ListN.{length, take, drop, get_or}
-use Rattle.traps.specs.Table.Checks.{lacks_place, single, is_trap_table}
-use Rattle.traps.proofs.table.Places.{sized, blank}
+use Rattle.traps.specs.Table.Checks.{lacks_place}
+use Rattle.traps.proofs.table.Places.{blank}
 use Rattle.traps.proofs.table.CheckLaws.{single_on, single_stop, single_end, table_many, table_few}
 use Rattle.traps.proofs.table.is_table.Goals as goal
 use Rattle.traps.proofs.table.is_table.Goals.{After-lacks_place, Start}

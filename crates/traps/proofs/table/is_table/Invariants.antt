@@ -1,11 +1,7 @@
-use Prim.Native.Nat.{◌≤◌, ◌+◌, ◌-◌}
-use mathlib.Core.Path.{◌≡◌, sym, ◌∙◌}
-use mathlib.Core.Bool.{Bool, true, false}
-use native.Mathlib.Omega.{arith}
-use lib.ListN.{length, take, drop, get_or}
-use Rattle.traps.specs.Table.Checks.{lacks_place, single, is_trap_table}
-use Rattle.traps.proofs.table.Places.{sized, blank}
-use Rattle.traps.proofs.table.CheckLaws.{single_on, single_stop, single_end, table_many, table_few}
+use Prim.Native.Nat.{◌≤◌, ◌-◌}
+use mathlib.Core.Path.{◌≡◌}
+use lib.ListN.{take, drop}
+use Rattle.traps.specs.Table.Checks.{single, is_trap_table}
 use Rattle.traps.proofs.table.is_table.Given as goal
 
 abbrev pub invariant-loop-i : goal.invariant-loop-i

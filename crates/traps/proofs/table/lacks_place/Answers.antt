@@ -1,11 +1,9 @@
 -- `traps::table::lacks_place` meets its contract: no trap passed has the place. Assumes nothing.
-use Prim.Native.Nat.{◌-◌}
 use mathlib.Core.Path.{◌≡◌, refl, sym, ◌∙◌}
 use native.Mathlib.Omega.{arith}
-use lib.ListN.{length, take, drop, get_or}
-use borrow.Author.Rules.{sfits_of, rules}
-use Rattle.traps.specs.Table.Checks.{lacks_place}
-use Rattle.traps.proofs.table.Places.{sized, blank, same, differ}
+use lib.ListN.{length, get_or}
+use borrow.Author.Rules.{sfits_of}
+use Rattle.traps.proofs.table.Places.{blank, same, differ}
 use Rattle.traps.proofs.table.CheckLaws.{lacks_here, lacks_on, lacks_end}
 use Rattle.traps.proofs.table.lacks_place.Goals as goal
 use Rattle.traps.proofs.table.lacks_place.Goals.{Start}

@@ -2,9 +2,7 @@
 use mathlib.Core.Path.{◌≡◌}
 use native.Mathlib.Omega.{arith}
 use lib.ListN.{length}
-use borrow.Author.Rules.{rules}
 use Rattle.traps.specs.Table.TableLaws.{plant_old, plant_last, plant_full}
-use Rattle.traps.proofs.table.Places.{sized}
 use Rattle.traps.proofs.table.plant.Goals as goal
 use Rattle.traps.proofs.table.plant.Goals.{Start}
 

@@ -1,6 +1,5 @@
 -- `traps::table::remove` meets its contract. Assumes nothing.
 use mathlib.Core.Path.{◌∙◌}
-use borrow.Author.Rules.{rules}
 use Rattle.traps.specs.Table.TableLaws.{remove_by}
 use Rattle.traps.proofs.table.remove.Goals as goal
 
