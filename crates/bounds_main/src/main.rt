@@ -7,10 +7,10 @@
 // newline, `{512 x}` stands for 512 times `x`, and `{9}` for the byte with the number 9.
 ghost use Rattle.std.specs.Prelude.{◌≡◌, ◌≤◌, length};
 
-use libc::{STDIN_FILENO, STDOUT_FILENO};
 use record::Record;
-use report::text;
+use report::{read_full, text};
 use rules::arrays::STORE_SIZE;
+use std::io;
 use stream::Answer;
 
 // The place for a document: each is shorter.
@@ -82,14 +82,12 @@ fn find(s: &[u8], from: usize, byte: u8) -> usize
     requires { from ≤ length s.now }
     ensures { (from ≤ result) × (result ≤ length s.now) }
 {
-    let mut i = from;
-    while i < s.len() {
+    for i in from..s.len() {
         if s[i] == byte {
             return i;
         }
-        i += 1;
     }
-    i
+    s.len()
 }
 
 // Puts a byte at a place; the place behind it. What does not fit is left out.
@@ -111,19 +109,15 @@ fn plain(byte: u8) -> u8 {
 
 fn put_all(text: &[u8], document: &mut [u8], from: usize) -> usize {
     let mut at = from;
-    let mut i = 0;
-    while i < text.len() {
-        at = put(document, at, plain(text[i]));
-        i += 1;
+    for byte in text {
+        at = put(document, at, plain(*byte));
     }
     at
 }
 
 fn repeat(text: &[u8], count: u64, document: &mut [u8], from: usize) -> usize {
     let mut at = from;
-    let mut left = count;
-    while left > 0 {
-        left -= 1;
+    for _ in 0..count {
         at = put_all(text, document, at);
     }
     at
@@ -145,16 +139,17 @@ fn digit(byte: u8) -> u64
 // The number at the start of a text. One that is larger than any count here is cut, so that no sum passes its type.
 fn number(s: &[u8]) -> NumberAt {
     let mut value: u64 = 0;
-    let mut i = 0;
-    while i < s.len() {
+    for i in 0..s.len() {
         let next = digit(s[i]);
         if next > 9 {
             return NumberAt { value, next: i };
         }
         value = (value % 100000000) * 10 + next;
-        i += 1;
     }
-    NumberAt { value, next: i }
+    NumberAt {
+        value,
+        next: s.len(),
+    }
 }
 
 // What stands between braces: a byte's number, or a count and a text.
@@ -196,10 +191,8 @@ fn wide(byte: u8) -> u64 {
 
 fn sum_of(before: u64, bytes: &[u8]) -> u64 {
     let mut sum = before;
-    let mut i = 0;
-    while i < bytes.len() {
-        sum = mixed(sum, wide(bytes[i]));
-        i += 1;
+    for byte in bytes {
+        sum = mixed(sum, wide(*byte));
     }
     sum
 }
@@ -242,11 +235,11 @@ fn noted(seen: Observed, answer: Answer, taken: usize, written: usize, pages: u6
     );
     Observed {
         answer,
-        taken: std::num::wrapping_add_usize(seen.taken, taken),
-        written: std::num::wrapping_add_usize(seen.written, written),
-        calls: std::num::wrapping_add_u64(seen.calls, 1),
-        input: std::num::wrapping_add_u64(seen.input, one_if(kind == 0)),
-        room: std::num::wrapping_add_u64(seen.room, one_if(kind == 1)),
+        taken: seen.taken.wrapping_add(taken),
+        written: seen.written.wrapping_add(written),
+        calls: seen.calls.wrapping_add(1),
+        input: seen.input.wrapping_add(one_if(kind == 0)),
+        room: seen.room.wrapping_add(one_if(kind == 1)),
         answers,
         pages,
     }
@@ -329,14 +322,12 @@ fn cut_call(
 }
 
 // Calls the session until it is closed, over a store whose first content is no text. A proved loop has to end: it counts its
-// turns down from a number that no run here uses up.
+// turns, up to a number that no run here uses up.
 fn run(document: &[u8], cut: CutSizes, pages: &mut [u8]) -> Observed {
     let mut store = [255u8; STORE_SIZE];
     let mut record = session::start();
     let mut seen = nothing_seen();
-    let mut turns: u64 = 10000000;
-    while turns > 0 {
-        turns -= 1;
+    for _ in 0..10000000u64 {
         let step = cut_call(record, &mut store, document, cut, &mut *pages, seen);
         record = step.record;
         seen = step.seen;
@@ -348,22 +339,22 @@ fn run(document: &[u8], cut: CutSizes, pages: &mut [u8]) -> Observed {
     seen
 }
 
-fn say(name: &[u8], value: u64) {
-    text(name);
-    io::print_decimal(STDOUT_FILENO, value);
+fn say(rt: &impl Print, name: &[u8], value: u64) -> io::Result<()> {
+    text(rt, name)?;
+    rt.print(value)
 }
 
-fn say_refused(number: u8, line: u32) {
-    say(b"refused ", number as u64);
-    say(b" at line ", line as u64);
+fn say_refused(rt: &impl Print, number: u8, line: u32) -> io::Result<()> {
+    say(rt, b"refused ", number as u64)?;
+    say(rt, b" at line ", line as u64)
 }
 
-fn say_answer(answer: Answer) {
+fn say_answer(rt: &impl Print, answer: Answer) -> io::Result<()> {
     match answer {
-        Answer::NeedsInput => text(b"needs input"),
-        Answer::NeedsRoom => text(b"needs room"),
-        Answer::Done => text(b"done"),
-        Answer::Refused(number, line) => say_refused(number, line),
+        Answer::NeedsInput => text(rt, b"needs input"),
+        Answer::NeedsRoom => text(rt, b"needs room"),
+        Answer::Done => text(rt, b"done"),
+        Answer::Refused(number, line) => say_refused(rt, number, line),
     }
 }
 
@@ -376,77 +367,79 @@ fn barred(byte: u8) -> u8 {
 }
 
 fn bar_newlines(pages: &mut [u8]) {
-    let mut i = 0;
-    while i < pages.len() {
-        let byte = barred(pages[i]);
-        put(&mut *pages, i, byte);
-        i += 1;
+    for byte in pages.iter_mut() {
+        *byte = barred(*byte);
     }
 }
 
 // The pages on one line, with a bar for each newline.
-fn say_pages(pages: &mut [u8]) {
+fn say_pages(rt: &impl Print, pages: &mut [u8]) -> io::Result<()> {
     bar_newlines(&mut *pages);
-    text(b"  ");
-    text(&*pages);
-    text(b"\n");
+    text(rt, b"  ")?;
+    text(rt, &*pages)?;
+    text(rt, b"\n")
 }
 
-fn say_seen(seen: Observed, pages: &mut [u8]) {
+fn say_seen(rt: &impl Print, seen: Observed, pages: &mut [u8]) -> io::Result<()> {
     let answer = seen.answer;
-    say_answer(answer);
-    say(b"; taken ", seen.taken as u64);
-    say(b", written ", seen.written as u64);
-    say(b"; calls ", seen.calls);
-    say(b", for input ", seen.input);
-    say(b", for room ", seen.room);
-    say(b", sum ", seen.answers);
-    text(b"\n");
+    say_answer(rt, answer)?;
+    say(rt, b"; taken ", seen.taken as u64)?;
+    say(rt, b", written ", seen.written as u64)?;
+    say(rt, b"; calls ", seen.calls)?;
+    say(rt, b", for input ", seen.input)?;
+    say(rt, b", for room ", seen.room)?;
+    say(rt, b", sum ", seen.answers)?;
+    text(rt, b"\n")?;
     let written = seen.written;
     if written > SHOWN {
-        say(b"  pages with sum ", seen.pages);
-        text(b"\n");
-        return;
+        say(rt, b"  pages with sum ", seen.pages)?;
+        return text(rt, b"\n");
     }
     if written == 0 {
-        return;
+        return Ok(());
     }
     let end = least(written, pages.len());
-    say_pages(&mut pages[..end]);
+    say_pages(rt, &mut pages[..end])
 }
 
 // A run in blocks and rooms of these lengths.
-fn cut_run(document: &[u8], block: usize, room: usize, next_room: usize, pages: &mut [u8]) {
-    say(b"blocks ", block as u64);
-    say(b", rooms ", room as u64);
-    say(b" ", next_room as u64);
-    text(b": ");
+fn cut_run(
+    rt: &impl Print,
+    document: &[u8],
+    block: usize,
+    room: usize,
+    next_room: usize,
+    pages: &mut [u8],
+) -> io::Result<()> {
+    say(rt, b"blocks ", block as u64)?;
+    say(rt, b", rooms ", room as u64)?;
+    say(rt, b" ", next_room as u64)?;
+    text(rt, b": ")?;
     let cut = CutSizes {
         block,
         room,
         next_room,
     };
     let seen = run(document, cut, &mut *pages);
-    say_seen(seen, pages);
+    say_seen(rt, seen, pages)
 }
 
 // A room of 0 alone never leads on, so it takes turns with another.
-fn runs(document: &[u8], pages: &mut [u8]) {
-    text(b"whole: ");
+fn runs(rt: &impl Print, document: &[u8], pages: &mut [u8]) -> io::Result<()> {
+    text(rt, b"whole: ")?;
     let cut = CutSizes {
         block: DOCUMENT,
         room: ROOM,
         next_room: ROOM,
     };
     let seen = run(document, cut, &mut *pages);
-    say_seen(seen, &mut *pages);
+    say_seen(rt, seen, &mut *pages)?;
     if document.len() > SMALL || seen.written > SHOWN {
-        cut_run(document, 509, 0, 4093, pages);
-        return;
+        return cut_run(rt, document, 509, 0, 4093, pages);
     }
-    cut_run(document, 1, 0, 1, &mut *pages);
-    cut_run(document, 3, 1, 1, &mut *pages);
-    cut_run(document, 7, 5, 5, pages);
+    cut_run(rt, document, 1, 0, 1, &mut *pages)?;
+    cut_run(rt, document, 3, 1, 1, &mut *pages)?;
+    cut_run(rt, document, 7, 5, 5, pages)
 }
 
 fn is_title(line: &[u8]) -> bool {
@@ -456,27 +449,26 @@ fn is_title(line: &[u8]) -> bool {
     line[0] == b'#'
 }
 
-fn answer(line: &[u8], document: &mut [u8], pages: &mut [u8]) {
+fn answer(rt: &impl Print, line: &[u8], document: &mut [u8], pages: &mut [u8]) -> io::Result<()> {
     if is_title(line) {
-        text(line);
-        text(b"\n");
-        return;
+        text(rt, line)?;
+        return text(rt, b"\n");
     }
     let length = decode(line, &mut *document);
     if length >= document.len() {
-        text(b"too long\n");
-        return;
+        return text(rt, b"too long\n");
     }
-    runs(&document[..length], pages);
+    runs(rt, &document[..length], pages)
 }
 
-fn answer_all(s: &[u8], document: &mut [u8], pages: &mut [u8]) {
+fn answer_all(rt: &impl Print, s: &[u8], document: &mut [u8], pages: &mut [u8]) -> io::Result<()> {
     let mut from: usize = 0;
     while from < s.len() {
         let end = find(s, from, 10);
-        answer(&s[from..end], &mut *document, &mut *pages);
+        answer(rt, &s[from..end], &mut *document, &mut *pages)?;
         from = end + 1;
     }
+    Ok(())
 }
 
 fn document_buffer() -> [u8; DOCUMENT]
@@ -485,10 +477,10 @@ fn document_buffer() -> [u8; DOCUMENT]
     [0u8; DOCUMENT]
 }
 
-fn main() {
-    let mut lines = io::large_buffer();
-    let count = io::read_full(STDIN_FILENO, &mut lines);
+fn main(rt: HostRuntime) -> io::Result<()> {
+    let mut lines = [0u8; 65536];
+    let count = read_full(&mut rt.stdin(), &mut lines)?;
     let mut document = document_buffer();
-    let mut pages = io::large_buffer();
-    answer_all(&lines[..count], &mut document, &mut pages);
+    let mut pages = [0u8; 65536];
+    answer_all(&rt, &lines[..count], &mut document, &mut pages)
 }

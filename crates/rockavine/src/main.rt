@@ -1,9 +1,15 @@
 #![tactic(auto)]
 
 // Formats a file, or standard input, and writes the pages as they come. It holds no rule: it lends memory and calls the session.
-use libc::{STDERR_FILENO, STDIN_FILENO, STDOUT_FILENO};
+ghost use Rattle.std.specs.Prelude.{◌≡◌, ◌+◌, drop, min};
+ghost use Rattle.std.specs.Io.{StartsWith};
+
 use record::Record;
 use rules::arrays::STORE_SIZE;
+use std::env::FillError;
+use std::io::Read;
+use std::rt::{Env, Files};
+use std::{fs, io};
 use stream::Answer;
 
 // The record after a block, and whether the session goes on.
@@ -13,40 +19,62 @@ struct Fed {
     going: bool,
 }
 
-fn say(text: &[u8]) {
-    io::write_all(STDERR_FILENO, text);
+// A message that standard error does not take is lost: there is no other place for it.
+fn say(rt: &impl Eprint, text: &str) {
+    let _ = rt.eprint(text);
 }
 
-// A phrase for each refusal.
-fn say_why(number: u8) {
-    match number {
-        1 => say(b"damaged record or store"),
-        2 => say(b"byte not allowed in the source"),
-        3 => say(b"line too long"),
-        4 => say(b"strings nested too deep, or too much to scan"),
-        5 => say(b"unknown or unfinished escape"),
-        6 => say(b"malformed number"),
-        7 => say(b"value out of range"),
-        8 => say(b"macro definition not ended"),
-        9 => say(b"text in use, or macro named as a string"),
-        10 => say(b"input stack or stored lines past their limit"),
-        11 => say(b"no room for a register, name, trap or text"),
-        _ => say(b"too many lines or pages"),
+// What failed, and the system's words for why. std puts the error's number behind them, which is said only where no memory is left to cut it off.
+fn say_failed(rt: &(impl Eprint + AllocGlobal), what: &str, error: io::Error) {
+    match error.to_string(rt.alloc()) {
+        Ok(text) => {
+            let words = before_number(text.as_str());
+            let _ = eprintln!(rt; "{what}: {words}");
+        }
+        Err(_) => {
+            let _ = eprintln!(rt; "{what}: {error}");
+        }
     }
 }
 
-fn say_refused(number: u8, line: u32) {
-    say(b"rockavine: refused ");
-    io::print_decimal(STDERR_FILENO, number as u64);
-    say(b" at line ");
-    io::print_decimal(STDERR_FILENO, line as u64);
-    say(b": ");
-    say_why(number);
-    say(b"\n");
+// The words of an error's text before its number, or all of them where it has none.
+fn before_number(text: &str) -> &str
+    ensures { StartsWith text.now result.now }
+{
+    match text.split_once(" (os error ") {
+        Some((words, _)) => words,
+        None => text,
+    }
+}
+
+// A phrase for each refusal.
+fn say_why(rt: &impl Eprint, number: u8) {
+    match number {
+        1 => say(rt, "damaged record or store"),
+        2 => say(rt, "byte not allowed in the source"),
+        3 => say(rt, "line too long"),
+        4 => say(rt, "strings nested too deep, or too much to scan"),
+        5 => say(rt, "unknown or unfinished escape"),
+        6 => say(rt, "malformed number"),
+        7 => say(rt, "value out of range"),
+        8 => say(rt, "macro definition not ended"),
+        9 => say(rt, "text in use, or macro named as a string"),
+        10 => say(rt, "input stack or stored lines past their limit"),
+        11 => say(rt, "no room for a register, name, trap or text"),
+        _ => say(rt, "too many lines or pages"),
+    }
+}
+
+fn say_refused(rt: &impl Eprint, number: u8, line: u32) {
+    let _ = eprint!(rt; "rockavine: refused {number} at line {line}: ");
+    say_why(rt, number);
+    say(rt, "\n");
 }
 
 // What is left of a block from a place on.
-fn rest(block: &[u8], from: usize) -> &[u8] {
+fn rest(block: &[u8], from: usize) -> &[u8]
+    ensures { result.now ≡ drop from block.now }
+{
     if from <= block.len() {
         return &block[from..];
     }
@@ -54,21 +82,21 @@ fn rest(block: &[u8], from: usize) -> &[u8] {
 }
 
 // The first bytes of the room are the next ones of the pages.
-fn write_pages(room: &[u8], count: usize) -> bool {
+fn write_pages(rt: &impl Print, room: &[u8], count: usize) -> io::Result<()> {
     if count <= room.len() {
-        return io::write_all(STDOUT_FILENO, &room[..count]);
+        return rt.write_all(&room[..count]);
     }
-    false
+    Err(io::Error::from(io::ErrorKind::InvalidData))
 }
 
 // Whether a call of this answer is to be followed by another on the same block.
-fn wants_room(answer: Answer) -> bool {
+fn wants_room(rt: &impl Eprint, answer: Answer) -> bool {
     match answer {
         Answer::NeedsInput => false,
         Answer::NeedsRoom => true,
         Answer::Done => false,
         Answer::Refused(number, line) => {
-            say_refused(number, line);
+            say_refused(rt, number, line);
             false
         }
     }
@@ -84,7 +112,9 @@ fn is_closed(answer: Answer) -> bool {
 }
 
 // The place behind so many bytes taken of a block.
-fn behind(from: usize, taken: usize, length: usize) -> usize {
+fn behind(from: usize, taken: usize, length: usize) -> usize
+    ensures { result ≡ min (from + taken) length }
+{
     if length < taken {
         return length;
     }
@@ -94,26 +124,30 @@ fn behind(from: usize, taken: usize, length: usize) -> usize {
     from + taken
 }
 
-// Calls the session on a block until it wants the next one or is closed. A proved loop has to end: it counts its turns down from a number that no run uses up.
-fn feed(start: Record, store: &mut [u8], block: &[u8], last: bool) -> Fed {
+// Calls the session on a block until it wants the next one or is closed. A proved loop has to end: it counts its turns, up to a number that no run uses up.
+fn feed(
+    rt: &(impl Print + Eprint + AllocGlobal),
+    start: Record,
+    store: &mut [u8],
+    block: &[u8],
+    last: bool,
+) -> Fed {
     let mut record = start;
     let mut from: usize = 0;
-    let mut turns = u64::MAX;
-    while turns > 0 {
-        turns -= 1;
+    for _ in 0..u64::MAX {
         let mut room = [0u8; 65536];
         let reply = session::call(record, &mut *store, rest(block, from), last, &mut room);
         let answer = reply.answer;
         record = reply.next;
-        if !write_pages(&room, reply.written) {
-            os::fail(b"rockavine: standard output");
+        if let Err(error) = write_pages(rt, &room, reply.written) {
+            say_failed(rt, "rockavine: standard output", error);
             return Fed {
                 record,
                 going: false,
             };
         }
         from = behind(from, reply.taken, block.len());
-        if !wants_room(answer) {
+        if !wants_room(rt, answer) {
             return Fed {
                 record,
                 going: !is_closed(answer),
@@ -127,27 +161,30 @@ fn feed(start: Record, store: &mut [u8], block: &[u8], last: bool) -> Fed {
 }
 
 // Reads a block and feeds it; a block of no bytes is the last.
-fn feed_some(fd: i32, record: Record, store: &mut [u8]) -> Fed {
+fn feed_some(
+    rt: &(impl Print + Eprint + AllocGlobal),
+    input: &mut impl Read,
+    record: Record,
+    store: &mut [u8],
+) -> Fed {
     let mut block = [0u8; 65536];
-    let got = libc::read(fd, &mut block);
-    if got < 0 {
-        os::fail(b"rockavine: input");
-        return Fed {
-            record,
-            going: false,
-        };
+    match input.read(&mut block) {
+        Ok(count) => feed(rt, record, store, &block[..count], count == 0),
+        Err(error) => {
+            say_failed(rt, "rockavine: input", error);
+            Fed {
+                record,
+                going: false,
+            }
+        }
     }
-    let count = io::count(got, &block);
-    feed(record, store, &block[..count], count == 0)
 }
 
-fn format(fd: i32) {
+fn format(rt: &(impl Print + Eprint + AllocGlobal), input: &mut impl Read) {
     let mut store = [0u8; STORE_SIZE];
     let mut record = session::start();
-    let mut turns = u64::MAX;
-    while turns > 0 {
-        turns -= 1;
-        let fed = feed_some(fd, record, &mut store);
+    for _ in 0..u64::MAX {
+        let fed = feed_some(rt, input, record, &mut store);
         if !fed.going {
             return;
         }
@@ -155,23 +192,26 @@ fn format(fd: i32) {
     }
 }
 
-fn main() {
-    if os::arg_count() < 2 {
-        format(STDIN_FILENO);
+// A name that is no text is refused: std opens no such file.
+fn format_file(rt: &(impl Files + Print + Eprint + AllocGlobal), name: &[u8]) {
+    let Ok(path) = str::from_utf8(name) else {
+        say(rt, "rockavine: file name: not UTF-8\n");
         return;
+    };
+    match fs::open(rt, path) {
+        Ok(mut file) => format(rt, &mut file),
+        Err(error) => {
+            say(rt, "rockavine: ");
+            say_failed(rt, path, error);
+        }
     }
-    let mut path = io::buffer();
-    let length = os::arg(1, &mut path);
-    if os::errno() != 0 {
-        os::fail(b"rockavine: file name");
-        return;
+}
+
+fn main(rt: HostRuntime) {
+    let mut path = [0u8; 4096];
+    match rt.arg(1, &mut path) {
+        Ok(length) => format_file(&rt, &path[..length]),
+        Err(FillError::NotPresent) => format(&rt, &mut rt.stdin()),
+        Err(FillError::TooLong) => say(&rt, "rockavine: file name: File name too long\n"),
     }
-    let fd = os::open_read(&path[..length]);
-    if fd < 0 {
-        say(b"rockavine: ");
-        os::fail(&path[..length]);
-        return;
-    }
-    format(fd);
-    libc::close(fd);
 }
