@@ -97,6 +97,12 @@ fn declares(text: &str, name: &str) -> bool {
     })
 }
 
+/// The file of a module in a crate's definitions, with the one of that name in its proofs, which may have its laws.
+fn definitions(crate_name: &str, module: &str) -> String {
+    let file = |part| root().join(format!("crates/{crate_name}/{part}/{module}.antt"));
+    ["specs", "proofs"].iter().filter_map(|part| fs::read_to_string(file(part)).ok()).collect()
+}
+
 #[test]
 fn the_definitions_exist() {
     let mut named = 0;
@@ -107,7 +113,7 @@ fn the_definitions_exist() {
             if !module.starts_with(|letter: char| letter.is_uppercase()) {
                 continue;
             }
-            let text = read(&format!("crates/{crate_name}/specs/{module}.antt"));
+            let text = definitions(crate_name, module);
             assert!(declares(&text, name), "{quote}: {span} is not declared");
             named += 1;
         }
@@ -246,10 +252,8 @@ fn is_code(path: &str) -> bool {
 fn is_definition(path: &str) -> bool {
     let (file, name) = path.split_once('.').map_or((path, None), |(file, name)| (file, Some(name)));
     let Some((crate_name, file)) = file.split_once('/') else { return false };
-    match fs::read_to_string(root().join(format!("crates/{crate_name}/specs/{file}.antt"))) {
-        Ok(text) => name.is_none_or(|name| declares(&text, name)),
-        Err(_) => false,
-    }
+    let text = definitions(crate_name, file);
+    !text.is_empty() && name.is_none_or(|name| declares(&text, name))
 }
 
 /// What the documents name by a path that begins with a crate, or with a folder of the repository, is there.

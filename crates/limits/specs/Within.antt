@@ -1,4 +1,4 @@
--- The limits that every state of the rules keeps to, from the start on (Steps.antt), and that a lent record must keep to. Assumes nothing.
+-- The limits that every state of the rules keeps to, from the start on (proofs/Steps.antt), and that a lent record must keep to. Assumes nothing.
 use Rattle.std.specs.Prelude.{◌≡◌, Bool, List, [], ◌∷◌, ℕ, ◌+◌, ◌≤◌, length}
 use Rattle.std.proofs.Math.Option.{Option, none, some}
 use Rattle.std.proofs.Common.{arith}

@@ -11,15 +11,15 @@ use Rattle.stream.specs.declared.Answer.{Answer}
 use Rattle.stream.specs.declared.Answer.TheVariants as answer
 use Rattle.stream.specs.Answers.{Closing, done, refused, needs_input, closes, reply_of}
 use Rattle.stream.specs.Machine.{Step, works, asks, Outcome, stop, call_from, Below}
-use Rattle.stream.specs.Laws.{call_works, call_ends, call_waits, call_closed}
+use Rattle.stream.proofs.Laws.{call_works, call_ends, call_waits, call_closed}
 use Rattle.rules.specs.Printers.{ten_to_the_inch}
 use Rattle.rules.specs.State.{State, close}
 use Rattle.rules.specs.Session.{step, take_byte, read_end}
 use Rattle.rules.specs.Laws.Session.{step_close}
 use Rattle.rules.specs.Load.{Good, load, formatter}
-use Rattle.rules.specs.Laws.Falls.{falls}
+use Rattle.rules.proofs.Laws.Falls.{falls}
 use Rattle.limits.specs.Within.{Within}
-use Rattle.limits.specs.Steps.{works_within, byte_within, end_within}
+use Rattle.limits.proofs.Steps.{works_within, byte_within, end_within}
 use Rattle.source_line.specs.declared.Source.{Source}
 use Rattle.source_line.specs.Gathering.{Asks, Takes}
 use Rattle.source_line.specs.CallLaws.{outcome_after, step_asks, takes_good, call_gathers}

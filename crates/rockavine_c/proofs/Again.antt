@@ -103,7 +103,7 @@ from_turned ws g cs row bs ps tf ts ks ls fs ss vs us st bl mark out pl e f = re
   says = answer.Refused 1 0;
   code_is = refl;
   number_is = refl;
-  line_is_lem = refl;
+  line_is = refl;
   called = turned (subst (λ (v : RecordCore). ValidRecord (record_of v g cs row bs ps tf ts ks ls fs ss vs us) st → ⊥) e f) (record { reply = refl; same_store = refl; same_out = refl });
   untouched = λ _. refl;
 }
@@ -133,7 +133,7 @@ module _ (ws : List ℤ) (g cs row bs ps tf ts ks ls fs ss : List ℕ) (vs us : 
         says = n.answer;
         code_is = ce;
         number_is = ne;
-        line_is_lem = le;
+        line_is = le;
         called = subst (λ (v : List ℤ). CallContract (record_in ws g cs row bs ps tf ts ks ls fs ss vs us) st bl (is_last mark) out
             (record { answer = n.answer; taken = n.taken; written = n.written; next = record_in v g' cs' row' bs' ps' tf' ts' ks' ls' fs' ss' vs' us' }) st' out') (sym w.are) d;
         untouched = λ z. absurd (true_false (sym z ∙ other));

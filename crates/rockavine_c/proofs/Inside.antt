@@ -51,7 +51,7 @@ module _ (ws : List ℤ) (g cs row bs ps tf ts ks ls fs ss : List ℕ) (vs us : 
         says = answer.NeedsInput;
         code_is = refl;
         number_is = refl;
-        line_is_lem = refl;
+        line_is = refl;
         called =
             subst (λ (v : Bool). CallContract r st bl v out (record { answer = answer.NeedsInput; taken = length bl; written = 0; next = record_in ws' g' cs row bs ps tf ts ks ls fs ss vs us }) st out) m
             (subst (λ (v : RecordCore). CallContract (record_of v g cs row bs ps tf ts ks ls fs ss vs us) st bl last out (record { answer = answer.NeedsInput; taken = length bl; written = 0; next = record_in ws' g' cs row bs ps tf ts ks ls fs ss vs us }) st out) e

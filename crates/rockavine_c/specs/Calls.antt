@@ -25,6 +25,6 @@ pub record CCallContract (r : Record) (ws : List ℤ) (st block : List ℕ) (las
   pub says : Answer
   pub code_is : code ≡ code_of says
   pub number_is : number ≡ answer_number says
-  pub line_is_lem : line ≡ answer_line says
+  pub line_is : line ≡ answer_line says
   pub called : CallContract r st block (is_last last) out (record { answer = says; taken = taken; written = written; next = r' }) st' out'
   pub untouched : is_turned says ≡ true → ws' ≡ ws

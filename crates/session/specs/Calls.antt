@@ -7,13 +7,13 @@ use Rattle.stream.specs.Answers.{reply_of}
 use Rattle.stream.specs.Machine.{Outcome}
 use Rattle.stream.specs.Condition3.{Call, Condition3}
 use Rattle.stream.specs.Condition3 as machine
-use Rattle.stream.specs.Laws.{call_parts}
+use Rattle.stream.proofs.Laws.{call_parts}
 use Rattle.rules.specs.Printers.{ten_to_the_inch}
 use Rattle.rules.specs.State.{State, start}
 use Rattle.rules.specs.Load.{Good, formatter}
-use Rattle.rules.specs.Laws.Falls.{falls}
+use Rattle.rules.proofs.Laws.Falls.{falls}
 use Rattle.rules.specs.Pages.{pages}
-use Rattle.rules.specs.Laws.Pages as rules
+use Rattle.rules.proofs.Laws.Pages as rules
 use Rattle.record.specs.declared.Record.{Record}
 use Rattle.record.specs.declared.Reply.{Reply}
 use Rattle.record.specs.declared.Closing.{Closing}

@@ -4,12 +4,12 @@ use Rattle.std.proofs.Common.{sym, ◌∙◌, subst, arith}
 use Rattle.std.proofs.Math.Path.{ap}
 use Rattle.std.proofs.Math.Option.{none}
 use Rattle.stream.specs.Machine.{Machine, Outcome, writing, taking, asks, call_from, Below}
-use Rattle.stream.specs.Laws.{call_takes}
+use Rattle.stream.proofs.Laws.{call_takes}
 use Rattle.rules.specs.Printers.{Printer}
 use Rattle.rules.specs.State.{State}
 use Rattle.rules.specs.Session.{take_byte, read_end, step, step_from, idle}
 use Rattle.rules.specs.Load.{Good, load, byte_load, formatter}
-use Rattle.rules.specs.Laws.Falls.{falls}
+use Rattle.rules.proofs.Laws.Falls.{falls}
 use Rattle.source_line.specs.Gathering.{Asks, Takes}
 
 -- these bytes taken and those written, and then the outcome

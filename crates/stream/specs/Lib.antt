@@ -4,6 +4,5 @@
 pub mod Answers
 -- a machine, its pages and its calls
 pub mod Machine
--- condition 3 as a statement, and as a theorem on every machine whose work falls
+-- condition 3 as a statement; it is a theorem on every machine whose work falls (proofs/Laws.antt)
 pub mod Condition3
-pub mod Laws

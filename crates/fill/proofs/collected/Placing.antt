@@ -11,7 +11,7 @@ use Rattle.measure.specs.Counts.{across_of, cells_across}
 use Rattle.rules.specs.Bytes.{space}
 use Rattle.rules.specs.Filling.{Word, word, words, after, width, printed, gap_cells, join_byte}
 use Rattle.rules.specs.Filling as rules
-use Rattle.rules.specs.Laws.Filling.{place_fits, place_stops, printed_length, gap_cells_length}
+use Rattle.rules.proofs.Laws.Filling.{place_fits, place_stops, printed_length, gap_cells_length}
 use Rattle.fill.specs.Words.Parts.{bytes_between, Places}
 use Rattle.fill.specs.Words.Words.{spaces, run_length, WordEndIs}
 use Rattle.fill.specs.Collected.Writing.{Written}

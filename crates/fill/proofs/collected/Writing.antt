@@ -12,7 +12,7 @@ use lib.Seq.{sets, sets-eq, take_at, drop_at, length-take-le}
 use borrow.Author.Tests.{eq-eqb, ne_eqb}
 use Rattle.rules.specs.Bytes.{space, mark, fixed_blank}
 use Rattle.rules.specs.Filling.{printed, printed_byte, width, count_if, gap_cells}
-use Rattle.rules.specs.Laws.Filling.{printed_append}
+use Rattle.rules.proofs.Laws.Filling.{printed_append}
 use Rattle.fill.specs.Words.Parts.{bytes_between}
 use Rattle.fill.specs.Collected.Writing.{shown_if, Written}
 use Rattle.fill.proofs.words.Parts.{part_none, part_cons, part_length}

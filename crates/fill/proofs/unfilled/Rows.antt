@@ -11,7 +11,7 @@ use lib.Seq.{sets, length-sets, length-take-le}
 use borrow.Author.Tests.{eqb-true, lt-ltb}
 use Rattle.rules.specs.Bytes.{newline, space, mark, fixed_blank}
 use Rattle.rules.specs.Filling.{words, gaps, spread, adjusted, trimmed, printed, printed_byte, spelled, span, width, row, left}
-use Rattle.rules.specs.Laws.Filling.{trimmed_blank, trimmed_spaces, trimmed_ends, trimmed_short, printed_append, printed_length, spelled_width, level_length, share_length, adjusted_alone}
+use Rattle.rules.proofs.Laws.Filling.{trimmed_blank, trimmed_spaces, trimmed_ends, trimmed_short, printed_append, printed_length, spelled_width, level_length, share_length, adjusted_alone}
 use Rattle.rules.specs.Laws.Lines.{spelled_words}
 use Rattle.fill.specs.Words.Parts.{bytes_between}
 use Rattle.fill.specs.Collected.Writing.{Written}

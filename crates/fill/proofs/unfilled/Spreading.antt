@@ -11,7 +11,7 @@ use lib.Seq.{sets, length-take-le}
 use borrow.Author.Tests.{eq-eqb, ne_eqb, eqb-true}
 use Rattle.rules.specs.Bytes.{space, gap_start}
 use Rattle.rules.specs.Filling.{gaps, count_gap, spread, spread_cell, few_after, more_if, share, adjusted, trimmed}
-use Rattle.rules.specs.Laws.Filling.{spread_none, trimmed_spaces, trimmed_ends}
+use Rattle.rules.proofs.Laws.Filling.{spread_none, trimmed_spaces, trimmed_ends}
 use Rattle.fill.specs.Words.Parts.{bytes_between}
 use Rattle.fill.specs.Collected.Writing.{Written}
 use Rattle.fill.specs.Collected.Filled.{collected_line}

@@ -7,7 +7,7 @@ use lib.ListN.{length, get_or, replicate}
 use borrow.Author.Tests.{ne_eqb}
 use Rattle.rules.specs.Bytes.{space}
 use Rattle.rules.specs.Filling.{Word, words, trimmed, spelled, gap_after, gap_if, is_stop, last_byte}
-use Rattle.rules.specs.Laws.Filling.{trimmed_spaces, trimmed_ends}
+use Rattle.rules.proofs.Laws.Filling.{trimmed_spaces, trimmed_ends}
 use Rattle.rules.specs.Laws.Lines.{Solid, Formed, words_formed, spelled_words}
 use Rattle.fill.specs.Words.Parts.{bytes_between}
 use Rattle.fill.proofs.words.Parts.{part_none, part_snoc}

@@ -16,7 +16,7 @@ use Rattle.rules.specs.Refusals.{value, bad}
 use Rattle.rules.specs.Laws.Refusals.{of_value}
 use Rattle.rules.specs.Numbers.{operate, joint_of, is_digit, Start, literal, opens, plus, minus, no_term, start_by, start_of, parenthesized, term, onward}
 use Rattle.rules.specs.Numbers as rules
-use Rattle.rules.specs.Laws.Numbers.{start_digit, start_other, start_none, term_bounded}
+use Rattle.rules.proofs.Laws.Numbers.{start_digit, start_other, start_none, term_bounded}
 use Rattle.rules.specs.declared.Operator.{Operator}
 use Rattle.number.specs.Expression.Reading.{joint_in, GoodJoint, read_of, Forward, literal_term}
 use Rattle.number.specs.Expression.Meaning.{expression_from, TermIs, ExpressionIs}

@@ -20,7 +20,7 @@ use Rattle.rules.specs.Bytes.{byte, first_where}
 use Rattle.rules.specs.Laws.Tables.{entry_each}
 use Rattle.rules.specs.Refusals.{value, bad, judge, ◌>>=◌}
 use Rattle.rules.specs.Numbers.{is_digit, digits, scaled, scaled_or, scaled_by, literal_at, opens, plus, minus, no_term, start_by, start_of}
-use Rattle.rules.specs.Laws.Numbers.{digits_short, digits_shorter, digits_rest, digits_stop, start_digit, start_other, start_none}
+use Rattle.rules.proofs.Laws.Numbers.{digits_short, digits_shorter, digits_rest, digits_stop, start_digit, start_other, start_none}
 use Rattle.number.specs.Expression.Reading.{digits_of, bounded_of, read_of, Forward, literal_term}
 use Rattle.number.specs.declared.expression.Read.{Read}
 use Rattle.number.specs.declared.expression.Read.TheVariants.{Value, Refused}

@@ -12,7 +12,7 @@ use lib.Seq.{drop-cons, get_or-drop}
 use borrow.Author.Tests.{le-leb, lt-leb, ltb-true, ltb-false}
 use Rattle.rules.specs.Bytes.{in_table}
 use Rattle.rules.specs.Numbers.{operators, operators_before_equal, joins, stops, joint_of, is_digit, digits}
-use Rattle.rules.specs.Laws.Numbers.{joint_one, joint_alone, joint_two, digits_more, digits_stop, digits_grow}
+use Rattle.rules.proofs.Laws.Numbers.{joint_one, joint_alone, joint_two, digits_more, digits_stop, digits_grow}
 use Rattle.rules.specs.declared.Operator.{Operator}
 use Rattle.number.specs.Expression.Reading.{digits_of}
 use Rattle.number.specs.declared.expression.Digits.TheVariants.{Number, Huge}

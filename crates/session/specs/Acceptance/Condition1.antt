@@ -6,10 +6,10 @@ use Rattle.stream.specs.declared.Answer.{Answer}
 use Rattle.stream.specs.declared.Answer.TheVariants as answer
 use Rattle.stream.specs.Condition3.{here}
 use Rattle.stream.specs.Condition3 as machine
-use Rattle.stream.specs.Laws.{machine_condition_3}
+use Rattle.stream.proofs.Laws.{machine_condition_3}
 use Rattle.rules.specs.Printers.{ten_to_the_inch}
 use Rattle.rules.specs.Load.{Good, formatter}
-use Rattle.rules.specs.Laws.Falls.{falls}
+use Rattle.rules.proofs.Laws.Falls.{falls}
 use Rattle.limits.specs.Within.{Within, Refusal}
 use Rattle.state.specs.Whole.{state_in}
 use Rattle.record.specs.declared.Record.{Record}

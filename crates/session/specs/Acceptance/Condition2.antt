@@ -9,7 +9,7 @@ use Rattle.rules.specs.Printers.{ten_to_the_inch}
 use Rattle.rules.specs.State.{start}
 use Rattle.rules.specs.Load.{formatter}
 use Rattle.rules.specs.Pages.{pages}
-use Rattle.rules.specs.Laws.Pages.{always_ends}
+use Rattle.rules.proofs.Laws.Pages.{always_ends}
 use Rattle.record.specs.declared.Reply.{Reply}
 use Rattle.record.specs.Contract.{call_on}
 use Rattle.session.specs.Contract.{CallContract, served, turned}

@@ -3,7 +3,7 @@ use borrow.Author.Rules.{rules}
 use mathlib.Core.Path.{◌∙◌}
 use native.Mathlib.Omega.{arith}
 use lib.Seq.{length-sets}
-use Rattle.rules.specs.Laws.Filling.{printed_length}
+use Rattle.rules.proofs.Laws.Filling.{printed_length}
 use Rattle.fill.specs.Words.Parts.{bytes_between}
 use Rattle.fill.proofs.collected.Writing.{part_width, begin_cells, begin_length}
 use Rattle.fill.proofs.collected.begin_line.Goals as goal

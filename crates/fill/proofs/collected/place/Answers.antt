@@ -3,7 +3,7 @@ use mathlib.Core.Path.{◌≡◌, ◌∙◌}
 use native.Mathlib.Omega.{arith}
 use Prim.Native.Nat.{◌<◌}
 use Rattle.rules.specs.Filling.{width}
-use Rattle.rules.specs.Laws.Filling.{gap_cells_length}
+use Rattle.rules.proofs.Laws.Filling.{gap_cells_length}
 use Rattle.fill.specs.Words.Parts.{bytes_between}
 use Rattle.fill.proofs.collected.Writing.{part_width}
 use Rattle.fill.proofs.collected.Placing.{placing_start, placed_all, placed_full, placing_next, word_width, word_some}

@@ -3,7 +3,7 @@ use mathlib.Core.Path.{refl, ◌∙◌}
 use native.Mathlib.Omega.{arith}
 use lib.ListN.{length-set}
 use lib.Seq.{length-sets}
-use Rattle.rules.specs.Laws.Filling.{gap_cells_length}
+use Rattle.rules.proofs.Laws.Filling.{gap_cells_length}
 use Rattle.fill.proofs.collected.Writing.{gap_cells_lem}
 use Rattle.fill.proofs.collected.put_gap.Goals as goal
 

@@ -5,7 +5,7 @@ use native.Mathlib.Omega.{arith}
 use Prim.Native.Nat.{ℕ, ◌+◌, ◌≤◌, ◌<◌}
 use lib.ListN.{length, length-set}
 use lib.Seq.{sets}
-use Rattle.rules.specs.Laws.Filling.{printed_length}
+use Rattle.rules.proofs.Laws.Filling.{printed_length}
 use Rattle.fill.specs.Words.Parts.{bytes_between}
 use Rattle.fill.proofs.collected.Writing.{write_mark, write_byte, count_mark, count_byte, printed_end}
 use Rattle.fill.proofs.collected.put_word.Goals as goal

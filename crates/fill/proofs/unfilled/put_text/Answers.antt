@@ -5,7 +5,7 @@ use lib.ListN.{length, replicate}
 use Prim.Native.Nat.{◌≤◌, ◌<◌}
 use lib.Seq.{length-sets}
 use Rattle.rules.specs.Filling.{printed, width}
-use Rattle.rules.specs.Laws.Filling.{printed_length}
+use Rattle.rules.proofs.Laws.Filling.{printed_length}
 use Rattle.fill.specs.Words.Parts.{bytes_between}
 use Rattle.fill.proofs.unfilled.Rows.{row_done, row_alone, text_none, text_row_lem, text_short}
 use Rattle.fill.proofs.unfilled.put_text.Goals as goal

@@ -4,7 +4,7 @@ use native.Mathlib.Omega.{arith}
 use Prim.Native.Nat.{◌+◌, ◌-◌, ◌≤◌}
 use Rattle.rules.specs.Filling.{words, row, left, width, span}
 use Rattle.measure.specs.Counts.{across_of}
-use Rattle.rules.specs.Laws.Filling.{printed_length}
+use Rattle.rules.proofs.Laws.Filling.{printed_length}
 use Rattle.fill.specs.Words.Parts.{bytes_between}
 use Rattle.fill.specs.Unfilled.Lines.{one_if}
 use Rattle.fill.proofs.collected.Writing.{part_width}

@@ -4,16 +4,17 @@ use Rattle.std.proofs.Common.{arith, leb-true}
 use Rattle.rules.specs.Printers.{Printer}
 use Rattle.rules.specs.Laws.Refusals.{both}
 use Rattle.rules.specs.Numbers.{cells, rows, signed}
-use Rattle.rules.specs.Laws.Numbers.{Bounded, units_bounded}
+use Rattle.rules.specs.Laws.Numbers.{Bounded}
+use Rattle.rules.proofs.Laws.Numbers.{units_bounded}
 use Rattle.rules.specs.Settings.{Setting, changed, in_range, line_range}
 use Rattle.rules.specs.LayoutSetters.{with_total}
 use Rattle.rules.specs.State.{State}
 use Rattle.rules.specs.StateSetters.{with_layout}
 use Rattle.rules.specs.Acts.{count_of, setting, page_length, indent_total, spacing, centring}
 use Rattle.limits.specs.Within.{Ranged, Within}
-use Rattle.limits.specs.Parts.{is_7}
-use Rattle.limits.specs.Numbered.{cells_numbered, rows_numbered, units_numbered}
-use Rattle.limits.specs.Fair.{Fair, fine, refusal, fair, fair_any, fair_of, fair_judge}
+use Rattle.limits.proofs.Parts.{is_7}
+use Rattle.limits.proofs.Numbered.{cells_numbered, rows_numbered, units_numbered}
+use Rattle.limits.proofs.Fair.{Fair, fine, refusal, fair, fair_any, fair_of, fair_judge}
 
 -- a value in a range is between its ends
 range_fair : (low high : ℕ) (z : ℤ) → Fair (λ n. (low ≤ n) × (n ≤ high)) (in_range low high z)

@@ -10,10 +10,10 @@ use Rattle.rules.specs.Arguments.{Part, first, string_text}
 use Rattle.rules.specs.State.{State, on_stack}
 use Rattle.rules.specs.Acts.{free, written_back, define_text, define_from, defines, open_text, remove_if}
 use Rattle.limits.specs.Within.{Gone, Within}
-use Rattle.limits.specs.Parts.{is_9, is_11, next_over, over_next, texts_kept, opened_kept}
-use Rattle.limits.specs.Numbered.{Numbered, judge_numbered}
-use Rattle.limits.specs.Fair.{Fair, fine, fair_of, fair_judge, fair_given, name_kept}
-use Rattle.limits.specs.Rows.{LineReady}
+use Rattle.limits.proofs.Parts.{is_9, is_11, next_over, over_next, texts_kept, opened_kept}
+use Rattle.limits.proofs.Numbered.{Numbered, judge_numbered}
+use Rattle.limits.proofs.Fair.{Fair, fine, fair_of, fair_judge, fair_given, name_kept}
+use Rattle.limits.proofs.Rows.{LineReady}
 
 module _ (s : State) (h : LineReady s) where
   abbrev ts : List Text

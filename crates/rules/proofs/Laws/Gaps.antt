@@ -18,7 +18,7 @@ use Rattle.rules.specs.declared.Mode.TheVariants.{Plain, Copy}
 use Rattle.rules.specs.Filling.{Word, Collected, gap_cells, join_word, join_byte, words, standing, after, gaps, printed_byte, printed, joined}
 use Rattle.rules.specs.Laws.Tables.{Each, OfSome, first_each, entry_each}
 use Rattle.rules.specs.Laws.Lines.{Without}
-use Rattle.rules.specs.Laws.Filling.{gaps_append, laid}
+use Rattle.rules.proofs.Laws.Filling.{gaps_append, laid}
 
 -- bytes of which none is the code of a gap start
 abbrev pub Clear : List ℕ → Type 0

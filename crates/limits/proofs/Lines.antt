@@ -26,14 +26,14 @@ use Rattle.rules.specs.Rows.{Next, goes}
 use Rattle.rules.specs.TextLines.{text_line}
 use Rattle.rules.specs.ControlLines.{Meaning, calls, means_request, nothing, meaning_of, held_after, held_first, prefix_of, on_scan, break_or_act, start_or_break, obey, deal_again, expand, control_line, fresh_line, keep_body, body_line, deal_from, deal}
 use Rattle.limits.specs.Within.{Gone, OverText, Within, Keeps}
-use Rattle.limits.specs.Parts.{is_11, next_over, over_next, registers_kept, opened_kept, refuse_kept}
-use Rattle.limits.specs.Numbered.{Numbered, judge_numbered}
-use Rattle.limits.specs.Fair.{fair_any, given_kept, settles_kept}
-use Rattle.limits.specs.Expansion.{NumberedScan, scan_numbered, expansion_bounded}
-use Rattle.limits.specs.Rows.{LineReady, hold_none, hold_if, call_kept, start_page_kept, break_kept}
-use Rattle.limits.specs.TextLines.{text_kept}
-use Rattle.limits.specs.Texts.{defines_kept}
-use Rattle.limits.specs.Requests.{change_kept, decide_kept, lay_kept, act_kept}
+use Rattle.limits.proofs.Parts.{is_11, next_over, over_next, registers_kept, opened_kept, refuse_kept}
+use Rattle.limits.proofs.Numbered.{Numbered, judge_numbered}
+use Rattle.limits.proofs.Fair.{fair_any, given_kept, settles_kept}
+use Rattle.limits.proofs.Expansion.{NumberedScan, scan_numbered, expansion_bounded}
+use Rattle.limits.proofs.Rows.{LineReady, hold_none, hold_if, call_kept, start_page_kept, break_kept}
+use Rattle.limits.proofs.TextLines.{text_kept}
+use Rattle.limits.proofs.Texts.{defines_kept}
+use Rattle.limits.proofs.Requests.{change_kept, decide_kept, lay_kept, act_kept}
 
 -- on with an expanded line, or its refusal
 scan_kept : (x : Scanned) (s : State) (k : List ℕ → State → Next) → Within s → NumberedScan x → BoundedTable (registers_after x)

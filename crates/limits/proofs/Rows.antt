@@ -10,7 +10,7 @@ use Rattle.rules.specs.State.{State, Item, reading, ejects}
 use Rattle.rules.specs.StateSetters.{with_stack, with_page, with_collected}
 use Rattle.rules.specs.Rows.{lines_of, the_end, push_if, held_if, call, user_text, spring_text, spring, start_if, start_page, end_page, with_used, reach, down, break, rows_below, fewer, skip, eject_if, eject, last_page, eject_last, end_from, begin_end}
 use Rattle.limits.specs.Within.{OverText, Deep, Within, Keeps}
-use Rattle.limits.specs.Parts.{is_10, is_12, next_over, none_over, over_layer, NoText, held_deep, stack_kept, collected_kept, done_kept, refuse_kept}
+use Rattle.limits.proofs.Parts.{is_10, is_12, next_over, none_over, over_layer, NoText, held_deep, stack_kept, collected_kept, done_kept, refuse_kept}
 
 -- what work on a line or a request finds: the limits, nothing on the stack over a text, and no definition open
 abbrev pub LineReady : State → Type 0

@@ -12,7 +12,7 @@ use Rattle.rules.specs.Bytes.{byte}
 use Rattle.rules.specs.Refusals.{Judged, value, bad, judge, ◌>>=◌}
 use Rattle.rules.specs.Numbers.{Read, within, truth, divisor, operate, Joint, joins, stops, joint_of, digits, scaled, scaled_or, scaled_by, literal_at, Start, literal, opens, plus, minus, no_term, start_of, parenthesized, expression_by, whole, term, onward, evaluate, cells, rows, units}
 use Rattle.limits.specs.Within.{Refusal}
-use Rattle.limits.specs.Parts.{is_6}
+use Rattle.limits.proofs.Parts.{is_6}
 
 -- a value's refusal, if it is refused
 abbrev pub Numbered : {A : Type 0} → Judged A → Type 0

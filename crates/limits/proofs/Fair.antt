@@ -10,8 +10,8 @@ use Rattle.rules.specs.StateSetters.{with_layout}
 use Rattle.rules.specs.Rows.{Next}
 use Rattle.rules.specs.Acts.{on_value, settles, laid_out, on_name}
 use Rattle.limits.specs.Within.{Refusal, Within, Keeps}
-use Rattle.limits.specs.Parts.{is_7, refuse_kept}
-use Rattle.limits.specs.Numbered.{Numbered}
+use Rattle.limits.proofs.Parts.{is_7, refuse_kept}
+use Rattle.limits.proofs.Numbered.{Numbered}
 
 -- what holds of a value, or the number of its refusal
 pub data Fair {A : Type 0} (P : A → Type 0) : Judged A → Type 0 where

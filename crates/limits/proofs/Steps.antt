@@ -13,11 +13,11 @@ use Rattle.rules.specs.State.{State, Item, reading, fresh, again, others, acts, 
 use Rattle.rules.specs.StateSetters.{with_input, with_stack, with_stored}
 use Rattle.rules.specs.Session.{leave, begun_by, with_begun, gather, take_by, take_byte, last_line, read_end, work_end, read_line, work, idle, step_from, step}
 use Rattle.limits.specs.Within.{SourceByte, OverText, Layer, Layered, Deep, NextLine, OpenOver, Answered, Within, Keeps}
-use Rattle.limits.specs.Parts.{is_2, is_3, is_8, is_10, is_12, next_over, none_over, over_next, popped_deep, stack_kept, refuse_popped, refuse_kept}
-use Rattle.limits.specs.Rows.{LineReady, eject_kept, eject_last_kept, begin_end_kept}
-use Rattle.limits.specs.TextLines.{fill_kept}
-use Rattle.limits.specs.Requests.{act_kept}
-use Rattle.limits.specs.Lines.{again_kept, deal_kept}
+use Rattle.limits.proofs.Parts.{is_2, is_3, is_8, is_10, is_12, next_over, none_over, over_next, popped_deep, stack_kept, refuse_popped, refuse_kept}
+use Rattle.limits.proofs.Rows.{LineReady, eject_kept, eject_last_kept, begin_end_kept}
+use Rattle.limits.proofs.TextLines.{fill_kept}
+use Rattle.limits.proofs.Requests.{act_kept}
+use Rattle.limits.proofs.Lines.{again_kept, deal_kept}
 
 -- a byte behind the others
 each_end : (g : List ℕ) (b : ℕ) → Each SourceByte g → SourceByte b → Each SourceByte (g ++ b ∷ [])

@@ -8,8 +8,8 @@ use Rattle.rules.specs.State.{State, again, others, acts, plain_text}
 use Rattle.rules.specs.StateSetters.{with_layout, with_collected}
 use Rattle.rules.specs.TextLines.{TextLineCase, starts, emptyLine, stands, fills, breaks, text_line_case, as_it_stands, counted, others_of, next_gap, filled, fill_from, fill, blank_from, gap_here, text_way, text_line}
 use Rattle.limits.specs.Within.{Within, Keeps}
-use Rattle.limits.specs.Parts.{centred_kept, collected_kept}
-use Rattle.limits.specs.Rows.{LineReady, HoldsItems, hold_none, hold, hold_collected, down_kept, start_page_kept, break_kept, skip_kept}
+use Rattle.limits.proofs.Parts.{centred_kept, collected_kept}
+use Rattle.limits.proofs.Rows.{LineReady, HoldsItems, hold_none, hold, hold_collected, down_kept, start_page_kept, break_kept, skip_kept}
 
 hold_others : (ws : List Word) (g : ℕ) (s : State) → LineReady s → HoldsItems (others_of ws g) s
 hold_others [] g s h = hold_none s h.0

@@ -19,7 +19,8 @@ use Rattle.rules.specs.Bytes.{byte, is_there}
 use Rattle.rules.specs.Names.{Named, one, too_long, name_of}
 use Rattle.rules.specs.Laws.Tables.{Each, OfSome, entry_each}
 use Rattle.rules.specs.Numbers.{equal_z, units, signed}
-use Rattle.rules.specs.Laws.Numbers.{Bounded, within_bounded, rows_bounded, units_bounded}
+use Rattle.rules.specs.Laws.Numbers.{Bounded, within_bounded}
+use Rattle.rules.proofs.Laws.Numbers.{rows_bounded, units_bounded}
 use Rattle.rules.specs.Registers.{register_of, set_value, predefined, value_or0, step_or0}
 use Rattle.rules.specs.Laws.Registers.{BoundedRegister, register_bounded, set_bounded}
 use Rattle.rules.specs.Texts.{text_of}
@@ -33,12 +34,12 @@ use Rattle.rules.specs.StateSetters.{with_layout, with_traps}
 use Rattle.rules.specs.Rows.{skip}
 use Rattle.rules.specs.Acts.{argument_at, open_text, remove_text, plant_at, follows, new_value, set_line, act, lay, new_step, write_if, write_register, plant_trap, if_line, change, decide}
 use Rattle.limits.specs.Within.{BoundedTrap, Within, Keeps}
-use Rattle.limits.specs.Parts.{is_6, is_7, is_11, registers_kept, traps_kept, line_kept, centred_kept}
-use Rattle.limits.specs.Numbered.{Numbered, judge_numbered, after_numbered, within_numbered, rows_numbered, units_numbered}
-use Rattle.limits.specs.Fair.{Fair, fine, refusal, fair, fair_any, fair_of, fair_judge, given_kept, laid_kept, name_kept}
-use Rattle.limits.specs.Rows.{LineReady, hold, skip_kept, eject_kept}
-use Rattle.limits.specs.Texts.{open_kept, remove_kept}
-use Rattle.limits.specs.Settings.{setting_fair, line_fair, page_fair, total_fair, spacing_fair, centring_fair}
+use Rattle.limits.proofs.Parts.{is_6, is_7, is_11, registers_kept, traps_kept, line_kept, centred_kept}
+use Rattle.limits.proofs.Numbered.{Numbered, judge_numbered, after_numbered, within_numbered, rows_numbered, units_numbered}
+use Rattle.limits.proofs.Fair.{Fair, fine, refusal, fair, fair_any, fair_of, fair_judge, given_kept, laid_kept, name_kept}
+use Rattle.limits.proofs.Rows.{LineReady, hold, skip_kept, eject_kept}
+use Rattle.limits.proofs.Texts.{open_kept, remove_kept}
+use Rattle.limits.proofs.Settings.{setting_fair, line_fair, page_fair, total_fair, spacing_fair, centring_fair}
 
 -- wh: traps stay within their bounds
 plant_places : (z : ℤ) (n : Name) (ts : List Trap) → Bounded z → Each BoundedTrap ts → Each BoundedTrap (plant z n ts)

@@ -22,8 +22,8 @@ use Rattle.rules.specs.Texts.{Text, text, text_of}
 use Rattle.rules.specs.Escapes.{Surroundings, Scanned, scanned, scan_refused, Wanted, number, a_string, Escape, outside, Action, writes, begins, holds_escape, wants, gives, ends, unlisted, action_of, Scan, with_scan_registers, Effect, goes_on, stops_scan, write_by, at_end, hold_by, begin_by, enter_by, enter, show_it, want, argument_given, effect_of, NextByte, reads, over, next_byte, written_before, follow, run, scan}
 use Rattle.rules.specs.Laws.Escapes.{registers_after, scan_keeps}
 use Rattle.limits.specs.Within.{Refusal}
-use Rattle.limits.specs.Parts.{is_3, is_4, is_5, is_7, is_9}
-use Rattle.limits.specs.Numbered.{Numbered, within_numbered, after_numbered}
+use Rattle.limits.proofs.Parts.{is_3, is_4, is_5, is_7, is_9}
+use Rattle.limits.proofs.Numbered.{Numbered, within_numbered, after_numbered}
 
 -- A reference keeps the registers within their bounds, whatever the read-only ones show.
 to_bounded : (r : Register) (z : ℤ) (rs : List Register) → BoundedRegister r → BoundedTable rs → Every (λ x. BoundedTable x.1) (step_to r z rs)

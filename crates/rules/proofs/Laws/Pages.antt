@@ -2,12 +2,12 @@
 use Rattle.std.specs.Prelude.{◌≡◌, List, [], ℕ, ◌<◌, ◌≤◌}
 use Rattle.stream.specs.Answers.{Closing, closes}
 use Rattle.stream.specs.Condition3.{Call, Calls, Condition3}
-use Rattle.stream.specs.Laws.{machine_ends, machine_condition_3 as of-machine}
+use Rattle.stream.proofs.Laws.{machine_ends, machine_condition_3 as of-machine}
 use Rattle.rules.specs.Printers.{Printer}
 use Rattle.rules.specs.State.{start}
 use Rattle.rules.specs.Load.{Good, formatter}
 use Rattle.rules.specs.Pages.{pages}
-use Rattle.rules.specs.Laws.Falls.{falls}
+use Rattle.rules.proofs.Laws.Falls.{falls}
 
 module _ (p : Printer) (first : 0 < p.page) (last : p.page ≤ 500) where
   -- "A document is any bytes, none too": each has a closing answer

@@ -1,0 +1,2 @@
+-- LAWS: nothing to believe, as those of specs/Laws.
+pub mod Laws
