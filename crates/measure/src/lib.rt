@@ -110,6 +110,7 @@ pub fn units_of_literal(count: u32, scale: Scale, pitch: Pitch) -> u64
 }
 
 // The nearest count of a size in units without a sign: half a size or more left over counts as one.
+#[tactic(auto, unfolding(crate::specs::Rounding::half_up))]
 fn half_up(units: u32, size: u8) -> u32
     ensures { result ≡ half_up size units }
 {

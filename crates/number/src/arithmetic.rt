@@ -13,6 +13,7 @@ pub enum Value {
 }
 
 // A result, refused where it is outside ±1,000,000,000.
+#[tactic(auto, using(crate::proofs::arithmetic::Laws::judged_below, crate::proofs::arithmetic::Laws::judged_above, crate::proofs::arithmetic::Laws::judged_fits, crate::proofs::arithmetic::Laws::judged_inside))]
 pub fn judge(v: i64) -> Value
     ensures { judged_of result ≡ within v }
 {
@@ -33,6 +34,7 @@ fn truth(t: bool) -> Value
 }
 
 // One operation. What two i32 give fits an i64, so that it can be judged.
+#[tactic(auto, using(crate::proofs::arithmetic::Laws::division_fits))]
 pub fn operate(op: Operator, a: i32, b: i32) -> Value
     ensures { judged_of result ≡ operateOf op a b }
 {

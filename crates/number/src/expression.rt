@@ -192,6 +192,7 @@ fn term(s: &[u8], at: usize, left: u8, default: Scale, pitch: Pitch) -> Read
 }
 
 // The value of a whole argument: nothing may follow its expression.
+#[tactic(auto, using(crate::proofs::expression::Arguments::more))]
 pub fn evaluate(s: &[u8], default: Scale, pitch: Pitch) -> Value
     requires { Sized pitch }
     ensures { judged_of result ≡ evaluateOf pitch default s.now }

@@ -4,15 +4,17 @@ use mathlib.Core.Bool.{Bool, true, false, cond}
 use Prim.Native.Nat.{ℕ, suc, ◌+◌, ◌*◌, ◌-◌, ◌≤◌, ◌<◌, ◌^◌}
 use native.Mathlib.Nat.{div-le_self, mod-le, mul-le-mul}
 use native.Mathlib.Omega.{arith}
-use borrow.Author.Tests.{ltb-true, ltb-false, lt-leb, eq-eqb, ne_eqb, eqb-true, eqb-false}
+use borrow.Author.Tests.{ltb-true, ltb-false, lt-leb, le-leb, eq-eqb, ne_eqb, eqb-true, eqb-false}
 use lib.Dec.{ltb, leb, eqb}
 use lib.IntN.{ℤ, pos, negsuc, nat_abs, neg_ℤ, ◌+ℤ◌, ◌-ℤ◌, ◌*ℤ◌}
 use lib.Signed.{quot_z, rem_z, lt_z, nat_abs-le}
 use mir.Syntax.{w32, w64}
-use mir.Val.{SFits, of_z}
-use Rattle.measure.proofs.Signed.{small}
+use mir.Val.{SFits, to_z, of_z}
+use mir.Facts.{to_z-of_z}
+use Rattle.measure.proofs.Signed.{small, widened}
 use Rattle.measure.specs.RoundingLaws.{abs_neg}
-use Rattle.rules.specs.Numbers.{equal_z}
+use Rattle.rules.specs.Refusals.{value, bad}
+use Rattle.rules.specs.Numbers.{equal_z, within}
 
 abs_sub : (a b : ℕ) (t : Bool) → ltb a b ≡ t → nat_abs (cond t (negsuc (b - suc a)) (pos (a - b))) ≤ a + b
 abs_sub a b true e = let h = ltb-true a b e in omega arith
@@ -97,3 +99,27 @@ inside (negsuc n) e f = let h = ltb-false 999999999 n e in omega arith
 pub small_32 : (z : ℤ) → nat_abs z ≤ 1000000000 → SFits w32 z
 small_32 (pos n) h = record { sfits = omega arith }
 small_32 (negsuc n) h = record { sfits = omega arith }
+
+-- what the two tests of `judge` give, as they stand in the code
+module _ (z : ℤ) (f : SFits w64 z) where
+  pub judged_below : lt_z (to_z w64 (of_z w64 z)) (negsuc 999999999) ≡ true → bad 6 ≡ within z
+  judged_below e = rw (past_below z (rw (to_z-of_z f) at e))
+
+  pub judged_above : lt_z (pos 1000000000) (to_z w64 (of_z w64 z)) ≡ true → bad 6 ≡ within z
+  judged_above e = rw (past_above z (rw (to_z-of_z f) at e))
+
+  between : lt_z (to_z w64 (of_z w64 z)) (negsuc 999999999) ≡ false → lt_z (pos 1000000000) (to_z w64 (of_z w64 z)) ≡ false → nat_abs z ≤ 1000000000
+  between d e = inside z (rw (to_z-of_z f) at d) (rw (to_z-of_z f) at e)
+
+  pub judged_fits : lt_z (to_z w64 (of_z w64 z)) (negsuc 999999999) ≡ false → lt_z (pos 1000000000) (to_z w64 (of_z w64 z)) ≡ false
+      → SFits w32 (to_z w64 (of_z w64 z))
+  judged_fits d e = rw (to_z-of_z f) (small_32 z (between d e))
+
+  pub judged_inside : lt_z (to_z w64 (of_z w64 z)) (negsuc 999999999) ≡ false → lt_z (pos 1000000000) (to_z w64 (of_z w64 z)) ≡ false
+      → value (to_z w32 (of_z w32 (to_z w64 (of_z w64 z)))) ≡ within z
+  judged_inside d e = let b = between d e in rw (to_z-of_z f, to_z-of_z (small_32 z b), le-leb (nat_abs z) 1000000000 b)
+
+-- what a division of two i32, read as i64, owes
+pub division_fits : (a b : ℤ) → SFits w32 a → SFits w32 b → (of_z w64 (to_z w32 (of_z w32 b)) ≡ 0 → ⊥)
+    → (of_z w64 (to_z w32 (of_z w32 b)) ≡ 0 → ⊥) × SFits w64 (quot_z (to_z w64 (of_z w64 (to_z w32 (of_z w32 a)))) (to_z w64 (of_z w64 (to_z w32 (of_z w32 b)))))
+division_fits a b f g h = (h, rw (widened f, widened g) (quotient_fits a b f g))

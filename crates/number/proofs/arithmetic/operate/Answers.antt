@@ -63,9 +63,6 @@ overflow_mul-x c = asked ◌*ℤ◌ product_fits (goal.at.overflow_mul-x c).Star
 pub returns-then-y-eq0 : goal.returns-then-y-eq0
 returns-then-y-eq0 c = said (goal.at.returns-then-y-eq0 c).Start c.in-Divide.is (rw (zero (goal.at.returns-then-y-eq0 c).Start c.if-y-eq0.true))
 
-pub nonzero_div-x : goal.nonzero_div-x
-nonzero_div-x c = (omega arith, asked quot_z quotient_fits (goal.at.nonzero_div-x c).Start)
-
 pub returns-then-y-eq0-2 : goal.returns-then-y-eq0-2
 returns-then-y-eq0-2 c = said (goal.at.returns-then-y-eq0-2 c).Start c.in-Remainder.is (rw (zero (goal.at.returns-then-y-eq0-2 c).Start c.if-y-eq0-2.true))
 
