@@ -98,7 +98,7 @@ fn declares(text: &str, name: &str) -> bool {
 }
 
 /// The file of a module in a crate's definitions, with the one of that name in its proofs, which may have its laws.
-fn definitions(crate_name: &str, module: &str) -> String {
+fn module_text(crate_name: &str, module: &str) -> String {
     let file = |part| root().join(format!("crates/{crate_name}/{part}/{module}.antt"));
     ["specs", "proofs"].iter().filter_map(|part| fs::read_to_string(file(part)).ok()).collect()
 }
@@ -113,7 +113,7 @@ fn the_definitions_exist() {
             if !module.starts_with(|letter: char| letter.is_uppercase()) {
                 continue;
             }
-            let text = definitions(crate_name, module);
+            let text = module_text(crate_name, module);
             assert!(declares(&text, name), "{quote}: {span} is not declared");
             named += 1;
         }
@@ -252,7 +252,7 @@ fn is_code(path: &str) -> bool {
 fn is_definition(path: &str) -> bool {
     let (file, name) = path.split_once('.').map_or((path, None), |(file, name)| (file, Some(name)));
     let Some((crate_name, file)) = file.split_once('/') else { return false };
-    let text = definitions(crate_name, file);
+    let text = module_text(crate_name, file);
     !text.is_empty() && name.is_none_or(|name| declares(&text, name))
 }
 
