@@ -5,7 +5,7 @@
 //
 // Standard input has a title or a document on each line. A title starts with `#` and is written as it is. In a document `|` is a
 // newline, `{512 x}` stands for 512 times `x`, and `{9}` for the byte with the number 9.
-ghost use Rattle.std.specs.Prelude.{◌≡◌, ◌≤◌, length};
+ghost use Rattle.std.specs.Prelude.{◌≡◌, ◌≤◌, IfSome, length};
 
 use record::Record;
 use report::{read_full, text};
@@ -68,26 +68,15 @@ struct NumberAt {
     next: usize,
 }
 
-fn least(a: usize, b: usize) -> usize
-    ensures { result ≤ b }
-{
-    if a < b {
-        return a;
-    }
-    b
-}
-
 // The place of the first such byte at or behind a place, or the end.
 fn find(s: &[u8], from: usize, byte: u8) -> usize
     requires { from ≤ length s.now }
     ensures { (from ≤ result) × (result ≤ length s.now) }
 {
-    for i in from..s.len() {
-        if s[i] == byte {
-            return i;
-        }
+    match s[from..].iter().position(|&each| each == byte) {
+        Some(place) => from + place,
+        None => s.len(),
     }
-    s.len()
 }
 
 // Puts a byte at a place; the place behind it. What does not fit is left out.
@@ -109,8 +98,8 @@ fn plain(byte: u8) -> u8 {
 
 fn put_all(text: &[u8], document: &mut [u8], from: usize) -> usize {
     let mut at = from;
-    for byte in text {
-        at = put(document, at, plain(*byte));
+    for &byte in text {
+        at = put(document, at, plain(byte));
     }
     at
 }
@@ -123,27 +112,23 @@ fn repeat(text: &[u8], count: u64, document: &mut [u8], from: usize) -> usize {
     at
 }
 
-// A digit's value; 10 for any other byte.
-fn digit(byte: u8) -> u64
-    ensures { result ≤ 10 }
+// A digit's value.
+fn digit(byte: u8) -> Option<u64>
+    ensures { IfSome result (λ value. value ≤ 9) }
 {
-    if byte < b'0' {
-        return 10;
+    if byte.is_ascii_digit() {
+        return Some(u64::from(byte - b'0'));
     }
-    if byte > b'9' {
-        return 10;
-    }
-    (byte - b'0') as u64
+    None
 }
 
 // The number at the start of a text. One that is larger than any count here is cut, so that no sum passes its type.
 fn number(s: &[u8]) -> NumberAt {
     let mut value: u64 = 0;
-    for i in 0..s.len() {
-        let next = digit(s[i]);
-        if next > 9 {
+    for (i, &byte) in s.iter().enumerate() {
+        let Some(next) = digit(byte) else {
             return NumberAt { value, next: i };
-        }
+        };
         value = (value % 100000000) * 10 + next;
     }
     NumberAt {
@@ -167,6 +152,7 @@ fn put_braced(inside: &[u8], document: &mut [u8], at: usize) -> usize {
 fn decode(line: &[u8], document: &mut [u8]) -> usize {
     let mut at = 0;
     let mut i = 0;
+    // a turn moves on by a byte, or past a closing brace
     while i < line.len() {
         let start = i + 1;
         if line[i] == b'{' {
@@ -185,16 +171,10 @@ fn mixed(sum: u64, value: u64) -> u64 {
     ((sum % PRIME) * 257 + (value % PRIME) + 1) % PRIME
 }
 
-fn wide(byte: u8) -> u64 {
-    byte as u64
-}
-
 fn sum_of(before: u64, bytes: &[u8]) -> u64 {
-    let mut sum = before;
-    for byte in bytes {
-        sum = mixed(sum, wide(*byte));
-    }
-    sum
+    bytes
+        .iter()
+        .fold(before, |sum, &byte| mixed(sum, u64::from(byte)))
 }
 
 fn code(answer: Answer) -> u64 {
@@ -204,13 +184,6 @@ fn code(answer: Answer) -> u64 {
         Answer::Done => 2,
         Answer::Refused(_, _) => 3,
     }
-}
-
-fn one_if(holds: bool) -> u64 {
-    if holds {
-        return 1;
-    }
-    0
 }
 
 fn nothing_seen() -> Observed {
@@ -228,9 +201,8 @@ fn nothing_seen() -> Observed {
 
 // What is seen after one more call.
 fn noted(seen: Observed, answer: Answer, taken: usize, written: usize, pages: u64) -> Observed {
-    let kind = code(answer);
     let answers = mixed(
-        mixed(mixed(seen.answers, kind), taken as u64),
+        mixed(mixed(seen.answers, code(answer)), taken as u64),
         written as u64,
     );
     Observed {
@@ -238,8 +210,12 @@ fn noted(seen: Observed, answer: Answer, taken: usize, written: usize, pages: u6
         taken: seen.taken.wrapping_add(taken),
         written: seen.written.wrapping_add(written),
         calls: seen.calls.wrapping_add(1),
-        input: seen.input.wrapping_add(one_if(kind == 0)),
-        room: seen.room.wrapping_add(one_if(kind == 1)),
+        input: seen
+            .input
+            .wrapping_add(u64::from(matches!(answer, Answer::NeedsInput))),
+        room: seen
+            .room
+            .wrapping_add(u64::from(matches!(answer, Answer::NeedsRoom))),
         answers,
         pages,
     }
@@ -247,17 +223,15 @@ fn noted(seen: Observed, answer: Answer, taken: usize, written: usize, pages: u6
 
 // Where the next bytes of pages go: behind those before, as long as the pages may be shown, else to the start again.
 fn place(written: usize) -> usize {
-    if written <= SHOWN {
-        return written;
-    }
-    0
+    if written <= SHOWN { written } else { 0 }
 }
 
 fn room_of(cut: CutSizes, calls: u64) -> usize {
     if calls % 2 == 0 {
-        return cut.room;
+        cut.room
+    } else {
+        cut.next_room
     }
-    cut.next_room
 }
 
 // One call.
@@ -270,13 +244,11 @@ fn call(
     seen: Observed,
 ) -> AfterCall {
     let reply = session::call(record, store, block, last, &mut *room);
-    let next = reply.next;
-    let answer = reply.answer;
-    let count = least(reply.written, room.len());
+    let count = reply.written.min(room.len());
     let pages = sum_of(seen.pages, &room[..count]);
     AfterCall {
-        record: next,
-        seen: noted(seen, answer, reply.taken, reply.written, pages),
+        seen: noted(seen, reply.answer, reply.taken, reply.written, pages),
+        record: reply.next,
     }
 }
 
@@ -284,10 +256,10 @@ fn call(
 fn parts_lent(cut: CutSizes, seen: Observed, document: usize, pages: usize) -> Window
     ensures { ((result.from ≤ result.end) × (result.end ≤ document)) × ((result.at ≤ result.behind) × (result.behind ≤ pages)) }
 {
-    let from = least(seen.taken, document);
-    let end = from + least(cut.block, document - from);
-    let at = least(place(seen.written), pages);
-    let behind = at + least(room_of(cut, seen.calls), pages - at);
+    let from = seen.taken.min(document);
+    let end = from + cut.block.min(document - from);
+    let at = place(seen.written).min(pages);
+    let behind = at + room_of(cut, seen.calls).min(pages - at);
     Window {
         from,
         end,
@@ -306,17 +278,12 @@ fn cut_call(
     seen: Observed,
 ) -> AfterCall {
     let lent = parts_lent(cut, seen, document.len(), pages.len());
-    let from = lent.from;
-    let end = lent.end;
-    let at = lent.at;
-    let behind = lent.behind;
-    let last = end == document.len();
     call(
         record,
         store,
-        &document[from..end],
-        last,
-        &mut pages[at..behind],
+        &document[lent.from..lent.end],
+        lent.end == document.len(),
+        &mut pages[lent.at..lent.behind],
         seen,
     )
 }
@@ -331,74 +298,53 @@ fn run(document: &[u8], cut: CutSizes, pages: &mut [u8]) -> Observed {
         let step = cut_call(record, &mut store, document, cut, &mut *pages, seen);
         record = step.record;
         seen = step.seen;
-        let answer = seen.answer;
-        if code(answer) >= 2 {
+        if matches!(seen.answer, Answer::Done | Answer::Refused(..)) {
             return seen;
         }
     }
     seen
 }
 
-fn say(rt: &impl Print, name: &[u8], value: u64) -> io::Result<()> {
-    text(rt, name)?;
-    rt.print(value)
-}
-
-fn say_refused(rt: &impl Print, number: u8, line: u32) -> io::Result<()> {
-    say(rt, b"refused ", number as u64)?;
-    say(rt, b" at line ", line as u64)
-}
-
 fn say_answer(rt: &impl Print, answer: Answer) -> io::Result<()> {
     match answer {
-        Answer::NeedsInput => text(rt, b"needs input"),
-        Answer::NeedsRoom => text(rt, b"needs room"),
-        Answer::Done => text(rt, b"done"),
-        Answer::Refused(number, line) => say_refused(rt, number, line),
+        Answer::NeedsInput => print!(rt; "needs input"),
+        Answer::NeedsRoom => print!(rt; "needs room"),
+        Answer::Done => print!(rt; "done"),
+        Answer::Refused(number, line) => print!(rt; "refused {number} at line {line}"),
     }
-}
-
-// The byte that stands for a byte of pages.
-fn barred(byte: u8) -> u8 {
-    if byte == 10 {
-        return b'|';
-    }
-    byte
 }
 
 fn bar_newlines(pages: &mut [u8]) {
     for byte in pages.iter_mut() {
-        *byte = barred(*byte);
+        if *byte == b'\n' {
+            *byte = b'|';
+        }
     }
 }
 
 // The pages on one line, with a bar for each newline.
 fn say_pages(rt: &impl Print, pages: &mut [u8]) -> io::Result<()> {
     bar_newlines(&mut *pages);
-    text(rt, b"  ")?;
+    print!(rt; "  ")?;
     text(rt, &*pages)?;
-    text(rt, b"\n")
+    println!(rt)
 }
 
 fn say_seen(rt: &impl Print, seen: Observed, pages: &mut [u8]) -> io::Result<()> {
-    let answer = seen.answer;
-    say_answer(rt, answer)?;
-    say(rt, b"; taken ", seen.taken as u64)?;
-    say(rt, b", written ", seen.written as u64)?;
-    say(rt, b"; calls ", seen.calls)?;
-    say(rt, b", for input ", seen.input)?;
-    say(rt, b", for room ", seen.room)?;
-    say(rt, b", sum ", seen.answers)?;
-    text(rt, b"\n")?;
-    let written = seen.written;
-    if written > SHOWN {
-        say(rt, b"  pages with sum ", seen.pages)?;
-        return text(rt, b"\n");
+    say_answer(rt, seen.answer)?;
+    print!(rt; "; taken {}, written {}", seen.taken, seen.written)?;
+    print!(rt;
+        "; calls {}, for input {}, for room {}",
+        seen.calls, seen.input, seen.room
+    )?;
+    println!(rt; ", sum {}", seen.answers)?;
+    if seen.written > SHOWN {
+        return println!(rt; "  pages with sum {}", seen.pages);
     }
-    if written == 0 {
+    if seen.written == 0 {
         return Ok(());
     }
-    let end = least(written, pages.len());
+    let end = seen.written.min(pages.len());
     say_pages(rt, &mut pages[..end])
 }
 
@@ -411,10 +357,7 @@ fn cut_run(
     next_room: usize,
     pages: &mut [u8],
 ) -> io::Result<()> {
-    say(rt, b"blocks ", block as u64)?;
-    say(rt, b", rooms ", room as u64)?;
-    say(rt, b" ", next_room as u64)?;
-    text(rt, b": ")?;
+    print!(rt; "blocks {block}, rooms {room} {next_room}: ")?;
     let cut = CutSizes {
         block,
         room,
@@ -426,7 +369,7 @@ fn cut_run(
 
 // A room of 0 alone never leads on, so it takes turns with another.
 fn runs(rt: &impl Print, document: &[u8], pages: &mut [u8]) -> io::Result<()> {
-    text(rt, b"whole: ")?;
+    print!(rt; "whole: ")?;
     let cut = CutSizes {
         block: DOCUMENT,
         room: ROOM,
@@ -442,31 +385,22 @@ fn runs(rt: &impl Print, document: &[u8], pages: &mut [u8]) -> io::Result<()> {
     cut_run(rt, document, 7, 5, 5, pages)
 }
 
-fn is_title(line: &[u8]) -> bool {
-    if line.len() == 0 {
-        return false;
-    }
-    line[0] == b'#'
-}
-
 fn answer(rt: &impl Print, line: &[u8], document: &mut [u8], pages: &mut [u8]) -> io::Result<()> {
-    if is_title(line) {
+    if line.starts_with(b"#") {
         text(rt, line)?;
-        return text(rt, b"\n");
+        return println!(rt);
     }
     let length = decode(line, &mut *document);
     if length >= document.len() {
-        return text(rt, b"too long\n");
+        return println!(rt; "too long");
     }
     runs(rt, &document[..length], pages)
 }
 
 fn answer_all(rt: &impl Print, s: &[u8], document: &mut [u8], pages: &mut [u8]) -> io::Result<()> {
-    let mut from: usize = 0;
-    while from < s.len() {
-        let end = find(s, from, 10);
-        answer(rt, &s[from..end], &mut *document, &mut *pages)?;
-        from = end + 1;
+    for line in s.split_inclusive(|byte| *byte == b'\n') {
+        let line = line.strip_suffix(b"\n").unwrap_or(line);
+        answer(rt, line, &mut *document, &mut *pages)?;
     }
     Ok(())
 }

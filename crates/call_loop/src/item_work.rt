@@ -1,10 +1,9 @@
 // A piece of work as a turn of a call.
-ghost use Rattle.std.specs.Prelude.{◌≡◌, length};
+ghost use Rattle.std.specs.Prelude.{None, ◌≡◌, length};
 ghost use Rattle.rules.specs.Printers.{ten_to_the_inch};
 ghost use Rattle.rules.specs.Session.{step};
 ghost use Rattle.state.specs.Whole.{WholeState, state_in};
 ghost use Rattle.state.specs.Statuses.{whole_of};
-ghost use Rattle.record.specs.declared.Stop.TheVariants.{Goes};
 ghost use Rattle.record.specs.View.{sourced};
 ghost use Rattle.record.specs.Turns.{record_of, core_in, Whichever, RecordRefines, WorkReady};
 
@@ -35,7 +34,7 @@ pub fn work(
     steps: &mut NumberColumn,
 ) -> TurnOutcome
     requires { let q : WholeState = whole_of status cells.old arena.old ends.old store.old text_firsts.old text_seconds.old kinds.old lengths.old firsts.old seconds.old values.old steps.old in WorkReady status source q row.old }
-    ensures { let q : WholeState = whole_of status cells.old arena.old ends.old store.old text_firsts.old text_seconds.old kinds.old lengths.old firsts.old seconds.old values.old steps.old in (Whichever (λ g. RecordRefines (step ten_to_the_inch (state_in q (sourced source g))) store.old (record_of (core_in result) g cells.new row.new arena.new ends.new text_firsts.new text_seconds.new kinds.new lengths.new firsts.new seconds.new values.new steps.new) store.new)) × (result.stop ≡ Goes) × (result.taken ≡ taken) }
+    ensures { let q : WholeState = whole_of status cells.old arena.old ends.old store.old text_firsts.old text_seconds.old kinds.old lengths.old firsts.old seconds.old values.old steps.old in (Whichever (λ g. RecordRefines (step ten_to_the_inch (state_in q (sourced source g))) store.old (record_of (core_in result) g cells.new row.new arena.new ends.new text_firsts.new text_seconds.new kinds.new lengths.new firsts.new seconds.new values.new steps.new) store.new)) × (result.stop ≡ None) × (result.taken ≡ taken) }
 {
     let worked = formatter::work(
         source.stored,
@@ -56,12 +55,8 @@ pub fn work(
         steps,
     );
     let after = Source {
-        line: source.line,
-        length: source.length,
-        ended: source.ended,
         stored: worked.stored,
+        ..source
     };
-    let next = worked.status;
-    let way = worked.way;
-    record::turn_after(next, after, way, worked.written, taken)
+    record::turn_after(worked.status, after, worked.way, worked.written, taken)
 }

@@ -9,7 +9,7 @@ ghost use Rattle.record.specs.View.{ValidRecord};
 ghost use Rattle.record.specs.Turns.{record_of, resting, core_of, core_in, TurnReady, TurnContract, RunContract, reply_from};
 ghost use Rattle.record.specs.declared.Record.{Record};
 
-use record::{Closing, Ran, RecordCore, Stop, TurnOutcome, Waiting};
+use record::{Closing, Ran, RecordCore, TurnOutcome, Waiting};
 use rules::arrays::{
     ByteColumn, LengthColumn, LineBytes, NumberColumn, RowBytes, StackBytes, StackEnds,
 };
@@ -106,7 +106,7 @@ fn take_turn(
         );
     }
     TurnOutcome {
-        stop: Stop::With(Answer::NeedsInput),
+        stop: Some(Answer::NeedsInput),
         status,
         source,
         waiting: Waiting { at: 0, end: 0 },
@@ -170,6 +170,7 @@ pub fn run(
     let mut closing = start.closing;
     let mut taken: usize = 0;
     let mut written: usize = 0;
+    // a turn writes, takes or works by as much as there is: no count of turns is known
     loop {
         let wrote = record::write_out(waiting, row, out, written);
         waiting = wrote.waiting;
@@ -185,8 +186,7 @@ pub fn run(
                 written,
             );
         }
-        let ended = record::closed(closing);
-        if let Stop::With(answer) = ended {
+        if let Some(answer) = record::closed(closing) {
             return ran(answer, status, source, waiting, closing, taken, written);
         }
         let turned = take_turn(
@@ -215,8 +215,7 @@ pub fn run(
         waiting = turned.waiting;
         closing = turned.closing;
         taken = turned.taken;
-        let stop = turned.stop;
-        if let Stop::With(answer) = stop {
+        if let Some(answer) = turned.stop {
             return ran(answer, status, source, waiting, closing, taken, written);
         }
     }

@@ -1,8 +1,7 @@
 // A line of the source is gathered and dealt with.
-ghost use Rattle.std.specs.Prelude.{◌≡◌, ◌<◌, length};
+ghost use Rattle.std.specs.Prelude.{None, ◌≡◌, ◌<◌, length};
 ghost use Rattle.rules.specs.Session.{step, read_end};
 ghost use Rattle.state.specs.Statuses.{whole_of};
-ghost use Rattle.record.specs.declared.Stop.TheVariants.{Goes};
 ghost use Rattle.record.specs.View.{state_of};
 ghost use Rattle.record.specs.Turns.{record_of, resting, core_in, Whichever, DealReady, LineRefines, InputReady, Arrives, InputRefines};
 ghost use Rattle.record.specs.declared.Record.{Record};
@@ -37,7 +36,7 @@ fn deal_line(
     steps: &mut NumberColumn,
 ) -> TurnOutcome
     requires { let q : WholeState = whole_of status cells.old arena.old ends.old store.old text_firsts.old text_seconds.old kinds.old lengths.old firsts.old seconds.old values.old steps.old in DealReady q source line.now row.old }
-    ensures { let q : WholeState = whole_of status cells.old arena.old ends.old store.old text_firsts.old text_seconds.old kinds.old lengths.old firsts.old seconds.old values.old steps.old in (Whichever (λ g. LineRefines line.now q source g (record_of (core_in result) g cells.new row.new arena.new ends.new text_firsts.new text_seconds.new kinds.new lengths.new firsts.new seconds.new values.new steps.new) store.new)) × (result.stop ≡ Goes) × (result.taken ≡ taken) }
+    ensures { let q : WholeState = whole_of status cells.old arena.old ends.old store.old text_firsts.old text_seconds.old kinds.old lengths.old firsts.old seconds.old values.old steps.old in (Whichever (λ g. LineRefines line.now q source g (record_of (core_in result) g cells.new row.new arena.new ends.new text_firsts.new text_seconds.new kinds.new lengths.new firsts.new seconds.new values.new steps.new) store.new)) × (result.stop ≡ None) × (result.taken ≡ taken) }
 {
     let step = formatter::deal(
         line,
@@ -57,9 +56,7 @@ fn deal_line(
         values,
         steps,
     );
-    let after = step.status;
-    let way = step.way;
-    record::turn_after(after, source, way, step.written, taken)
+    record::turn_after(step.status, source, step.way, step.written, taken)
 }
 
 // The end is read, with the line it closes.
@@ -83,7 +80,7 @@ pub fn read_end(
     steps: &mut NumberColumn,
 ) -> TurnOutcome
     requires { let q : Record = record_of (resting status source) gathered.now cells.old row.old arena.old ends.old text_firsts.old text_seconds.old kinds.old lengths.old firsts.old seconds.old values.old steps.old in InputReady q store.old }
-    ensures { let q : Record = record_of (resting status source) gathered.now cells.old row.old arena.old ends.old text_firsts.old text_seconds.old kinds.old lengths.old firsts.old seconds.old values.old steps.old in (Arrives (read_end (state_of q store.old)) store.old (record_of (core_in result) gathered.now cells.new row.new arena.new ends.new text_firsts.new text_seconds.new kinds.new lengths.new firsts.new seconds.new values.new steps.new) store.new) × (result.stop ≡ Goes) × (result.taken ≡ taken) }
+    ensures { let q : Record = record_of (resting status source) gathered.now cells.old row.old arena.old ends.old text_firsts.old text_seconds.old kinds.old lengths.old firsts.old seconds.old values.old steps.old in (Arrives (read_end (state_of q store.old)) store.old (record_of (core_in result) gathered.now cells.new row.new arena.new ends.new text_firsts.new text_seconds.new kinds.new lengths.new firsts.new seconds.new values.new steps.new) store.new) × (result.stop ≡ None) × (result.taken ≡ taken) }
 {
     let after = record::emptied(source, true);
     if source.length == 0 {
@@ -132,15 +129,14 @@ pub fn take_line(
     steps: &mut NumberColumn,
 ) -> TurnOutcome
     requires { let q : Record = record_of (resting status source) gathered.old cells.old row.old arena.old ends.old text_firsts.old text_seconds.old kinds.old lengths.old firsts.old seconds.old values.old steps.old in InputReady q store.old × (taken < length block.now) }
-    ensures { let q : Record = record_of (resting status source) gathered.old cells.old row.old arena.old ends.old text_firsts.old text_seconds.old kinds.old lengths.old firsts.old seconds.old values.old steps.old in (InputRefines block.now q store.old taken (record_of (core_in result) gathered.new cells.new row.new arena.new ends.new text_firsts.new text_seconds.new kinds.new lengths.new firsts.new seconds.new values.new steps.new) store.new result.taken) × (result.stop ≡ Goes) }
+    ensures { let q : Record = record_of (resting status source) gathered.old cells.old row.old arena.old ends.old text_firsts.old text_seconds.old kinds.old lengths.old firsts.old seconds.old values.old steps.old in (InputRefines block.now q store.old taken (record_of (core_in result) gathered.new cells.new row.new arena.new ends.new text_firsts.new text_seconds.new kinds.new lengths.new firsts.new seconds.new values.new steps.new) store.new result.taken) × (result.stop ≡ None) }
 {
     let got = source_line::gather(block, taken, gathered, source);
     let after = got.source;
-    let why = got.why;
     let to = taken + got.taken;
-    match why {
+    match got.why {
         Why::More => record::turn_after(status, after, Way::On, 0, to),
-        Why::Refused(n) => record::turn_after(status, after, Way::Refused(n), 0, to),
+        Why::Refused(refusal) => record::turn_after(status, after, Way::Refused(refusal), 0, to),
         Why::Ended => deal_line(
             fill::words::slice(gathered, 0, after.length),
             to,

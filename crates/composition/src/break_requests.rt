@@ -1,5 +1,5 @@
 // What a breaking request does: it starts the first page, or breaks, or acts.
-ghost use Rattle.std.specs.Prelude.{◌≡◌, ◌&&◌, [], length};
+ghost use Rattle.std.specs.Prelude.{◌≡◌, [], length};
 ghost use Rattle.rules.specs.Acts as rule;
 ghost use Rattle.settings.specs.Layout.Layouts.{printer_of, PrinterInvariant};
 ghost use Rattle.composition.specs.PageRows.PageState.{PageState, page_state, PageReady, PageRefines};
@@ -9,9 +9,8 @@ ghost use Rattle.composition.specs.BreakRequests.Obeying.{held_line, held_reques
 use super::page_rows::{Collected, PageOutcome, settle, stay};
 use input_stack::frames::What;
 use input_stack::stack::Stack;
-use number::scales::MaybeRows;
 use page::position::Page;
-use page::springs::{Held, Way};
+use page::springs::Way;
 use rules::arrays::{ARGUMENT_COUNT, ByteColumn, LineBytes, RowBytes, StackBytes, StackEnds};
 use rules::{Breaking, Name};
 use settings::layout::{Layout, Printer};
@@ -38,11 +37,11 @@ fn space(
     ensures { let q : PageState = page_state layout page collected cells.now stack arena.old ends.old in PageRefines (λ ts s. space_by (printer_of printer) argument.now s) firsts.now seconds.now texts planted q result.way result.written (page_state result.layout result.page result.collected cells.now result.stack arena.new ends.new) row.new }
 {
     match settings::layout::spacing(argument, printer) {
-        MaybeRows::Are(count) => super::page_rows::skip(
+        Ok(count) => super::page_rows::skip(
             count, layout, page, collected, planted, cells, row, stack, arena, ends, firsts,
             seconds, texts,
         ),
-        MaybeRows::Bad => stay(Way::Refused(6), layout, page, collected, stack),
+        Err(refusal) => stay(Way::Refused(refusal), layout, page, collected, stack),
     }
 }
 
@@ -127,43 +126,24 @@ pub fn act(
 }
 
 // "that line, as expanded, is dealt with after the top macro"
-fn held_line(period: bool, request: Breaking, name: Name) -> Held
+fn held_line(period: bool, request: Breaking, name: Name) -> Option<What>
     ensures { result ≡ held_line period request name }
 {
-    if line_syntax::lines::held_first(request) {
-        return Held::Item(What::Control(period, name));
-    }
-    Held::Nothing
+    line_syntax::lines::held_first(request).then_some(What::Control(period, name))
 }
 
 // "If that break springs a trap, the request acts after its macro is read"
-fn held_request(request: Breaking) -> Held
+fn held_request(request: Breaking) -> Option<What>
     ensures { result ≡ held_request request }
 {
-    if line_syntax::lines::acts_after(request) {
-        return Held::Item(What::Acts(request));
-    }
-    Held::Nothing
+    line_syntax::lines::acts_after(request).then_some(What::Acts(request))
 }
 
 // "The first page starts at the first .. break, sp or bp"
 fn starts_first(number: u32, period: bool, request: Breaking) -> bool
     ensures { result ≡ starts_first number period request }
 {
-    if number == 0 {
-        return line_syntax::lines::starts_page(period, request);
-    }
-    false
-}
-
-// Whether there is a line to break, and a period to break it.
-fn breaks(period: bool, there: bool) -> bool
-    ensures { result ≡ period && there }
-{
-    if period {
-        return there;
-    }
-    false
+    number == 0 && line_syntax::lines::starts_page(period, request)
 }
 
 // A breaking request, whose line is expanded behind its name: it starts the first page, or breaks, or acts.
@@ -208,7 +188,7 @@ pub fn obey(
             texts,
         );
     }
-    if breaks(period, collected.there) {
+    if period && collected.there {
         return super::page_rows::break_line(
             held_request(request),
             line,

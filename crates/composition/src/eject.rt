@@ -4,26 +4,23 @@ ghost use Rattle.measure.specs.Counts.{down_of};
 ghost use Rattle.rules.specs.Rows as rule;
 ghost use Rattle.composition.specs.PageRows.PageState.{PageState, page_state, left_if, PageReady, PageRefines};
 
-use super::page_rows::{Collected, PageOutcome};
+use super::page_rows::{Collected, PageOutcome, stay};
 use input_stack::frames::What;
 use input_stack::stack::Stack;
 use measure::Rows;
 use page::position::Page;
-use page::springs::{Held, Landed, Way};
+use page::springs::Way;
 use rules::arrays::{ByteColumn, LineBytes, RowBytes, StackBytes, StackEnds};
 use settings::layout::Layout;
 use traps::table::Planted;
 
 // What is left of a bp after blank rows, if they end within the page.
-fn left_of(from: u32, page: Page, rows: Rows, length: Rows) -> Held
+fn left_of(from: u32, page: Page, rows: Rows, length: Rows) -> Option<What>
     requires { (down_of page.used < down_of length) × (down_of length ≤ 500) }
     ensures { result ≡ left_if (ltb (down_of page.used + down_of rows) (down_of length)) from }
 {
     let to = measure::down(page.used) as usize + measure::down(rows) as usize;
-    if to < measure::down(length) as usize {
-        return Held::Item(What::Ejects(from));
-    }
-    Held::Nothing
+    (to < measure::down(length) as usize).then_some(What::Ejects(from))
 }
 
 // "blank rows to the next trap, its macro, and on until the page has changed."
@@ -46,20 +43,10 @@ pub fn eject(
     ensures { let q : PageState = page_state layout page collected cells.now stack arena.old ends.old in PageRefines (λ ts s. rule.eject from s) firsts.now seconds.now texts planted q result.way result.written (page_state result.layout result.page result.collected cells.now result.stack arena.new ends.new) row.new }
 {
     if from != page.number {
-        return super::page_rows::lead_to(
-            layout,
-            collected,
-            Landed {
-                way: Way::On,
-                page,
-                stack,
-            },
-            0,
-        );
+        return stay(Way::On, layout, page, collected, stack);
     }
-    let length = layout.page;
-    let rows = page::position::rows_below(page, length, planted);
-    let held = left_of(from, page, rows, length);
+    let rows = page::position::rows_below(page, layout.page, planted);
+    let held = left_of(from, page, rows, layout.page);
     super::page_rows::blank(
         rows, held, b"", layout, page, collected, planted, cells, row, stack, arena, ends, firsts,
         seconds, texts,
@@ -84,24 +71,10 @@ pub fn eject_last(
     requires { let q : PageState = page_state layout page collected cells.now stack arena.old ends.old in PageReady planted q [] row.old firsts.now seconds.now texts }
     ensures { let q : PageState = page_state layout page collected cells.now stack arena.old ends.old in PageRefines (λ ts s. rule.eject_last s) firsts.now seconds.now texts planted q result.way result.written (page_state result.layout result.page result.collected cells.now result.stack arena.new ends.new) row.new }
 {
-    let length = layout.page;
-    let below = page::position::rows_below(page, length, planted);
+    let below = page::position::rows_below(page, layout.page, planted);
     super::page_rows::blank(
-        below,
-        Held::Nothing,
-        b"",
-        layout,
-        page,
-        collected,
-        planted,
-        cells,
-        row,
-        stack,
-        arena,
-        ends,
-        firsts,
-        seconds,
-        texts,
+        below, None, b"", layout, page, collected, planted, cells, row, stack, arena, ends, firsts,
+        seconds, texts,
     )
 }
 
@@ -123,41 +96,15 @@ pub fn begin_end(
     requires { let q : PageState = page_state layout page collected cells.now stack arena.old ends.old in PageReady planted q [] row.old firsts.now seconds.now texts }
     ensures { let q : PageState = page_state layout page collected cells.now stack arena.old ends.old in PageRefines (λ ts s. rule.begin_end s) firsts.now seconds.now texts planted q result.way result.written (page_state result.layout result.page result.collected cells.now result.stack arena.new ends.new) row.new }
 {
-    let used = page.used;
-    let last = Page {
-        number: page.number,
-        used,
-        last: true,
-    };
+    let last = Page { last: true, ..page };
     if collected.there {
         return super::page_rows::break_line(
-            Held::Nothing,
-            b"",
-            layout,
-            last,
-            collected,
-            planted,
-            cells,
-            row,
-            stack,
-            arena,
-            ends,
-            firsts,
-            seconds,
-            texts,
+            None, b"", layout, last, collected, planted, cells, row, stack, arena, ends, firsts,
+            seconds, texts,
         );
     }
-    if measure::down(used) == 0 {
-        return super::page_rows::lead_to(
-            layout,
-            collected,
-            Landed {
-                way: Way::Done,
-                page: last,
-                stack,
-            },
-            0,
-        );
+    if measure::down(page.used) == 0 {
+        return stay(Way::Done, layout, last, collected, stack);
     }
     eject_last(
         layout, last, collected, planted, cells, row, stack, arena, ends, firsts, seconds, texts,

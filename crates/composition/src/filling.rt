@@ -6,31 +6,28 @@ ghost use Rattle.rules.specs.TextLines as rule;
 ghost use Rattle.rules.specs.TextLines.{fills};
 ghost use Rattle.fill.specs.Words.Parts.{bytes_between, Places};
 ghost use Rattle.fill.specs.Collected.Filled.{placed_of};
-ghost use Rattle.fill.specs.declared.collected.Placed.TheVariants.{Full};
 ghost use Rattle.composition.specs.PageRows.PageState.{PageState, page_state, PageReady, PageRefines};
 ghost use Rattle.composition.specs.Filling.Words.{others_held, gap_behind, collected_to, leading_word, Overflows, WordsFilled, WordStarts, Follows};
 
 use super::page_rows::{Collected, PageOutcome, stay};
-use fill::collected::{Overflow, Placed};
-use fill::words::{NextWord, WordAt};
+use fill::collected::Overflow;
+use fill::words::WordAt;
 use input_stack::frames::What;
 use input_stack::stack::Stack;
 use measure::{Cells, Rows};
 use page::position::Page;
-use page::springs::{Held, Way};
+use page::springs::Way;
 use rules::arrays::{ByteColumn, LineBytes, RowBytes, StackBytes, StackEnds};
 use settings::layout::Layout;
 use traps::table::Planted;
 
 // "then the other words": they are held where some are left.
-fn others_held(line: &LineBytes, at: usize, to: usize, gap: u8) -> Held
+fn others_held(line: &LineBytes, at: usize, to: usize, gap: u8) -> Option<What>
     requires { Places line.now at to }
     ensures { result ≡ others_held (words (bytes_between line.now at to)) gap }
 {
-    if fill::words::is_blank(line, at, to) {
-        return Held::Nothing;
-    }
-    Held::Item(What::Others(gap))
+    let left = !fill::words::is_blank(line, at, to);
+    left.then_some(What::Others(gap))
 }
 
 // The gap to what a trap's macro puts next: the line has ended only if no words are left.
@@ -39,7 +36,7 @@ fn gap_behind(line: &LineBytes, at: usize, to: usize, gap: u8) -> Cells
     ensures { result ≡ cells_across (gap_behind (words (bytes_between line.now at to)) gap) }
 {
     if fill::words::is_blank(line, at, to) {
-        return fill::words::as_cells(gap as usize);
+        return fill::words::as_cells(usize::from(gap));
     }
     Cells(1)
 }
@@ -55,24 +52,13 @@ fn collect(
 ) -> PageOutcome
     ensures { result ≡ collected_to length gap layout page collected stack }
 {
-    let indent = collected.indent;
-    let room = collected.room;
-    let next = fill::words::as_cells(gap as usize);
     let longer = Collected {
         there: true,
-        indent,
-        room,
         length,
-        next,
+        next: fill::words::as_cells(usize::from(gap)),
+        ..collected
     };
-    PageOutcome {
-        way: Way::On,
-        layout,
-        page,
-        collected: longer,
-        stack,
-        written: 0,
-    }
+    stay(Way::On, layout, page, longer, stack)
 }
 
 // "the line is written and the word starts the next"; the other words are held.
@@ -95,16 +81,17 @@ fn overflow(
     texts: usize,
 ) -> PageOutcome
     requires { let q : PageState = page_state layout page collected cells.old stack arena.old ends.old in PageReady planted q line.now row.old firsts.now seconds.now texts × Overflows line.now to cells.old (across_of collected.room) gap o }
-    ensures { let q : PageState = page_state layout page collected cells.old stack arena.old ends.old in PageRefines (λ ts s. rule.filled (placed_of (across_of collected.indent) (across_of collected.room) cells.old (across_of collected.next) line.now to (Full o)) gap s) firsts.now seconds.now texts planted q result.way result.written (page_state result.layout result.page result.collected cells.new result.stack arena.new ends.new) row.new }
+    ensures { let q : PageState = page_state layout page collected cells.old stack arena.old ends.old in PageRefines (λ ts s. rule.filled (placed_of (across_of collected.indent) (across_of collected.room) cells.old (across_of collected.next) line.now to (Err o)) gap s) firsts.now seconds.now texts planted q result.way result.written (page_state result.layout result.page result.collected cells.new result.stack arena.new ends.new) row.new }
 {
-    let margin = layout.offset;
-    let offset = margin.now;
-    let adjusting = layout.adjusting;
-    let room = collected.room;
-    let indent = collected.indent;
     let at = o.to;
     let written = fill::rows::full_row(
-        &*cells, o.length, room, adjusting, offset, indent, &mut *row,
+        &*cells,
+        o.length,
+        collected.room,
+        layout.adjusting,
+        layout.offset.now,
+        collected.indent,
+        &mut *row,
     );
     let length = fill::collected::begin_line(line, Cells(0), o.from, at, &mut *cells);
     let fresh = Collected {
@@ -115,13 +102,12 @@ fn overflow(
         next: gap_behind(line, at, to, gap),
     };
     let begun = settings::layout::begun(layout);
-    let rows = begun.page;
     let held = others_held(line, at, to, gap);
     let rest = fill::words::slice(line, at, to);
     let landed = page::springs::down(
         Rows(1),
         page,
-        rows,
+        begun.page,
         planted,
         held,
         rest,
@@ -137,7 +123,7 @@ fn overflow(
 
 // The words that fitted are collected, or the row is full.
 fn fill_placed(
-    placed: Placed,
+    placed: Result<usize, Overflow>,
     gap: u8,
     line: &LineBytes,
     to: usize,
@@ -158,8 +144,8 @@ fn fill_placed(
     ensures { let q : PageState = page_state layout page collected cells.old stack arena.old ends.old in PageRefines (λ ts s. rule.filled (placed_of (across_of collected.indent) (across_of collected.room) cells.old (across_of collected.next) line.now to placed) gap s) firsts.now seconds.now texts planted q result.way result.written (page_state result.layout result.page result.collected cells.new result.stack arena.new ends.new) row.new }
 {
     match placed {
-        Placed::All(length) => collect(length, gap, layout, page, collected, stack),
-        Placed::Full(o) => overflow(
+        Ok(length) => collect(length, gap, layout, page, collected, stack),
+        Err(o) => overflow(
             o, gap, line, to, layout, page, collected, planted, cells, row, stack, arena, ends,
             firsts, seconds, texts,
         ),
@@ -190,13 +176,12 @@ fn fill_new(
     ensures { let q : PageState = page_state layout page collected cells.old stack arena.old ends.old in PageRefines (λ ts s. rule.fill (leading_word (across_of lead) (bytes_between line.now found.from found.to) ∷ words (bytes_between line.now found.to to)) gap s) firsts.now seconds.now texts planted q result.way result.written (page_state result.layout result.page result.collected cells.new result.stack arena.new ends.new) row.new }
 {
     let at = found.to;
-    let indent = settings::layout::indent_now(layout);
     let room = settings::layout::room_now(layout);
     let begun = settings::layout::begun(layout);
     let length = fill::collected::begin_line(line, lead, found.from, at, &mut *cells);
     let fresh = Collected {
         there: true,
-        indent,
+        indent: settings::layout::indent_now(layout),
         room,
         length,
         next: Cells(1),
@@ -230,18 +215,17 @@ pub fn fill_rest(
     ensures { let q : PageState = page_state layout page collected cells.old stack arena.old ends.old in PageRefines (λ ts s. rule.fill (words (bytes_between line.now 0 to)) (across_of gap) s) firsts.now seconds.now texts planted q result.way result.written (page_state result.layout result.page result.collected cells.new result.stack arena.new ends.new) row.new }
 {
     let behind = fill::words::count(gap) as u8;
-    let NextWord::Found(found) = fill::words::next_word(line, 0, to) else {
+    let Some(found) = fill::words::next_word(line, 0, to) else {
         return stay(Way::On, layout, page, collected, stack);
     };
     if collected.there {
-        let room = collected.room;
         let placed = fill::collected::place_others(
             line,
             0,
             to,
             &mut *cells,
             collected.length,
-            room,
+            collected.room,
         );
         return fill_placed(
             placed, behind, line, to, layout, page, collected, planted, cells, row, stack, arena,
@@ -289,23 +273,28 @@ pub fn fill_line(
     requires { let q : PageState = page_state layout page collected cells.old stack arena.old ends.old in PageReady planted q line.now row.old firsts.now seconds.now texts × Places line.now 0 to × Follows collected.there (words (bytes_between line.now 0 to)) }
     ensures { let q : PageState = page_state layout page collected cells.old stack arena.old ends.old in PageRefines (λ ts s. rule.text_way fills (words (bytes_between line.now 0 to)) (bytes_between line.now 0 to) s) firsts.now seconds.now texts planted q result.way result.written (page_state result.layout result.page result.collected cells.new result.stack arena.new ends.new) row.new }
 {
-    let NextWord::Found(found) = fill::words::next_word(line, 0, to) else {
+    let Some(found) = fill::words::next_word(line, 0, to) else {
         return stay(Way::On, layout, page, collected, stack);
     };
     let behind = fill::words::gap_after(line, 0, to);
     let gap = fill::words::count(behind) as u8;
     if collected.there {
-        let room = collected.room;
-        let next = collected.next;
-        let placed = fill::collected::place(line, 0, to, next, &mut *cells, collected.length, room);
+        let placed = fill::collected::place(
+            line,
+            0,
+            to,
+            collected.next,
+            &mut *cells,
+            collected.length,
+            collected.room,
+        );
         return fill_placed(
             placed, gap, line, to, layout, page, collected, planted, cells, row, stack, arena,
             ends, firsts, seconds, texts,
         );
     }
-    let lead = found.gap;
     fill_new(
-        lead, found, gap, line, to, layout, page, collected, planted, cells, row, stack, arena,
-        ends, firsts, seconds, texts,
+        found.gap, found, gap, line, to, layout, page, collected, planted, cells, row, stack,
+        arena, ends, firsts, seconds, texts,
     )
 }

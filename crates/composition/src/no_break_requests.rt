@@ -11,14 +11,13 @@ ghost use Rattle.composition.specs.NoBreakRequests.Following.{Followed};
 use super::page_rows::{Collected, PageOutcome, stay};
 use input_stack::frames::What;
 use input_stack::stack::Stack;
-use line_syntax::conditions::ConditionResult;
 use line_syntax::lines::Line;
 use measure::Rows;
 use page::position::Page;
-use page::springs::{Held, Way};
-use rules::PageSetting;
+use page::springs::Way;
 use rules::arrays::{ARGUMENT_COUNT, ByteColumn, LineBytes, RowBytes, StackBytes, StackEnds};
-use settings::layout::{Layout, NewLayout, Printer};
+use rules::{PageSetting, Refusal};
+use settings::layout::{Layout, Printer};
 use traps::table::Planted;
 
 // What pl, po, ll, ad and na make of the layout, by what follows their name.
@@ -29,7 +28,7 @@ pub fn set_page(
     used: Rows,
     layout: Layout,
     printer: Printer,
-) -> NewLayout
+) -> Result<Layout, Refusal>
     requires { LayoutReady printer layout × (length line.now ≤ 512) × (length parts.old ≡ 512) }
     ensures { PageSettingRefines printer request layout (down_of used) (argument_at 0 line.now) result }
 {
@@ -44,19 +43,19 @@ fn follow(rest: &[u8], stack: Stack, arena: &mut StackBytes, ends: &mut StackEnd
     requires { springs.StackReady stack arena.old ends.old rest.now }
     ensures { Followed rest.now stack arena.old ends.old result arena.new ends.new }
 {
-    if rest.len() == 0 {
+    if rest.is_empty() {
         return stack;
     }
     match line_syntax::lines::line_of(rest) {
-        Line::Text => page::springs::hold(Held::Item(What::Text), rest, stack, arena, ends),
+        Line::Text => page::springs::hold(Some(What::Text), rest, stack, arena, ends),
         Line::Control(period, name, at) => page::springs::hold(
-            Held::Item(What::Control(period, name)),
+            Some(What::Control(period, name)),
             &rest[at..],
             stack,
             arena,
             ends,
         ),
-        Line::Ignored => page::springs::hold(Held::Item(What::Ignored), rest, stack, arena, ends),
+        Line::Ignored => page::springs::hold(Some(What::Ignored), rest, stack, arena, ends),
     }
 }
 
@@ -81,18 +80,16 @@ pub fn decide(
     ensures { let q : PageState = page_state layout page collected cells.now stack arena.old ends.old in PageRefines (λ ts s. settles (rule.decide (printer_of printer) line.now s) s) firsts.now seconds.now texts planted q result.way result.written (page_state result.layout result.page result.collected cells.now result.stack arena.new ends.new) row.now }
 {
     let places = line_syntax::lines::condition_at(line, 0);
-    let from = places.from;
-    let to = places.to;
-    let rest = places.rest;
-    if from == to {
+    if places.from == places.to {
         return stay(Way::On, layout, page, collected, stack);
     }
-    match line_syntax::conditions::holds(&line[from..to], page.number, printer.pitch) {
-        ConditionResult::Holds => {
-            let over = follow(&line[rest..], stack, arena, ends);
+    let condition = &line[places.from..places.to];
+    match line_syntax::conditions::holds(condition, page.number, printer.pitch) {
+        Ok(true) => {
+            let over = follow(&line[places.rest..], stack, arena, ends);
             stay(Way::On, layout, page, collected, over)
         }
-        ConditionResult::Fails => stay(Way::On, layout, page, collected, stack),
-        ConditionResult::Malformed => stay(Way::Refused(6), layout, page, collected, stack),
+        Ok(false) => stay(Way::On, layout, page, collected, stack),
+        Err(refusal) => stay(Way::Refused(refusal), layout, page, collected, stack),
     }
 }

@@ -6,15 +6,18 @@ ghost use Rattle.fill.specs.Collected.Filled.{collected_line};
 ghost use Rattle.page.specs.Springs.Held.{held_of, Plain};
 ghost use Rattle.composition.specs.PageRows.PageState.{PageState, page_state, no_line, page_stayed, settled_by, outcome_of, PageReady, PageRefines};
 
+use input_stack::frames::What;
 use input_stack::stack::Stack;
 use measure::{Cells, Rows};
 use page::position::Page;
-use page::springs::{Held, Landed, Way};
+use page::springs::{Landed, Way};
+use rules::Refusal;
 use rules::arrays::{ByteColumn, LineBytes, RowBytes, StackBytes, StackEnds};
-use settings::layout::{Layout, NewLayout};
+use settings::layout::Layout;
 use traps::table::Planted;
 
 // The collected line, if there is one: its first `length` cells lie in an array of their own.
+// A flag and no Option: the C interface has words for all five fields, whether or not a line is there.
 #[derive(Clone, Copy)]
 pub struct Collected {
     pub there: bool,
@@ -64,7 +67,7 @@ pub fn stay(way: Way, layout: Layout, page: Page, collected: Collected, stack: S
 
 // The new layout of a request, or "6: number malformed" and "7: value out of range".
 pub fn settle(
-    new: NewLayout,
+    new: Result<Layout, Refusal>,
     layout: Layout,
     page: Page,
     collected: Collected,
@@ -73,9 +76,8 @@ pub fn settle(
     ensures { result ≡ settled_by new layout page collected stack }
 {
     match new {
-        NewLayout::Is(other) => stay(Way::On, other, page, collected, stack),
-        NewLayout::Malformed => stay(Way::Refused(6), layout, page, collected, stack),
-        NewLayout::OutOfRange => stay(Way::Refused(7), layout, page, collected, stack),
+        Ok(other) => stay(Way::On, other, page, collected, stack),
+        Err(refusal) => stay(Way::Refused(refusal), layout, page, collected, stack),
     }
 }
 
@@ -83,22 +85,19 @@ pub fn settle(
 pub fn lead_to(layout: Layout, collected: Collected, landed: Landed, written: usize) -> PageOutcome
     ensures { result ≡ outcome_of layout collected landed written }
 {
-    let way = landed.way;
-    let page = landed.page;
-    let stack = landed.stack;
     PageOutcome {
-        way,
+        way: landed.way,
         layout,
-        page,
+        page: landed.page,
         collected,
-        stack,
+        stack: landed.stack,
         written,
     }
 }
 
 // The collected line is written, and what is held goes on after the trap that this springs.
 pub fn break_line(
-    held: Held,
+    held: Option<What>,
     bytes: &[u8],
     layout: Layout,
     page: Page,
@@ -116,19 +115,17 @@ pub fn break_line(
     requires { let q : PageState = page_state layout page collected cells.now stack arena.old ends.old in PageReady planted q bytes.now row.old firsts.now seconds.now texts × Plain held }
     ensures { let q : PageState = page_state layout page collected cells.now stack arena.old ends.old in PageRefines (λ ts s. rule.break (collected_line (across_of collected.indent) (across_of collected.room) cells.now collected.length (across_of collected.next)) (held_of ts held bytes.now) s) firsts.now seconds.now texts planted q result.way result.written (page_state result.layout result.page result.collected cells.now result.stack arena.new ends.new) row.new }
 {
-    let offset = layout.offset.now;
-    let length = layout.page;
     let written = fill::rows::broken_row(
         cells,
         collected.length,
-        offset,
+        layout.offset.now,
         collected.indent,
         &mut *row,
     );
     let landed = page::springs::down(
         Rows(1),
         page,
-        length,
+        layout.page,
         planted,
         held,
         bytes,
@@ -145,7 +142,7 @@ pub fn break_line(
 // Blank rows, and the move down.
 pub fn blank(
     rows: Rows,
-    held: Held,
+    held: Option<What>,
     bytes: &[u8],
     layout: Layout,
     page: Page,
@@ -163,10 +160,20 @@ pub fn blank(
     requires { let q : PageState = page_state layout page collected cells.now stack arena.old ends.old in PageReady planted q bytes.now row.old firsts.now seconds.now texts × Plain held × (down_of rows ≤ 500) }
     ensures { let q : PageState = page_state layout page collected cells.now stack arena.old ends.old in PageRefines (λ ts s. rule.blank (down_of rows) (held_of ts held bytes.now) s) firsts.now seconds.now texts planted q result.way result.written (page_state result.layout result.page result.collected cells.now result.stack arena.new ends.new) row.new }
 {
-    let length = layout.page;
     let written = fill::unfilled::blank_rows(rows, &mut *row);
     let landed = page::springs::down(
-        rows, page, length, planted, held, bytes, stack, arena, ends, firsts, seconds, texts,
+        rows,
+        page,
+        layout.page,
+        planted,
+        held,
+        bytes,
+        stack,
+        arena,
+        ends,
+        firsts,
+        seconds,
+        texts,
     );
     lead_to(layout, collected, landed, written)
 }
@@ -190,42 +197,19 @@ pub fn skip(
     requires { let q : PageState = page_state layout page collected cells.now stack arena.old ends.old in PageReady planted q [] row.old firsts.now seconds.now texts }
     ensures { let q : PageState = page_state layout page collected cells.now stack arena.old ends.old in PageRefines (λ ts s. rule.skip count.0 s) firsts.now seconds.now texts planted q result.way result.written (page_state result.layout result.page result.collected cells.now result.stack arena.new ends.new) row.new }
 {
-    let length = layout.page;
-    let rows = page::position::blanks(count, page, length, planted);
+    let rows = page::position::blanks(count, page, layout.page, planted);
     if measure::down(rows) == 0 {
-        return lead_to(
-            layout,
-            collected,
-            Landed {
-                way: Way::On,
-                page,
-                stack,
-            },
-            0,
-        );
+        return stay(Way::On, layout, page, collected, stack);
     }
     blank(
-        rows,
-        Held::Nothing,
-        b"",
-        layout,
-        page,
-        collected,
-        planted,
-        cells,
-        row,
-        stack,
-        arena,
-        ends,
-        firsts,
-        seconds,
-        texts,
+        rows, None, b"", layout, page, collected, planted, cells, row, stack, arena, ends, firsts,
+        seconds, texts,
     )
 }
 
 // The next page starts, and what is held goes on after the top macro.
 pub fn start(
-    held: Held,
+    held: Option<What>,
     bytes: &[u8],
     layout: Layout,
     page: Page,
@@ -243,9 +227,18 @@ pub fn start(
     requires { let q : PageState = page_state layout page collected cells.now stack arena.old ends.old in PageReady planted q bytes.now row.old firsts.now seconds.now texts × Plain held }
     ensures { let q : PageState = page_state layout page collected cells.now stack arena.old ends.old in PageRefines (λ ts s. rule.goes (rule.start_page (held_of ts held bytes.now) s)) firsts.now seconds.now texts planted q result.way result.written (page_state result.layout result.page result.collected cells.now result.stack arena.new ends.new) row.new }
 {
-    let length = layout.page;
     let landed = page::springs::start_page(
-        page, length, planted, held, bytes, stack, arena, ends, firsts, seconds, texts,
+        page,
+        layout.page,
+        planted,
+        held,
+        bytes,
+        stack,
+        arena,
+        ends,
+        firsts,
+        seconds,
+        texts,
     );
     lead_to(layout, collected, landed, 0)
 }

@@ -8,21 +8,26 @@ ghost use Rattle.composition.specs.TextCalls.Calls.{called_outcome, called_text,
 use super::page_rows::{Collected, PageOutcome, stay};
 use input_stack::stack::Stack;
 use page::position::Page;
-use page::springs::{Called, Held, Way};
-use rules::Name;
+use page::springs::Way;
 use rules::arrays::{ARGUMENT_COUNT, ByteColumn, LineBytes, RowBytes, StackBytes, StackEnds};
+use rules::{Name, Refusal};
 use settings::layout::Layout;
 use traps::table::Planted;
 
 // A text that is called, or "10: input stack past 16 items".
-fn land(called: Called, layout: Layout, page: Page, collected: Collected) -> PageOutcome
-    ensures { result ≡ called_outcome called layout page collected }
+fn land(
+    called: Result<Stack, Refusal>,
+    layout: Layout,
+    page: Page,
+    collected: Collected,
+    stack: Stack,
+) -> PageOutcome
+    ensures { result ≡ called_outcome called layout page collected stack }
 {
-    let stack = called.stack;
-    if called.full {
-        return stay(Way::Refused(10), layout, page, collected, stack);
+    match called {
+        Ok(over) => stay(Way::On, layout, page, collected, over),
+        Err(refusal) => stay(Way::Refused(refusal), layout, page, collected, stack),
     }
-    stay(Way::On, layout, page, collected, stack)
 }
 
 // A text is called by its name with the arguments of a line.
@@ -53,12 +58,12 @@ pub fn call(
         count as u8,
         &*parts,
         &given,
-        Held::Nothing,
+        None,
         b"",
         page.last,
         stack,
         arena,
         ends,
     );
-    land(called, layout, page, collected)
+    land(called, layout, page, collected, stack)
 }

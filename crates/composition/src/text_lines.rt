@@ -15,7 +15,6 @@ use input_stack::frames::What;
 use input_stack::stack::Stack;
 use measure::Rows;
 use page::position::Page;
-use page::springs::Held;
 use rules::Breaking;
 use rules::arrays::{ByteColumn, LineBytes, RowBytes, StackBytes, StackEnds};
 use settings::layout::Layout;
@@ -41,24 +40,27 @@ fn stand(
     requires { let q : PageState = page_state layout page collected cells.now stack arena.old ends.old in PageReady planted q line.now row.old firsts.now seconds.now texts × Places line.now 0 to }
     ensures { let q : PageState = page_state layout page collected cells.now stack arena.old ends.old in PageRefines (λ ts s. rule.text_way stands (words (bytes_between line.now 0 to)) (bytes_between line.now 0 to) s) firsts.now seconds.now texts planted q result.way result.written (page_state result.layout result.page result.collected cells.now result.stack arena.new ends.new) row.new }
 {
-    let margin = layout.offset;
-    let offset = margin.now;
-    let centred = 0 < layout.centred;
+    let centred = layout.centred > 0;
     let indent = settings::layout::indent_now(layout);
     let room = settings::layout::room_now(layout);
     let written = fill::unfilled::standing_row(
-        line, 0, to, centred, room, offset, indent, &mut *row,
+        line,
+        0,
+        to,
+        centred,
+        room,
+        layout.offset.now,
+        indent,
+        &mut *row,
     );
     let counted = settings::layout::counted(layout);
-    let rows = counted.page;
-    let none = fill::words::slice(line, 0, 0);
     let landed = page::springs::down(
         Rows(1),
         page,
-        rows,
+        counted.page,
         planted,
-        Held::Nothing,
-        none,
+        None,
+        b"",
         stack,
         arena,
         ends,
@@ -88,10 +90,9 @@ fn blank_line(
     ensures { let q : PageState = page_state layout page collected cells.now stack arena.old ends.old in PageRefines (λ ts s. rule.blank_from s.collected s) firsts.now seconds.now texts planted q result.way result.written (page_state result.layout result.page result.collected cells.now result.stack arena.new ends.new) row.new }
 {
     if collected.there {
-        let none = fill::words::slice(cells, 0, 0);
         return super::page_rows::break_line(
-            Held::Item(What::Acts(Breaking::Sp)),
-            none,
+            Some(What::Acts(Breaking::Sp)),
+            b"",
             layout,
             page,
             collected,
@@ -145,7 +146,7 @@ fn break_first(
 {
     let bytes = fill::words::slice(line, 0, to);
     super::page_rows::break_line(
-        Held::Item(What::Text),
+        Some(What::Text),
         bytes,
         layout,
         page,
@@ -167,13 +168,7 @@ fn breaks_first(line: &LineBytes, to: usize, layout: Layout, there: bool) -> boo
     requires { Places line.now 0 to }
     ensures { result ≡ breaks_first there (rule.as_it_stands (layout_of layout)) (leads (words (bytes_between line.now 0 to))) }
 {
-    if !there {
-        return false;
-    }
-    if fill::words::leads(line, 0, to) {
-        return true;
-    }
-    settings::layout::stands(layout)
+    there && (fill::words::leads(line, 0, to) || settings::layout::stands(layout))
 }
 
 // A line of words that need not break first: it stands, or its words are filled.
@@ -263,7 +258,7 @@ pub fn text_line(
     if page.number == 0 {
         let bytes = fill::words::slice(line, 0, to);
         return super::page_rows::start(
-            Held::Item(What::Text),
+            Some(What::Text),
             bytes,
             layout,
             page,

@@ -22,13 +22,6 @@ pub struct Overflow {
     pub width: Cells,
 }
 
-// What placing words gave: the cells collected with all of them, or a full line.
-#[derive(Clone, Copy)]
-pub enum Placed {
-    All(usize),
-    Full(Overflow),
-}
-
 // "Output is .. text": fixed blanks are spaces.
 fn shown(byte: u8) -> u8
     ensures { result ≡ shown_if (eqb byte fixed_blank) byte }
@@ -41,12 +34,7 @@ pub fn put_run(buffer: &mut [u8], at: usize, n: usize, byte: u8)
     requires { at + n ≤ length buffer.old }
     ensures { buffer.new ≡ sets buffer.old at (replicate n byte) }
 {
-    let end = at + n;
-    let mut i = at;
-    while i < end {
-        buffer[i] = byte;
-        i += 1;
-    }
+    buffer[at..at + n].fill(byte);
 }
 
 // Puts what is printed of a part of a line at a place: marks are not, fixed blanks are spaces.
@@ -54,11 +42,9 @@ pub fn put_word(line: &LineBytes, from: usize, to: usize, buffer: &mut [u8], at:
     requires { Places line.now from to × (at + width (bytes_between line.now from to) ≤ length buffer.old) }
     ensures { Written buffer.old at (printed (bytes_between line.now from to)) buffer.new result }
 {
-    let mut i = from;
+    let part = super::words::slice(line, from, to);
     let mut n = at;
-    while i < to {
-        let byte = line[i];
-        i += 1;
+    for &byte in part {
         if byte == MARK {
             continue;
         }
@@ -98,7 +84,7 @@ pub fn begin_line(
     put_word(line, from, to, &mut *cells, n)
 }
 
-// Words join the collected line until one does not fit. The first one's gap is given, the others have their own.
+// Words join the collected line until one does not fit: how many cells are collected then, or the full line. The first one's gap is given, the others have their own.
 pub fn place(
     line: &LineBytes,
     at: usize,
@@ -107,7 +93,7 @@ pub fn place(
     cells: &mut LineBytes,
     length: usize,
     room: Cells,
-) -> Placed
+) -> Result<usize, Overflow>
     requires { Places line.now at to × (across_of gap ≤ 512) × CollectedInvariant cells.old length (across_of room) }
     ensures { PlacedTo line.now at to (after (across_of gap) (words (bytes_between line.now at to))) cells.old length (across_of room) result cells.new }
 {
@@ -115,12 +101,13 @@ pub fn place(
     let mut from = super::words::skip_spaces(line, at, to);
     let mut before = super::words::count(gap);
     let mut n = length;
+    // a turn goes on by a word and the gap behind it
     while from < to {
         let word = super::words::word_end(line, from, to);
         let end = word.to;
         let width = word.width;
         if limit < n + before + super::words::count(width) {
-            return Placed::Full(Overflow {
+            return Err(Overflow {
                 length: n,
                 gap: super::words::as_cells(before),
                 from,
@@ -133,7 +120,7 @@ pub fn place(
         from = super::words::skip_spaces(line, end, to);
         before = from - end;
     }
-    Placed::All(n)
+    Ok(n)
 }
 
 // The same for words that all have their own gaps, as those behind a word that did not fit.
@@ -144,7 +131,7 @@ pub fn place_others(
     cells: &mut LineBytes,
     length: usize,
     room: Cells,
-) -> Placed
+) -> Result<usize, Overflow>
     requires { Places line.now at to × CollectedInvariant cells.old length (across_of room) }
     ensures { PlacedTo line.now at to (words (bytes_between line.now at to)) cells.old length (across_of room) result cells.new }
 {

@@ -17,17 +17,10 @@ fn count_gaps(cells: &LineBytes, length: usize) -> usize
     requires { Places cells.now 0 length }
     ensures { result ≡ gaps (bytes_between cells.now 0 length) }
 {
-    let mut i = 0;
-    let mut n = 0;
-    while i < length {
-        let byte = cells[i];
-        i += 1;
-        if byte != GAP_START {
-            continue;
-        }
-        n += 1;
-    }
-    n
+    super::words::slice(cells, 0, length)
+        .iter()
+        .filter(|&&byte| byte == GAP_START)
+        .count()
 }
 
 // How a full line is spread: "e/k each, the last e mod k gaps one more".
@@ -63,10 +56,7 @@ fn share_of(cells: &LineBytes, length: usize, room: usize, adjusting: bool) -> S
 fn is_blank_cell(byte: u8) -> bool
     ensures { result ≡ is_blank_cell byte }
 {
-    if byte == b' ' {
-        return true;
-    }
-    byte == GAP_START
+    matches!(byte, b' ' | GAP_START)
 }
 
 // The place behind the last cell that is not printed as a blank.
@@ -74,14 +64,13 @@ fn cells_end(cells: &LineBytes, length: usize) -> usize
     requires { Places cells.now 0 length }
     ensures { CellsEnd cells.now length result }
 {
-    let mut i = length;
-    while 0 < i {
-        if !is_blank_cell(cells[i - 1]) {
-            return i;
-        }
-        i -= 1;
-    }
-    i
+    let all = super::words::slice(cells, 0, length);
+    let blanks = all
+        .iter()
+        .rev()
+        .take_while(|&&byte| is_blank_cell(byte))
+        .count();
+    length - blanks
 }
 
 // "the last e mod k gaps one more": those behind the first few.
@@ -89,7 +78,7 @@ fn more_if(few: usize) -> usize
     ensures value { result ≡ more_if few }
     ensures upper_bound { result ≤ 1 }
 {
-    if few == 0 { 1 } else { 0 }
+    usize::from(few == 0)
 }
 
 // How many gaps behind a cell have no cell more.
@@ -97,9 +86,10 @@ fn few_after(byte: u8, few: usize) -> usize
     ensures { result ≡ few_after (eqb byte gap_start) few }
 {
     if byte == GAP_START {
-        return super::unfilled::spare(few, 1);
+        few.saturating_sub(1)
+    } else {
+        few
     }
-    few
 }
 
 // Puts a cell of a collected line into a row: the first of a gap is widened.
@@ -128,14 +118,12 @@ fn spread_cells(
     requires { Places cells.now 0 length × RowRoom row.old at (spread each few (bytes_between cells.now 0 length)) }
     ensures { Written row.old at (spread each few (bytes_between cells.now 0 length)) row.new result }
 {
-    let mut i = 0;
+    let all = super::words::slice(cells, 0, length);
     let mut n = at;
     let mut left = few;
-    while i < length {
-        let byte = cells[i];
+    for &byte in all {
         n = put_cell(&mut *row, n, byte, each, left);
         left = few_after(byte, left);
-        i += 1;
     }
     n
 }

@@ -11,7 +11,7 @@ use measure::{Cells, Rows};
 use rules::arrays::{LineBytes, RowBytes};
 use rules::{FIXED_BLANK, MARK};
 
-// A count of rows as a plain number.
+// A count of rows as a plain number: `usize` has no `From<u32>`.
 fn count_rows(rows: Rows) -> usize
     ensures { result ≡ down_of rows }
 {
@@ -22,10 +22,7 @@ fn count_rows(rows: Rows) -> usize
 pub fn spare(count: usize, taken: usize) -> usize
     ensures { result ≡ count - taken }
 {
-    if count < taken {
-        return 0;
-    }
-    count - taken
+    count.saturating_sub(taken)
 }
 
 // "left blanks half the spare room, cut down, none if the line is wider"
@@ -44,13 +41,7 @@ fn left_blanks(line: &LineBytes, at: usize, to: usize, centred: bool, room: usiz
 fn is_blank_byte(byte: u8) -> bool
     ensures { result ≡ is_blank_byte byte }
 {
-    if byte == b' ' {
-        return true;
-    }
-    if byte == FIXED_BLANK {
-        return true;
-    }
-    byte == MARK
+    matches!(byte, b' ' | FIXED_BLANK | MARK)
 }
 
 // The place behind the last byte of which more than a blank is printed.
@@ -58,17 +49,16 @@ fn text_end(line: &LineBytes, at: usize, to: usize) -> usize
     requires { Places line.now at to }
     ensures { TextEnd line.now at to result }
 {
-    let mut i = to;
-    while at < i {
-        if !is_blank_byte(line[i - 1]) {
-            return i;
-        }
-        i -= 1;
-    }
-    i
+    let part = super::words::slice(line, at, to);
+    let blanks = part
+        .iter()
+        .rev()
+        .take_while(|&&byte| is_blank_byte(byte))
+        .count();
+    to - blanks
 }
 
-// Puts a part of a line as a row.
+// Puts a part of a line as a row. A collected line's row has its cells spread, by another writer (rows::put_row).
 fn put_text(line: &LineBytes, at: usize, to: usize, blanks: usize, row: &mut RowBytes) -> usize
     requires { Places line.now at to × RowRoom row.old (blanks + 1) (printed (bytes_between line.now at to)) }
     ensures written { Written row.old 0 (row_of blanks (printed (bytes_between line.now at to))) row.new result }

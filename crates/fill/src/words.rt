@@ -26,14 +26,8 @@ pub struct WordAt {
     pub width: Cells,
 }
 
-// The next word, if there is one.
-#[derive(Clone, Copy)]
-pub enum NextWord {
-    Found(WordAt),
-    Nothing,
-}
-
 // The bytes of a line from a place up to another.
+#[tactic(auto, unfolding(crate::specs::Words::Parts::bytes_between))]
 pub fn slice(bytes: &[u8], at: usize, to: usize) -> &[u8]
     requires { (at ≤ to) × (to ≤ length bytes.now) }
     ensures { result.now ≡ bytes_between bytes.now at to }
@@ -47,14 +41,11 @@ pub fn skip_spaces(line: &LineBytes, at: usize, to: usize) -> usize
     ensures value { result ≡ at + spaces (bytes_between line.now at to) }
     ensures lower_bound { (at ≤ result) × (result ≤ to) }
 {
-    let mut i = at;
-    while i < to {
-        if line[i] != b' ' {
-            return i;
-        }
-        i += 1;
-    }
-    i
+    let spaces = slice(line, at, to)
+        .iter()
+        .take_while(|&&byte| byte == b' ')
+        .count();
+    at + spaces
 }
 
 // "a mark of no width"
@@ -62,17 +53,16 @@ fn cell_of(byte: u8) -> usize
     ensures value { result ≡ count_if (eqb byte mark) 0 }
     ensures upper_bound { result ≤ 1 }
 {
-    if byte == MARK { 0 } else { 1 }
+    usize::from(byte != MARK)
 }
 
-// The end of the word that begins at a place, and its width.
+// The end of the word that begins at a place, and its width, in one pass.
 pub fn word_end(line: &LineBytes, at: usize, to: usize) -> WordEnd
     requires { Places line.now at to }
     ensures { WordEndIs line.now at to result }
 {
-    let mut i = at;
     let mut width = 0;
-    while i < to {
+    for i in at..to {
         let byte = line[i];
         if byte == b' ' {
             return WordEnd {
@@ -81,41 +71,38 @@ pub fn word_end(line: &LineBytes, at: usize, to: usize) -> WordEnd
             };
         }
         width += cell_of(byte);
-        i += 1;
     }
     WordEnd {
-        to: i,
+        to,
         width: as_cells(width),
     }
 }
 
-// The width of a part of a line.
+// The width of a part of a line: "a mark of no width".
 pub fn width_of(line: &LineBytes, at: usize, to: usize) -> Cells
     requires { Places line.now at to }
     ensures { result ≡ cells_across (width (bytes_between line.now at to)) }
 {
-    let mut i = at;
-    let mut n = 0;
-    while i < to {
-        n += cell_of(line[i]);
-        i += 1;
-    }
-    as_cells(n)
+    let cells = slice(line, at, to)
+        .iter()
+        .filter(|&&byte| byte != MARK)
+        .count();
+    as_cells(cells)
 }
 
-// The first word of a part of a line.
-pub fn next_word(line: &LineBytes, at: usize, to: usize) -> NextWord
+// The first word of a part of a line, if there is one.
+pub fn next_word(line: &LineBytes, at: usize, to: usize) -> Option<WordAt>
     requires { Places line.now at to }
     ensures result_value { words_from line.now to result ≡ words (bytes_between line.now at to) }
     ensures good_next { GoodNext line.now at to result }
 {
     let from = skip_spaces(line, at, to);
     if from == to {
-        return NextWord::Nothing;
+        return None;
     }
     let end = word_end(line, from, to);
     let width = end.width;
-    NextWord::Found(WordAt {
+    Some(WordAt {
         gap: as_cells(from - at),
         from,
         to: end.to,
@@ -124,6 +111,7 @@ pub fn next_word(line: &LineBytes, at: usize, to: usize) -> NextWord
 }
 
 // "A line that, as expanded, has no bytes or only spaces"
+#[tactic(auto, using(crate::proofs::words::Words::none_is))]
 pub fn is_blank(line: &LineBytes, at: usize, to: usize) -> bool
     requires { Places line.now at to }
     ensures { result ≡ is_none (words (bytes_between line.now at to)) }
@@ -137,10 +125,7 @@ pub fn leads(line: &LineBytes, at: usize, to: usize) -> bool
     ensures { result ≡ leadsOf (words (bytes_between line.now at to)) }
 {
     let from = skip_spaces(line, at, to);
-    if from == to {
-        return false;
-    }
-    at < from
+    at < from && from < to
 }
 
 // The place behind the last byte that is no space: "trailing spaces are dropped".
@@ -149,14 +134,12 @@ pub fn trim_end(line: &LineBytes, at: usize, to: usize) -> usize
     ensures result_value { bytes_between line.now at result ≡ trimmed (bytes_between line.now at to) }
     ensures lower_bound { (at ≤ result) × (result ≤ to) }
 {
-    let mut i = to;
-    while at < i {
-        if line[i - 1] != b' ' {
-            return i;
-        }
-        i -= 1;
-    }
-    i
+    let spaces = slice(line, at, to)
+        .iter()
+        .rev()
+        .take_while(|&&last| last == b' ')
+        .count();
+    to - spaces
 }
 
 // "the gap between input lines is 1, or 2 after a line ending in . ? !"
@@ -164,16 +147,10 @@ fn gap_behind(byte: u8) -> Cells
     ensures value { result ≡ cells_across (gap_if (is_stop byte)) }
     ensures result_bound { across_of result ≤ 2 }
 {
-    if byte == b'.' {
-        return Cells(2);
+    match byte {
+        b'.' | b'?' | b'!' => Cells(2),
+        _ => Cells(1),
     }
-    if byte == b'?' {
-        return Cells(2);
-    }
-    if byte == b'!' {
-        return Cells(2);
-    }
-    Cells(1)
 }
 
 // The gap that a line's ending asks for.
@@ -197,7 +174,7 @@ pub fn as_cells(count: usize) -> Cells
     measure::cells_across(count as u16)
 }
 
-// A count of cells as a plain number.
+// A count of cells as a plain number: `usize` has no `From<u32>`.
 pub fn count(cells: Cells) -> usize
     ensures { result ≡ across_of cells }
 {

@@ -13,6 +13,7 @@ use rules::arrays::{
 };
 use settings::layout::Printer;
 use state::{Status, WorkOutcome, moved, stay};
+use texts::columns::Texts;
 
 // An item that is no text, taken off the stack: an expanded line, words, a request after its break, or a bp.
 fn resume(
@@ -44,7 +45,6 @@ fn resume(
     let planted = status.planted;
     let stack = status.stack;
     match what {
-        What::Reading(_, _, _) => stay(Way::On, status),
         What::Text => {
             let outcome = composition::text_lines::text_line(
                 line,
@@ -65,16 +65,16 @@ fn resume(
             moved(outcome, status)
         }
         What::Control(period, name) => {
-            let meaning = line_syntax::lines::meaning_of(
-                &*store,
-                &*text_firsts,
-                &*text_seconds,
-                &*kinds,
-                &*lengths,
-                status.texts,
-                name,
-            );
-            let rest = fill::words::slice(line, 0, size);
+            let texts = Texts {
+                store: &mut *store,
+                firsts: &mut *text_firsts,
+                seconds: &mut *text_seconds,
+                kinds: &mut *kinds,
+                lengths: &mut *lengths,
+                count: status.texts,
+            };
+            let meaning = line_syntax::lines::meaning_of(&texts, name);
+            let rest = &line[..size];
             line_execution::control_lines::obey(
                 meaning,
                 true,
@@ -98,9 +98,9 @@ fn resume(
                 steps,
             )
         }
-        What::Ignored => stay(Way::On, status),
+        What::Reading(_, _, _) | What::Ignored => stay(Way::On, status),
         What::Others(gap) => {
-            let behind = fill::words::as_cells(gap as usize);
+            let behind = measure::cells_across(u16::from(gap));
             let outcome = composition::filling::fill_rest(
                 behind,
                 line,
@@ -122,7 +122,7 @@ fn resume(
         }
         What::Acts(request) => {
             let mut parts = [0u8; LINE_SIZE];
-            let rest = fill::words::slice(line, 0, size);
+            let rest = &line[..size];
             let outcome = composition::break_requests::act(
                 request,
                 rest,

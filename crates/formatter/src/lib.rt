@@ -18,6 +18,8 @@ ghost use Rattle.formatter.specs.StoredLines.Works.{StepReady, StepRefines};
 use composition::page_rows::PageOutcome;
 use input_stack::frames::What;
 use page::springs::Way;
+use registers::columns::Registers;
+use rules::Refusal;
 use rules::arrays::{
     ARGUMENT_COUNT, ByteColumn, LINE_SIZE, LengthColumn, LineBytes, NumberColumn, RowBytes,
     StackBytes, StackEnds,
@@ -25,6 +27,7 @@ use rules::arrays::{
 use settings::layout::Printer;
 use state::{Status, WorkOutcome, moved, stay};
 use stored_lines::Performed;
+use texts::columns::Texts;
 use texts::lines::Top;
 
 // A source line, as it was taken.
@@ -54,6 +57,21 @@ pub fn deal(
     let opening = status.opening;
     let none = [0u16; ARGUMENT_COUNT];
     let mut out = [0u8; LINE_SIZE];
+    let texts = Texts {
+        store: &mut *store,
+        firsts: &mut *text_firsts,
+        seconds: &mut *text_seconds,
+        kinds: &mut *kinds,
+        lengths: &mut *lengths,
+        count: status.texts,
+    };
+    let mut registers = Registers {
+        firsts: &mut *firsts,
+        seconds: &mut *seconds,
+        values: &mut *values,
+        steps: &mut *steps,
+        count: status.registers,
+    };
     let dealt = line_expansion::read(
         line,
         Top::Source(line.len()),
@@ -61,17 +79,8 @@ pub fn deal(
         printer,
         layout,
         page,
-        &*store,
-        &*text_firsts,
-        &*text_seconds,
-        &*kinds,
-        &*lengths,
-        status.texts,
-        &*firsts,
-        &*seconds,
-        &mut *values,
-        &*steps,
-        status.registers,
+        &texts,
+        &mut registers,
         b"",
         &none,
         0,
@@ -174,7 +183,7 @@ pub fn work(
     let opening = status.opening;
     if stack.depth == 0 {
         if opening.there {
-            return stored_lines::counted(stay(Way::Refused(8), status), stored);
+            return stored_lines::counted(stay(Way::Refused(Refusal::OpenMacro), status), stored);
         }
         let outcome = work_end(
             status,

@@ -5,10 +5,10 @@ ghost use Rattle.texts.specs.Table.Places.{SpotInside};
 ghost use Rattle.formatter.specs.StoredLines.Works.{performed_of, UnreadLineIs, StringIs, FoundIs, leaves};
 
 use page::springs::Way;
-use rules::Kind;
+use rules::{Kind, Refusal};
 use state::{Status, WorkOutcome, stay};
 use texts::lines::{StorePart, Top};
-use texts::table::FoundText;
+use texts::table::Spot;
 
 // What a piece of work leads to, and how many stored lines have been read for this source line.
 #[derive(Clone, Copy)]
@@ -19,69 +19,55 @@ pub struct Performed {
     pub stored: u16,
 }
 
-// The next line of a text that is read, and the place behind it; or nothing is left.
-#[derive(Clone, Copy)]
-pub enum Unread {
-    Line(Top, u16),
-    Nothing,
-}
-
 pub fn counted(step: WorkOutcome, stored: u16) -> Performed
     ensures { result ≡ performed_of step stored }
 {
-    let way = step.way;
-    let status = step.status;
     Performed {
-        way,
+        way: step.way,
         written: step.written,
-        status,
+        status: step.status,
         stored,
     }
 }
 
-// The next line of a macro from a place on.
-fn macro_line(store: &[u8], at: usize, size: usize, place: u16) -> Unread
+// The next line of a macro from a place on, and the place behind it; or nothing is left.
+fn macro_line(store: &[u8], at: usize, size: usize, place: u16) -> Option<(Top, u16)>
     requires { (at + size ≤ length store.now) × (length store.now ≡ 8192) }
     ensures { UnreadLineIs result store.now Macro (take size (drop at store.now)) place }
 {
-    let from = place as usize;
+    let from = usize::from(place);
     if size <= from {
-        return Unread::Nothing;
+        return None;
     }
     let start = at + from;
     let end = at + size;
     let length = texts::lines::line_end(&store[start..end]);
     let next = from + length + 1;
     let rest = StorePart { at: start, end };
-    Unread::Line(Top::Lines(rest), next as u16)
+    Some((Top::Lines(rest), next as u16))
 }
 
 // "A string called as a macro is one line"
-fn string_line(at: usize, size: usize, place: u16) -> Unread
+fn string_line(at: usize, size: usize, place: u16) -> Option<(Top, u16)>
     requires { at + size ≤ 8192 }
     ensures { StringIs result at size place }
 {
     if place == 0 {
         let all = StorePart { at, end: at + size };
-        return Unread::Line(Top::Whole(all), 1);
+        return Some((Top::Whole(all), 1));
     }
-    Unread::Nothing
+    None
 }
 
 // The next line of a text that was looked up, from a place on.
-pub fn unread_line(store: &[u8], found: FoundText, place: u16) -> Unread
+pub fn unread_line(store: &[u8], found: Option<Spot>, place: u16) -> Option<(Top, u16)>
     requires { SpotInside store.now found × (length store.now ≡ 8192) }
     ensures { FoundIs result store.now found place }
 {
-    match found {
-        FoundText::There(spot) => {
-            let kind = spot.kind;
-            match kind {
-                Kind::Macro => macro_line(store, spot.at, spot.length, place),
-                Kind::String => string_line(spot.at, spot.length, place),
-            }
-        }
-        FoundText::Nothing => Unread::Nothing,
+    let spot = found?;
+    match spot.kind {
+        Kind::Macro => macro_line(store, spot.at, spot.length, place),
+        Kind::String => string_line(spot.at, spot.length, place),
     }
 }
 
@@ -89,9 +75,8 @@ pub fn unread_line(store: &[u8], found: FoundText, place: u16) -> Unread
 pub fn leave(status: Status) -> WorkOutcome
     ensures { result ≡ leaves status }
 {
-    let opening = status.opening;
-    if opening.there {
-        return stay(Way::Refused(8), status);
+    if status.opening.there {
+        return stay(Way::Refused(Refusal::OpenMacro), status);
     }
     stay(Way::On, status)
 }

@@ -9,15 +9,17 @@ ghost use Rattle.state.specs.Whole.{WholeState, StateRefines};
 ghost use Rattle.state.specs.Statuses.{whole_of, StateReady};
 ghost use Rattle.formatter.specs.StoredLines.Works.{TextReady, StepRefines};
 
-use super::stored_lines::{Performed, Unread};
+use super::stored_lines::Performed;
 use page::springs::Way;
-use rules::Name;
+use registers::columns::Registers;
 use rules::arrays::{
     ARGUMENT_COUNT, ByteColumn, LINE_SIZE, LengthColumn, LineBytes, NumberColumn, RowBytes,
     StackBytes, StackEnds,
 };
+use rules::{Name, Refusal};
 use settings::layout::Printer;
 use state::{Status, WorkOutcome, stay};
+use texts::columns::Texts;
 use texts::lines::Top;
 
 // A line of the text on top of the stack, with the arguments of its call.
@@ -51,6 +53,21 @@ fn deal_stored(
     input_stack::stack::load_ends(stack, &*ends, &mut given);
     let mut out = [0u8; LINE_SIZE];
     let arguments = input_stack::stack::top_bytes(stack, &*arena, &*ends);
+    let texts = Texts {
+        store: &mut *store,
+        firsts: &mut *text_firsts,
+        seconds: &mut *text_seconds,
+        kinds: &mut *kinds,
+        lengths: &mut *lengths,
+        count: status.texts,
+    };
+    let mut registers = Registers {
+        firsts: &mut *firsts,
+        seconds: &mut *seconds,
+        values: &mut *values,
+        steps: &mut *steps,
+        count: status.registers,
+    };
     let dealt = line_expansion::read(
         b"",
         top,
@@ -58,20 +75,11 @@ fn deal_stored(
         printer,
         layout,
         page,
-        &*store,
-        &*text_firsts,
-        &*text_seconds,
-        &*kinds,
-        &*lengths,
-        status.texts,
-        &*firsts,
-        &*seconds,
-        &mut *values,
-        &*steps,
-        status.registers,
+        &texts,
+        &mut registers,
         arguments,
         &given,
-        count as usize,
+        usize::from(count),
         &mut out,
     );
     line_execution::expanded_lines::finish(
@@ -121,17 +129,17 @@ pub fn read_text(
     ensures { let q : WholeState = whole_of status cells.old arena.old ends.old store.old text_firsts.old text_seconds.old kinds.old lengths.old firsts.old seconds.old values.old steps.old in StepRefines (printer_of printer) q stored result.way result.written (whole_of result.status cells.new arena.new ends.new store.new text_firsts.new text_seconds.new kinds.new lengths.new firsts.new seconds.new values.new steps.new) result.stored row.new }
 {
     let stack = status.stack;
-    let found = texts::table::look_up(
-        &*store,
-        &*text_firsts,
-        &*text_seconds,
-        &*kinds,
-        &*lengths,
-        status.texts,
-        name,
-    );
+    let texts = Texts {
+        store: &mut *store,
+        firsts: &mut *text_firsts,
+        seconds: &mut *text_seconds,
+        kinds: &mut *kinds,
+        lengths: &mut *lengths,
+        count: status.texts,
+    };
+    let found = texts::table::look_up(&texts, name);
     match super::stored_lines::unread_line(&*store, found, place) {
-        Unread::Line(top, next) => {
+        Some((top, next)) => {
             input_stack::stack::set_place(stack, &mut *ends, next);
             if stored < 10000 {
                 let step = deal_stored(
@@ -155,9 +163,9 @@ pub fn read_text(
                 );
                 return super::stored_lines::counted(step, stored + 1);
             }
-            super::stored_lines::counted(stay(Way::Refused(10), status), stored)
+            super::stored_lines::counted(stay(Way::Refused(Refusal::DeepStack), status), stored)
         }
-        Unread::Nothing => super::stored_lines::counted(
+        None => super::stored_lines::counted(
             super::stored_lines::leave(state::with_stack(status, input_stack::stack::pop(stack))),
             stored,
         ),

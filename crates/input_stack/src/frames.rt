@@ -5,7 +5,7 @@ ghost use Rattle.input_stack.specs.Frames.Words.{setting_number, request_number,
 use rules::{Breaking, LineSetting, Name};
 
 // What an item of the input stack is, beside its bytes.
-#[derive(Clone, Copy)]
+#[derive(Clone, Copy, Debug, PartialEq, Eq)]
 pub enum What {
     // a text called by its name: the name, the place up to which it is read, how many arguments it was called with
     Reading(Name, u16, u8),
@@ -24,14 +24,14 @@ pub enum What {
 }
 
 // The words of a frame that say what it is: its kind with a small number, and two for a name, a place or a page.
-#[derive(Clone, Copy)]
+#[derive(Clone, Copy, Debug, PartialEq, Eq)]
 pub struct Words {
     pub first: u16,
     pub second: u16,
     pub third: u16,
 }
 
-// The number by which a request that sets the layout is held.
+// The number by which a request that sets the layout is held. A number for a kind stays here: the record for C holds words.
 fn setting_number(request: LineSetting) -> u8
     ensures { result ≡ setting_number request }
 {
@@ -75,16 +75,14 @@ fn request_of(number: u8) -> Breaking
 fn name_word(name: Name) -> u16
     ensures { result ≡ name_word name }
 {
-    name.first as u16 * 256 + name.second as u16
+    u16::from_be_bytes([name.first, name.second])
 }
 
 fn name_in(word: u16) -> Name
     ensures { result ≡ name_in word }
 {
-    Name {
-        first: (word / 256) as u8,
-        second: (word % 256) as u8,
-    }
+    let [first, second] = word.to_be_bytes();
+    Name { first, second }
 }
 
 // A kind and a small number in one word.
@@ -92,14 +90,14 @@ fn first_word(kind: u16, small: u8) -> u16
     requires { kind < 256 }
     ensures { result ≡ kind + 256 * small }
 {
-    kind + 256 * (small as u16)
+    kind + 256 * u16::from(small)
 }
 
 // The kind of a control line, with 1 for a period.
 fn period_word(period: bool) -> u16
     ensures { result ≡ period_of period }
 {
-    if period { 258 } else { 2 }
+    first_word(2, u8::from(period))
 }
 
 // The words of an item that has no name, place or page.
@@ -113,7 +111,7 @@ fn alone(first: u16) -> Words
     }
 }
 
-// The words of an item.
+// The words of an item. From for it and for its way back would be no plainer: their contracts name both sides, and the two names stay.
 pub fn words_of(what: What) -> Words
     ensures { (result ≡ item_words what) × (what_in result ≡ what) }
 {
@@ -141,6 +139,7 @@ pub fn words_of(what: What) -> Words
 }
 
 // The item of three words; a kind that is none of theirs is an ignored line.
+#[tactic(auto, unfolding(crate::specs::Frames::Words::what_of))]
 pub fn what_of(first: u16, second: u16, third: u16) -> What
     ensures { result ≡ what_of first second third }
 {
@@ -152,7 +151,7 @@ pub fn what_of(first: u16, second: u16, third: u16) -> What
         2 => What::Control(small != 0, name_in(second)),
         4 => What::Others(small),
         5 => What::Acts(request_of(small)),
-        6 => What::Ejects(second as u32 + 65536 * (third as u32)),
+        6 => What::Ejects(u32::from(second) + 65536 * u32::from(third)),
         _ => What::Ignored,
     }
 }

@@ -7,18 +7,19 @@ ghost use Rattle.input_stack.specs.Stack.Frames.{no_frames, entry_at, entered, S
 use super::frames::What;
 use rules::Name;
 use rules::arrays::{
-    ArgumentEnds, ITEM_HEAD, ITEM_WORDS, LINE_SIZE, LineBytes, StackBytes, StackEnds,
+    ARGUMENT_COUNT, ArgumentEnds, ITEM_HEAD, ITEM_WORDS, LINE_SIZE, LineBytes, StackBytes,
+    StackEnds,
 };
 
 // What a frame is, and how many bytes it has.
-#[derive(Clone, Copy)]
+#[derive(Clone, Copy, Debug, PartialEq, Eq)]
 pub struct Entry {
     pub what: What,
     pub size: u16,
 }
 
 // How many frames lie on the stack, the last on top: at most 16 items, and one that is held for a moment on top of them.
-#[derive(Clone, Copy)]
+#[derive(Clone, Copy, Debug, PartialEq, Eq)]
 pub struct Stack {
     pub depth: usize,
 }
@@ -28,18 +29,6 @@ pub fn empty() -> Stack
     ensures { result ≡ no_frames }
 {
     Stack { depth: 0 }
-}
-
-fn put_ends(all: &mut StackEnds, at: usize, ends: &ArgumentEnds)
-    requires { (at + 9 ≤ 221) × (length all.old ≡ 221) × (length ends.now ≡ 9) }
-    ensures { all.new ≡ paste all.old at ends.now 9 }
-{
-    let mut j: usize = 0;
-    while j < 9 {
-        let end = ends[j];
-        all[at + j] = end;
-        j += 1;
-    }
 }
 
 // What a frame is, and how many bytes it has, in its first four words.
@@ -67,24 +56,25 @@ pub fn push(
     ensures { PushedTo stack arena.old ends.old what bytes.now given.now result arena.new ends.new }
 {
     let depth = stack.depth;
-    texts::definitions::copy_in(&mut *arena, depth * LINE_SIZE, bytes);
-    put_entry(&mut *ends, depth * ITEM_WORDS, what, bytes.len() as u16);
-    put_ends(&mut *ends, depth * ITEM_WORDS + ITEM_HEAD, given);
+    let from = depth * LINE_SIZE;
+    arena[from..from + bytes.len()].copy_from_slice(bytes);
+    let at = depth * ITEM_WORDS;
+    put_entry(&mut *ends, at, what, bytes.len() as u16);
+    ends[at + ITEM_HEAD..at + ITEM_WORDS].copy_from_slice(given);
     Stack { depth: depth + 1 }
 }
 
 // The entry of a frame.
+#[tactic(auto, unfolding(crate::specs::Stack::Frames::entry_at))]
 pub fn entry_at(ends: &StackEnds, frame: usize) -> Entry
     requires { frame < 17 }
     ensures { result ≡ entry_at ends.now frame }
 {
     let at = frame * ITEM_WORDS;
-    let first = ends[at];
-    let second = ends[at + 1];
-    let third = ends[at + 2];
-    let size = ends[at + 3];
-    let what = super::frames::what_of(first, second, third);
-    Entry { what, size }
+    Entry {
+        what: super::frames::what_of(ends[at], ends[at + 1], ends[at + 2]),
+        size: ends[at + 3],
+    }
 }
 
 // The entry of the frame on top.
@@ -102,7 +92,7 @@ pub fn top_bytes<'a>(stack: Stack, arena: &'a [u8], ends: &StackEnds) -> &'a [u8
 {
     let entry = top(stack, ends);
     let from = (stack.depth - 1) * LINE_SIZE;
-    let to = from + entry.size as usize;
+    let to = from + usize::from(entry.size);
     &arena[from..to]
 }
 
@@ -111,16 +101,9 @@ pub fn load(stack: Stack, arena: &StackBytes, ends: &StackEnds, out: &mut LineBy
     requires { Topped stack ends.now × (length arena.now ≡ 8704) × (length out.old ≡ 512) }
     ensures { LoadedTo stack arena.now ends.now result out.new }
 {
-    let entry = top(stack, ends);
-    let size = entry.size as usize;
-    let at = (stack.depth - 1) * LINE_SIZE;
-    let mut j: usize = 0;
-    while j < size {
-        let byte = arena[at + j];
-        out[j] = byte;
-        j += 1;
-    }
-    size
+    let bytes = top_bytes(stack, arena, ends);
+    out[..bytes.len()].copy_from_slice(bytes);
+    bytes.len()
 }
 
 // The places where the arguments of the frame on top end.
@@ -129,12 +112,7 @@ pub fn load_ends(stack: Stack, ends: &StackEnds, out: &mut ArgumentEnds)
     ensures { out.new ≡ top_ends stack ends.now }
 {
     let from = (stack.depth - 1) * ITEM_WORDS + ITEM_HEAD;
-    let mut j: usize = 0;
-    while j < 9 {
-        let end = ends[from + j];
-        out[j] = end;
-        j += 1;
-    }
+    out.copy_from_slice(&ends[from..from + ARGUMENT_COUNT]);
 }
 
 // The stack without the frame on top.
@@ -148,13 +126,13 @@ pub fn pop(stack: Stack) -> Stack
 }
 
 // Another place in the frame on top, if that is a text.
+#[tactic(auto, unfolding(crate::specs::Stack::Frames::placed_at))]
 pub fn set_place(stack: Stack, ends: &mut StackEnds, place: u16)
     requires { (0 < stack.depth) × (stack.depth ≤ 17) }
     ensures { ends.new ≡ placed_at stack ends.old place }
 {
     let at = (stack.depth - 1) * ITEM_WORDS;
-    let first = ends[at];
-    if first % 256 == 0 {
+    if ends[at] % 256 == 0 {
         ends[at + 2] = place;
     }
 }
@@ -163,15 +141,7 @@ pub fn set_place(stack: Stack, ends: &mut StackEnds, place: u16)
 fn is_called(what: What, name: Name) -> bool
     ensures { result ≡ is_called name what }
 {
-    match what {
-        What::Reading(other, _, _) => {
-            if name.first == other.first {
-                return name.second == other.second;
-            }
-            false
-        }
-        _ => false,
-    }
+    matches!(what, What::Reading(other, _, _) if name == other)
 }
 
 // Whether a text of this name lies on the stack.
@@ -179,14 +149,5 @@ pub fn is_on_stack(stack: Stack, ends: &StackEnds, name: Name) -> bool
     requires { stack.depth ≤ 17 }
     ensures { result ≡ called_below name ends.now stack.depth }
 {
-    let mut i = stack.depth;
-    while 0 < i {
-        i -= 1;
-        let entry = entry_at(ends, i);
-        let what = entry.what;
-        if is_called(what, name) {
-            return true;
-        }
-    }
-    false
+    (0..stack.depth).any(|i| is_called(entry_at(ends, i).what, name))
 }

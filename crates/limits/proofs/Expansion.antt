@@ -1,6 +1,5 @@
 -- The expansion of a line keeps the registers within their bounds, and its refusals are numbered 2 to 12. Assumes nothing.
-use Rattle.std.specs.Prelude.{Bool, true, false, List, [], ◌∷◌, leb, length, get_or, ℤ, ◌+ℤ◌, ◌-ℤ◌}
-use Rattle.std.proofs.Math.Option.{Option, none, some}
+use Rattle.std.specs.Prelude.{Bool, true, false, List, [], ◌∷◌, leb, length, get_or, ℤ, ◌+ℤ◌, ◌-ℤ◌, Option, None, Some}
 use Prim.Native.Nat.{ℕ, zero, suc, ◌-◌}
 use Rattle.rules.specs.declared.Name.{Name}
 use Rattle.rules.specs.declared.Kind.{Kind}
@@ -31,13 +30,13 @@ to_bounded r z rs h b = every_of _ (within_bounded z) (λ v i. every_value (put_
 
 refer_bounded : (t : Turn) (f : Option (Seen → ℤ)) (u : Option Register) (s : Seen) (rs : List Register) → BoundedTable rs → OfSome BoundedRegister u
     → Every (λ x. BoundedTable x.1) (refer_by t f u s rs)
-refer_bounded Still (some f) u s rs b i = every_value b
-refer_bounded Up (some f) u s rs b i = bare
-refer_bounded Down (some f) u s rs b i = bare
-refer_bounded t none none s rs b i = every_value b
-refer_bounded Still none (some r) s rs b i = every_value b
-refer_bounded Up none (some r) s rs b i = to_bounded r (r.value +ℤ r.step) rs i b
-refer_bounded Down none (some r) s rs b i = to_bounded r (r.value -ℤ r.step) rs i b
+refer_bounded Still (Some f) u s rs b i = every_value b
+refer_bounded Up (Some f) u s rs b i = bare
+refer_bounded Down (Some f) u s rs b i = bare
+refer_bounded t None None s rs b i = every_value b
+refer_bounded Still None (Some r) s rs b i = every_value b
+refer_bounded Up None (Some r) s rs b i = to_bounded r (r.value +ℤ r.step) rs i b
+refer_bounded Down None (Some r) s rs b i = to_bounded r (r.value -ℤ r.step) rs i b
 
 step_bounded : (s : Seen) (t : Turn) (n : Name) (rs : List Register) → BoundedTable rs → Every (λ x. BoundedTable x.1) (step_register s t n rs)
 unfolding step_register
@@ -48,13 +47,13 @@ to_numbered : (r : Register) (z : ℤ) (rs : List Register) → Numbered (step_t
 to_numbered r z rs = after_numbered (within z) _ (within_numbered z) (λ v. tt)
 
 refer_numbered : (t : Turn) (f : Option (Seen → ℤ)) (u : Option Register) (s : Seen) (rs : List Register) → Numbered (refer_by t f u s rs)
-refer_numbered Still (some f) u s rs = tt
-refer_numbered Up (some f) u s rs = is_7
-refer_numbered Down (some f) u s rs = is_7
-refer_numbered t none none s rs = tt
-refer_numbered Still none (some r) s rs = tt
-refer_numbered Up none (some r) s rs = to_numbered r (r.value +ℤ r.step) rs
-refer_numbered Down none (some r) s rs = to_numbered r (r.value -ℤ r.step) rs
+refer_numbered Still (Some f) u s rs = tt
+refer_numbered Up (Some f) u s rs = is_7
+refer_numbered Down (Some f) u s rs = is_7
+refer_numbered t None None s rs = tt
+refer_numbered Still None (Some r) s rs = tt
+refer_numbered Up None (Some r) s rs = to_numbered r (r.value +ℤ r.step) rs
+refer_numbered Down None (Some r) s rs = to_numbered r (r.value -ℤ r.step) rs
 
 step_numbered : (s : Seen) (t : Turn) (n : Name) (rs : List Register) → Numbered (step_register s t n rs)
 unfolding step_register
@@ -86,13 +85,13 @@ enter_by_numbered : (t : Bool) (l : List ℕ) (s : Scan) → NumberedEffect (ent
 enter_by_numbered true l s = tt
 enter_by_numbered false l s = is_4
 
-enter_kind : (k : Kind) (n : Name) (l : List ℕ) (s : Scan) → NumberedEffect (enter (some (text n k l)) s)
+enter_kind : (k : Kind) (n : Name) (l : List ℕ) (s : Scan) → NumberedEffect (enter (Some (text n k l)) s)
 enter_kind Macro n l s = is_9
 enter_kind String n l s = enter_by_numbered (leb (length s.unread) 8) l s
 
 enter_numbered : (t : Option Text) (s : Scan) → NumberedEffect (enter t s)
-enter_numbered none s = tt
-enter_numbered (some t) s = enter_kind t.kind t.name t.bytes s
+enter_numbered None s = tt
+enter_numbered (Some t) s = enter_kind t.kind t.name t.bytes s
 
 show_numbered : (r : Reference) (s : Scan) → Numbered r → NumberedEffect (show_it r s)
 show_numbered (value x) s h = write_numbered (leb (length (decimal x.0)) s.room) (decimal x.0) (with_scan_registers x.1 s)

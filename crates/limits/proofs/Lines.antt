@@ -1,9 +1,8 @@
 -- Lines keep to the limits, whether they are dealt with as they were taken or as they were expanded. Assumes nothing.
-use Rattle.std.specs.Prelude.{◌≡◌, Bool, false, ◌&&◌, List, [], ℕ, eqb}
+use Rattle.std.specs.Prelude.{◌≡◌, Bool, false, ◌&&◌, List, [], ℕ, eqb, Option, None, Some}
 use Rattle.std.proofs.Math.Path.{refl}
 use Rattle.std.proofs.Common.{subst}
 use Rattle.std.proofs.Math.Bool.{true}
-use Rattle.std.proofs.Math.Option.{Option, none, some}
 use Rattle.rules.specs.declared.Name.{Name}
 use Rattle.rules.specs.declared.Mode.{Mode}
 use Rattle.rules.specs.declared.Mode.TheVariants.{Plain, Copy}
@@ -47,8 +46,8 @@ keep_numbered ts body l = search (judge_numbered, is_11)
 
 module _ (p : Printer) where
   break_or_act_kept : (q : Bool) (c : Option Collected) (r : Breaking) (l : List ℕ) (s : State) → LineReady s → Keeps (break_or_act p q c r l s)
-  break_or_act_kept true (some c) r l s h = break_kept c (held_after r l) s (hold_if (traits r).acts (acts r l) s tt h)
-  break_or_act_kept true none r l s h = act_kept p r l s h
+  break_or_act_kept true (Some c) r l s h = break_kept c (held_after r l) s (hold_if (traits r).acts (acts r l) s tt h)
+  break_or_act_kept true None r l s h = act_kept p r l s h
   break_or_act_kept false c r l s h = act_kept p r l s h
 
   start_or_break_kept : (t q : Bool) (r : Breaking) (n : Name) (l : List ℕ) (s : State) → LineReady s → Keeps (start_or_break p t q r n l s)
@@ -94,27 +93,27 @@ module _ (p : Printer) where
   fresh_kept (control q n l) args s h = control_kept (meaning_of n s) args q n l s h
 
   -- a body line of an open definition
-  body_kept : (d : Definition) (l : List ℕ) (s : State) → Within s → OverText s.input.stack → s.tables.opened ≡ some d → Keeps (keep_body p d l s)
+  body_kept : (d : Definition) (l : List ℕ) (s : State) → Within s → OverText s.input.stack → s.tables.opened ≡ Some d → Keeps (keep_body p d l s)
   body_kept d l s h y e =
-      given_kept s (λ body. goes (with_opened (some (record { name = d.name; body = body })) s)) h
+      given_kept s (λ body. goes (with_opened (Some (record { name = d.name; body = body })) s)) h
       (fair_any (keep_line s.tables.texts d.body l) (keep_numbered s.tables.texts d.body l))
       (λ body u.
-      let o : Option Definition = some (record { name = d.name; body = body }) in
+      let o : Option Definition = Some (record { name = d.name; body = body }) in
       opened_kept s h o s.tables.texts h.texts (subst (λ x. Gone x s.tables.texts) e h.gone)
       (next_over o s.closing s.input.stack (over_next s.input.stack y)))
 
-  closing_kept : (t : Bool) (d : Definition) (args : List (List ℕ)) (l : List ℕ) (s : State) → Within s → OverText s.input.stack → s.tables.opened ≡ some d
+  closing_kept : (t : Bool) (d : Definition) (args : List (List ℕ)) (l : List ℕ) (s : State) → Within s → OverText s.input.stack → s.tables.opened ≡ Some d
       → Keeps (body_line p t d args l s)
   closing_kept true d args l s h y e =
       let ts = s.tables.texts in
-      opened_kept s h none (close_macro d.name d.body ts) (distinct_close d.name d.body ts h.texts (subst (λ x. Gone x ts) e h.gone)) tt tt
+      opened_kept s h None (close_macro d.name d.body ts) (distinct_close d.name d.body ts h.texts (subst (λ x. Gone x ts) e h.gone)) tt tt
   closing_kept false d args l s h y e =
       expand_kept args Copy 0 l s (keep_body p d) h (λ x rs b. body_kept d x (with_registers rs s) (registers_kept s h rs b) y e)
 
   from_kept : (o : Option Definition) (args : List (List ℕ)) (l : List ℕ) (s : State) → Within s → OverText s.input.stack → s.tables.opened ≡ o
       → Keeps (deal_from p o args l s)
-  from_kept (some d) args l s h y e = closing_kept (is_closing l) d args l s h y e
-  from_kept none args l s h y e = fresh_kept (line_of l) args s (h, y, e)
+  from_kept (Some d) args l s h y e = closing_kept (is_closing l) d args l s h y e
+  from_kept None args l s h y e = fresh_kept (line_of l) args s (h, y, e)
 
   -- a line as it was taken
   pub deal_kept : (args : List (List ℕ)) (l : List ℕ) (s : State) → Within s → OverText s.input.stack → Keeps (deal p args l s)

@@ -1,10 +1,8 @@
 -- Every refusal of an argument's value is numbered 2 to 12. Assumes nothing.
-use Rattle.std.specs.Prelude.{Bool, true, false, not, List, [], ◌∷◌, ℕ, zero, suc, leb, eqb, length, ℤ, pos, nat_abs}
+use Rattle.std.specs.Prelude.{Bool, true, false, not, List, [], ◌∷◌, ℕ, zero, suc, leb, eqb, length, ℤ, pos, nat_abs, Option, Some, None}
 use Rattle.measure.specs.declared.Pitch.{Pitch}
 use Rattle.measure.specs.declared.Scale.{Scale}
 use Rattle.measure.specs.declared.Scale.TheVariants.{Em, LineSpace, Unit as BasicUnit}
-use Rattle.measure.specs.declared.MaybeScale.{MaybeScale}
-use Rattle.measure.specs.declared.MaybeScale.TheVariants.{Some, None}
 use Rattle.measure.specs.Scales.{scale_of, literal_of}
 use Rattle.rules.specs.declared.Operator.{Operator}
 use Rattle.rules.specs.declared.Operator.TheVariants.{Add, Subtract, Multiply, Divide, Remainder, Less, Greater, AtMost, AtLeast, Equal, And, Or}
@@ -70,7 +68,7 @@ module _ (p : Pitch) where
   scaled_numbered : (s : Scale) (n : ℕ) (l : List ℕ) → Numbered (scaled p s n l)
   scaled_numbered s n l = after_numbered (within (pos (literal_of p s n))) _ (within_numbered (pos (literal_of p s n))) (λ z. tt)
 
-  scaled_or_numbered : (m : MaybeScale) (d : Scale) (n b : ℕ) (l : List ℕ) → Numbered (scaled_or p m d n b l)
+  scaled_or_numbered : (m : Option Scale) (d : Scale) (n b : ℕ) (l : List ℕ) → Numbered (scaled_or p m d n b l)
   scaled_or_numbered (Some s) d n b l = scaled_numbered s n l
   scaled_or_numbered None d n b l = scaled_numbered d n (b ∷ l)
 

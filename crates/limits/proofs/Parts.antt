@@ -1,7 +1,6 @@
 -- A change of one part of a state keeps it within the limits, if the new part keeps to its own. Assumes nothing.
-use Rattle.std.specs.Prelude.{◌≡◌, refl, Bool, List, [], ◌∷◌, ℕ, ◌≤◌}
+use Rattle.std.specs.Prelude.{◌≡◌, refl, Bool, List, [], ◌∷◌, ℕ, ◌≤◌, Option, None, Some}
 use Rattle.std.proofs.Common.{sym, subst, arith}
-use Rattle.std.proofs.Math.Option.{Option, none, some}
 use Rattle.stream.specs.Answers.{Closing, done}
 use Rattle.rules.specs.declared.Register.{Register}
 use Rattle.rules.specs.declared.Trap.{Trap}
@@ -52,18 +51,18 @@ pub is_12 : Refusal 12
 is_12 = record { least = omega arith; most = omega arith }
 
 -- a definition may be open when the session is closed
-closed_over : (o : Option Definition) (a : Closing) (k : List Item) → OpenOver o (some a) k
-closed_over none a k = tt
-closed_over (some d) a k = tt
+closed_over : (o : Option Definition) (a : Closing) (k : List Item) → OpenOver o (Some a) k
+closed_over None a k = tt
+closed_over (Some d) a k = tt
 
 -- it may be open where lines come next
 pub next_over : (o : Option Definition) (c : Option Closing) (k : List Item) → NextLine k → OpenOver o c k
-next_over none c k h = tt
-next_over (some d) none k h = h
-next_over (some d) (some a) k h = tt
+next_over None c k h = tt
+next_over (Some d) None k h = h
+next_over (Some d) (Some a) k h = tt
 
 -- none is open
-pub none_over : (o : Option Definition) (c : Option Closing) (k : List Item) → o ≡ none → OpenOver o c k
+pub none_over : (o : Option Definition) (c : Option Closing) (k : List Item) → o ≡ None → OpenOver o c k
 none_over o c k e = subst (λ x. OpenOver x c k) (sym e) tt
 
 -- lines come next where nothing lies over a text

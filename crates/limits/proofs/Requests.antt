@@ -1,6 +1,5 @@
 -- Each request keeps to the limits. Assumes nothing.
-use Rattle.std.specs.Prelude.{◌≡◌, refl, Bool, true, false, ℕ, leb, eqb, length, ℤ, ◌+ℤ◌}
-use Rattle.std.proofs.Math.Option.{Option, none, some}
+use Rattle.std.specs.Prelude.{◌≡◌, refl, Bool, true, false, ℕ, leb, eqb, length, ℤ, ◌+ℤ◌, Option, None, Some}
 use mathlib.Core.List.{List, [], ◌∷◌}
 use Rattle.std.proofs.Common.{arith}
 use Rattle.rules.specs.declared.Name.{Name}
@@ -87,8 +86,8 @@ module _ (p : Printer) where
   step_fair (b ∷ l) old h = units_fair (b ∷ l)
 
   old_step : (o : Option Register) → OfSome BoundedRegister o → Bounded (step_or0 o)
-  old_step none h = omega arith
-  old_step (some r) h = h.1
+  old_step None h = omega arith
+  old_step (Some r) h = h.1
 
   set_numbered : (n : Name) (v u : ℤ) (rs : List Register) → Numbered (set_value n v u rs)
   unfolding set_value

@@ -1,7 +1,6 @@
 -- Rows, pages and the traps that spring keep to the limits: they change the page, the collected line and the input stack alone. Assumes nothing.
-use Rattle.std.specs.Prelude.{◌≡◌, refl, Bool, true, false, List, [], ◌∷◌, ◌++◌, ℕ, zero, suc, ◌+◌, leb, ltb, eqb, length, ℤ, pos, negsuc}
+use Rattle.std.specs.Prelude.{◌≡◌, refl, Bool, true, false, List, [], ◌∷◌, ◌++◌, ℕ, zero, suc, ◌+◌, leb, ltb, eqb, length, ℤ, pos, negsuc, Option, None, Some}
 use Rattle.std.proofs.Common.{sym, subst, arith, leb-true}
-use Rattle.std.proofs.Math.Option.{Option, none, some}
 use Rattle.rules.specs.Texts.{Text}
 use Rattle.rules.specs.Settings.{Down}
 use Rattle.rules.specs.Filling.{Collected}
@@ -14,7 +13,7 @@ use Rattle.limits.proofs.Parts.{is_10, is_12, next_over, none_over, over_layer, 
 
 -- what work on a line or a request finds: the limits, nothing on the stack over a text, and no definition open
 abbrev pub LineReady : State → Type 0
-LineReady s = Within s × OverText s.input.stack × (s.tables.opened ≡ none)
+LineReady s = Within s × OverText s.input.stack × (s.tables.opened ≡ None)
 
 -- a state, and the same with these items held on its stack
 abbrev pub HoldsItems : List Item → State → Type 0
@@ -51,8 +50,8 @@ call_kept t args held s h =
     (λ e. stack_kept s h.0 k (tt, h.1.stack) (leb-true (length k + the_end s.page.last) 16 e) (next_over s.tables.opened s.closing k tt))
 
 spring_text_kept : (t : Option Text) (held : List Item) (s : State) → HoldsItems held s → Within (spring_text t held s)
-spring_text_kept none held s h = h.1
-spring_text_kept (some t) held s h = call_kept t [] held s h
+spring_text_kept None held s h = h.1
+spring_text_kept (Some t) held s h = call_kept t [] held s h
 
 spring_kept : (r : Down) (held : List Item) (s : State) → HoldsItems held s → Within (spring r held s)
 unfolding spring
@@ -82,7 +81,7 @@ down_kept n held s h = reach_kept (ltb (s.page.used + n) s.layout.page) (s.page.
 -- a break
 pub break_kept : (c : Collected) (held : List Item) (s : State) → HoldsItems held s → Keeps (break c held s)
 unfolding break
-break_kept c held s h = down_kept 1 held (with_collected none s) (hold_collected held s none h)
+break_kept c held s h = down_kept 1 held (with_collected None s) (hold_collected held s None h)
 
 -- sp
 pub skip_kept : (n : ℤ) (s : State) → Within s → Keeps (skip n s)
@@ -108,9 +107,9 @@ unfolding eject_last
 eject_last_kept s h = down_kept (rows_below s) [] s (hold_none s h)
 
 end_from_kept : (c : Option Collected) (r : Down) (s : State) → Within s → Keeps (end_from c r s)
-end_from_kept (some c) r s h = break_kept c [] s (hold_none s h)
-end_from_kept none zero s h = done_kept s h
-end_from_kept none (suc r) s h = eject_last_kept s h
+end_from_kept (Some c) r s h = break_kept c [] s (hold_none s h)
+end_from_kept None zero s h = done_kept s h
+end_from_kept None (suc r) s h = eject_last_kept s h
 
 last_kept : (s : State) → Within s → s.input.stack ≡ [] → Within (last_page s)
 last_kept s h e =

@@ -1,8 +1,7 @@
 -- Every piece of work, every byte and the end keep to the limits. Assumes nothing.
-use Rattle.std.specs.Prelude.{◌≡◌, Bool, true, false, ◌&&◌, List, [], ◌∷◌, ◌++◌, ℕ, suc, leb, ltb, eqb, length}
+use Rattle.std.specs.Prelude.{◌≡◌, Bool, true, false, ◌&&◌, List, [], ◌∷◌, ◌++◌, ℕ, suc, leb, ltb, eqb, length, Option, None, Some}
 use Rattle.std.proofs.Math.Path.{refl}
 use Rattle.std.proofs.Common.{sym, subst, arith, leb-true}
-use Rattle.std.proofs.Math.Option.{Option, none, some}
 use Rattle.stream.specs.Answers.{Closing}
 use Rattle.stream.specs.Machine.{works, asks}
 use Rattle.rules.specs.Printers.{Printer}
@@ -48,12 +47,12 @@ take_kept false false true c b s h f = refuse_kept s 3 is_3 h
 take_kept false false false true b s h f = gather_kept (s.input.gathered ++ b ∷ []) [] s h (each_end s.input.gathered b h.gathered (f refl)) tt (none_deep s.page.last) tt
 take_kept false false false false b s h f = refuse_kept s 2 is_2 h
 
-begun_kept : (g : List ℕ) (s : State) → s.closing ≡ none → Within s → Within (with_input (begun_by g s.input) s)
+begun_kept : (g : List ℕ) (s : State) → s.closing ≡ None → Within s → Within (with_input (begun_by g s.input) s)
 begun_kept [] s e h =
     record { registers = h.registers; traps = h.traps; places = h.places; texts = h.texts; gone = h.gone; line = h.line; centred = h.centred; gathered = tt; stack = h.stack; depth = h.depth; opened = h.opened; closing = subst (λ c. Answered c (suc s.input.line)) (sym e) tt }
 begun_kept (b ∷ g) s e h = h
 
-byte_kept : (b : ℕ) (s : State) → s.closing ≡ none → Within s → Within (take_byte b s)
+byte_kept : (b : ℕ) (s : State) → s.closing ≡ None → Within s → Within (take_byte b s)
 unfolding take_byte
 byte_kept b s e h =
     let t = with_begun s in
@@ -69,14 +68,14 @@ unfolding read_end
 read_end_kept s h = last_kept s.input.gathered s h
 
 -- no definition is open where work that is held comes next
-shut : (o : Option Definition) (k : List Item) → (NextLine k → ⊥) → OpenOver o none k → o ≡ none
-shut none k f h = refl
-shut (some d) k f h = absurd (f h)
+shut : (o : Option Definition) (k : List Item) → (NextLine k → ⊥) → OpenOver o None k → o ≡ None
+shut None k f h = refl
+shut (Some d) k f h = absurd (f h)
 
 module _ (p : Printer) where
   leave_kept : (o : Option Definition) (k : List Item) (s : State) → Within s → Layered k → Deep s.page.last k → s.tables.opened ≡ o → Keeps (leave o (with_stack k s))
-  leave_kept none k s h l d e = stack_kept s h k l d (none_over s.tables.opened s.closing k e)
-  leave_kept (some o) k s h l d e = refuse_popped s k 8 is_8 h l d
+  leave_kept None k s h l d e = stack_kept s h k l d (none_over s.tables.opened s.closing k e)
+  leave_kept (Some o) k s h l d e = refuse_popped s k 8 is_8 h l d
 
   read_kept : (t : Bool) (args : List (List ℕ)) (l : List ℕ) (s : State) → Within s → OverText s.input.stack → Keeps (read_line p t args l s)
   read_kept true args l s h y = deal_kept p args l (with_stored (suc s.input.stored) s) h y
@@ -84,12 +83,12 @@ module _ (p : Printer) where
 
   -- the item on top, over the others
   module _ (k : List Item) (s : State) (h : Within s) (l : Layered k) (d : Deep s.page.last k) where
-    ready : (i : Item) → OverText k → (NextLine (i ∷ k) → ⊥) → OpenOver s.tables.opened none (i ∷ k) → LineReady (with_stack k s)
+    ready : (i : Item) → OverText k → (NextLine (i ∷ k) → ⊥) → OpenOver s.tables.opened None (i ∷ k) → LineReady (with_stack k s)
     ready i y f o =
         let e = shut s.tables.opened (i ∷ k) f o in
         (stack_kept s h k l d (none_over s.tables.opened s.closing k e), y, e)
 
-    work_kept : (i : Item) → Layer i k → Deep s.page.last (i ∷ k) → OpenOver s.tables.opened none (i ∷ k) → Keeps (work p i (with_stack k s))
+    work_kept : (i : Item) → Layer i k → Deep s.page.last (i ∷ k) → OpenOver s.tables.opened None (i ∷ k) → Keeps (work p i (with_stack k s))
     work_kept (reading n [] args) y t o = leave_kept s.tables.opened k s h l d refl
     work_kept (reading n (x ∷ ls) args) y t o =
         let j = reading n ls args ∷ k in
@@ -104,15 +103,15 @@ module _ (p : Printer) where
   end_kept false s h e = begin_end_kept s h e
   end_kept true s h e = eject_last_kept s h
 
-  idle_kept : (t : Bool) (o : Option Definition) (s : State) → s.closing ≡ none → s.input.stack ≡ [] → Within s → Keeps (idle p t o s)
+  idle_kept : (t : Bool) (o : Option Definition) (s : State) → s.closing ≡ None → s.input.stack ≡ [] → Within s → Keeps (idle p t o s)
   idle_kept false o s e f h = (read_end_kept s h, λ b. byte_kept b s e h)
-  idle_kept true (some d) s e f h = refuse_kept s 8 is_8 h
-  idle_kept true none s e f h = end_kept s.page.last s h f
+  idle_kept true (Some d) s e f h = refuse_kept s 8 is_8 h
+  idle_kept true None s e f h = end_kept s.page.last s h f
 
   from_kept : (c : Option Closing) (k : List Item) (s : State) → s.closing ≡ c → s.input.stack ≡ k → Within s → Keeps (step_from p c k s)
-  from_kept (some a) k s e f h = tt
-  from_kept none [] s e f h = idle_kept s.input.ended s.tables.opened s e f h
-  from_kept none (i ∷ k) s e f h =
+  from_kept (Some a) k s e f h = tt
+  from_kept None [] s e f h = idle_kept s.input.ended s.tables.opened s e f h
+  from_kept None (i ∷ k) s e f h =
       let l = subst Layered f h.stack in
       let o = subst (λ c. OpenOver s.tables.opened c (i ∷ k)) e (subst (λ j. OpenOver s.tables.opened s.closing j) f h.opened) in
       let d = subst (λ j. Deep s.page.last j) f h.depth in

@@ -1,6 +1,5 @@
 -- Text lines keep to the limits: beside rows, they change the ti total, the lines to centre and the collected line. Assumes nothing.
-use Rattle.std.proofs.Math.Option.{Option, none, some}
-use Rattle.std.specs.Prelude.{List, [], ◌∷◌, ℕ, ◌-◌, pos}
+use Rattle.std.specs.Prelude.{List, [], ◌∷◌, ℕ, ◌-◌, pos, Option, None, Some}
 use Rattle.std.proofs.Common.{arith}
 use Rattle.rules.specs.declared.Breaking.TheVariants.{Sp}
 use Rattle.rules.specs.Filling.{Word, words, standing, after, gap_after, Collected, with_next, begin, begun, Placed, all_placed, full, place}
@@ -16,15 +15,15 @@ hold_others [] g s h = hold_none s h.0
 hold_others (w ∷ ws) g s h = hold (others (w ∷ ws) g) s tt h
 
 filled_kept : (x : Placed) (g : ℕ) (s : State) → LineReady s → Keeps (filled x g s)
-filled_kept (all_placed c) g s h = collected_kept s h.0 (some (with_next g c))
+filled_kept (all_placed c) g s h = collected_kept s h.0 (Some (with_next g c))
 filled_kept (full c w ws) g s h =
     let t = with_layout (begun s.layout) s in
-    let o = some (with_next (next_gap ws g) (begin s.layout w)) in
+    let o = Some (with_next (next_gap ws g) (begin s.layout w)) in
     down_kept 1 (others_of ws g) (with_collected o t) (hold_collected (others_of ws g) t o (hold_others ws g t h))
 
 fill_from_kept : (c : Option Collected) (w : Word) (ws : List Word) (g : ℕ) (s : State) → LineReady s → Keeps (fill_from c w ws g s)
-fill_from_kept none w ws g s h = filled_kept (place (begin s.layout w) ws) g (with_layout (begun s.layout) s) h
-fill_from_kept (some c) w ws g s h = filled_kept (place c (w ∷ ws)) g s h
+fill_from_kept None w ws g s h = filled_kept (place (begin s.layout w) ws) g (with_layout (begun s.layout) s) h
+fill_from_kept (Some c) w ws g s h = filled_kept (place c (w ∷ ws)) g s h
 
 -- words are placed
 pub fill_kept : (ws : List Word) (g : ℕ) (s : State) → LineReady s → Keeps (fill ws g s)
@@ -33,8 +32,8 @@ fill_kept [] g s h = h.0
 fill_kept (w ∷ ws) g s h = fill_from_kept s.collected w ws g s h
 
 blank_kept : (c : Option Collected) (s : State) → LineReady s → Keeps (blank_from c s)
-blank_kept none s h = skip_kept (pos 1) s h.0
-blank_kept (some c) s h = break_kept c (acts Sp [] ∷ []) s (hold (acts Sp []) s tt h)
+blank_kept None s h = skip_kept (pos 1) s h.0
+blank_kept (Some c) s h = break_kept c (acts Sp [] ∷ []) s (hold (acts Sp []) s tt h)
 
 counted_kept : (s : State) → Within s → Within (with_layout (counted s.layout) s)
 counted_kept s h = centred_kept s h (s.layout.centred - 1) (omega (arith, h.centred))

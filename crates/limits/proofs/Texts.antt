@@ -1,7 +1,6 @@
 -- ds, de and rm keep to the limits. Assumes nothing.
-use Rattle.std.specs.Prelude.{◌≡◌, Bool, true, false, not, List, [], ℕ}
+use Rattle.std.specs.Prelude.{◌≡◌, Bool, true, false, not, List, [], ℕ, Option, None, Some}
 use Rattle.std.proofs.Common.{sym, subst}
-use Rattle.std.proofs.Math.Option.{Option, none, some}
 use Rattle.rules.specs.declared.Name.{Name}
 use Rattle.rules.specs.Names.{name_of}
 use Rattle.rules.specs.Texts.{Text, text_of, remove, define_string_in, open_macro}
@@ -40,8 +39,8 @@ module _ (s : State) (h : LineReady s) where
       (λ us d. fine (texts_kept s h.0 us d (none_gone us))))
 
   from_kept : (o : Option Part) (i : Bool) → Fair Within (define_from o i s)
-  from_kept none i = fine h.0
-  from_kept (some f) i = let l = written_back i (string_text f.rest) in name_kept (name_of f.part) s (define_text s l) h.0 (define_kept l)
+  from_kept None i = fine h.0
+  from_kept (Some f) i = let l = written_back i (string_text f.rest) in name_kept (name_of f.part) s (define_text s l) h.0 (define_kept l)
 
   -- ds
   pub defines_kept : (i : Bool) (l : List ℕ) → Fair Within (defines i l s)
@@ -52,9 +51,9 @@ module _ (s : State) (h : LineReady s) where
   pub open_kept : (n : Name) → Fair Within (open_text s n)
   open_kept n =
       fair_of _ (free_fair n) (λ m u.
-      fair_of _ (fair_given {P = λ us. Distinct us × (text_of m us ≡ none)} (open_macro m ts) (open_numbered m) (λ us e. (distinct_open m ts us h.0.texts e, gone_open m ts us h.0.texts e)))
-      (λ us d. fine (opened_kept s h.0 (some (record { name = m; body = [] })) us d.0 d.1
-      (next_over (some (record { name = m; body = [] })) s.closing s.input.stack (over_next s.input.stack h.1)))))
+      fair_of _ (fair_given {P = λ us. Distinct us × (text_of m us ≡ None)} (open_macro m ts) (open_numbered m) (λ us e. (distinct_open m ts us h.0.texts e, gone_open m ts us h.0.texts e)))
+      (λ us d. fine (opened_kept s h.0 (Some (record { name = m; body = [] })) us d.0 d.1
+      (next_over (Some (record { name = m; body = [] })) s.closing s.input.stack (over_next s.input.stack h.1)))))
 
   -- rm
   pub remove_kept : (t : Bool) (n : Name) → Fair Within (remove_if t s n)

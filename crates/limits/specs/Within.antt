@@ -1,6 +1,5 @@
 -- The limits that every state of the rules keeps to, from the start on (proofs/Steps.antt), and that a lent record must keep to. Assumes nothing.
-use Rattle.std.specs.Prelude.{◌≡◌, Bool, List, [], ◌∷◌, ℕ, ◌+◌, ◌≤◌, length}
-use Rattle.std.proofs.Math.Option.{Option, none, some}
+use Rattle.std.specs.Prelude.{◌≡◌, Bool, List, [], ◌∷◌, ℕ, ◌+◌, ◌≤◌, length, Option, None, Some}
 use Rattle.std.proofs.Common.{arith}
 use Rattle.stream.specs.Answers.{Closing, done, refused}
 use Rattle.stream.specs.Machine.{Step, works, asks, closed}
@@ -25,8 +24,8 @@ pub record Ranged (v : Setting) : Type 0 where
 
 -- "the old text counts as gone when the new definition starts", and "A macro exists once closed": no text has the name of an open definition
 abbrev pub Gone : Option Definition → List Text → Type 0
-Gone none ts = Unit
-Gone (some d) ts = text_of d.name ts ≡ none
+Gone None ts = Unit
+Gone (Some d) ts = text_of d.name ts ≡ None
 
 -- "2: a source byte other than 10 and 32 to 126": 10 is no byte of a line
 pub record SourceByte (b : ℕ) : Type 0 where
@@ -87,9 +86,9 @@ NextLine (ejects n ∷ k) = ⊥
 
 -- "8: a macro definition not ended when its input ends": while one is open, and the session is not closed, lines come next and no work that is held
 abbrev pub OpenOver : Option Definition → Option Closing → List Item → Type 0
-OpenOver none c k = Unit
-OpenOver (some d) none k = NextLine k
-OpenOver (some d) (some a) k = Unit
+OpenOver None c k = Unit
+OpenOver (Some d) None k = NextLine k
+OpenOver (Some d) (Some a) k = Unit
 
 -- "first refusal (2 to 12)"
 pub record Refusal (n : ℕ) : Type 0 where
@@ -98,9 +97,9 @@ pub record Refusal (n : ℕ) : Type 0 where
 
 -- a session is closed by done, or by a refusal at the source line that was begun last
 abbrev pub Answered : Option Closing → (line : ℕ) → Type 0
-Answered none l = Unit
-Answered (some done) l = Unit
-Answered (some (refused n m)) l = Refusal n × (m ≡ l)
+Answered None l = Unit
+Answered (Some done) l = Unit
+Answered (Some (refused n m)) l = Refusal n × (m ≡ l)
 
 -- THE LIMITS, part by part. Those of the settings' other ranges are `LayoutInvariant` (settings); those of counts and lengths are in what the code asks for.
 pub record Limited (t : Tables) (ll : Setting) (ce : ℕ) (g : List ℕ) (l : ℕ) (k : List Item) (e : Bool) (c : Option Closing) : Type 0 where

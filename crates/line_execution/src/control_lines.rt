@@ -15,6 +15,7 @@ use rules::arrays::{
 use rules::{Name, Request};
 use settings::layout::Printer;
 use state::{Status, WorkOutcome};
+use texts::columns::Texts;
 
 // A request, whose line is expanded behind its name.
 fn request(
@@ -99,20 +100,18 @@ fn request(
             steps,
         ),
         Request::Ds => {
-            let answer = requests::definitions::define(
-                line,
-                after_if,
-                stack,
-                &*ends,
+            let mut texts = Texts {
                 store,
-                text_firsts,
-                text_seconds,
+                firsts: text_firsts,
+                seconds: text_seconds,
                 kinds,
                 lengths,
-                status.texts,
-                &mut parts,
+                count: status.texts,
+            };
+            let answer = requests::definitions::define(
+                line, after_if, stack, &*ends, &mut texts, &mut parts,
             );
-            super::table_steps::changed(answer, status)
+            super::table_steps::changed(answer, texts.count, status)
         }
         Request::If => {
             let outcome = composition::no_break_requests::decide(
@@ -138,7 +137,7 @@ fn request(
 
 // A control line that is expanded behind its name: it calls a text, or is a request.
 pub fn obey(
-    meaning: Meaning,
+    meaning: Option<Meaning>,
     after_if: bool,
     period: bool,
     name: Name,
@@ -167,6 +166,9 @@ pub fn obey(
     let collected = status.collected;
     let planted = status.planted;
     let stack = status.stack;
+    let Some(meaning) = meaning else {
+        return state::stay(Way::On, status);
+    };
     match meaning {
         Meaning::Calls(_) => {
             let mut parts = [0u8; LINE_SIZE];
@@ -211,6 +213,5 @@ pub fn obey(
             values,
             steps,
         ),
-        Meaning::Nothing => state::stay(Way::On, status),
     }
 }

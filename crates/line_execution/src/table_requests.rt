@@ -1,30 +1,26 @@
 // The requests on tables, from an expanded line: nr, wh, rm and de.
 ghost use Rattle.rules.specs.Acts.{argument_at, change};
 ghost use Rattle.rules.specs.declared.TableChange.TheVariants.{Nr, Wh, Rm, De};
-ghost use Rattle.requests.specs.Nr.Registers.{AssignRefines};
-ghost use Rattle.requests.specs.Nr.Registers as registers;
+ghost use Rattle.requests.specs.Nr.Registers.{assigns};
+ghost use Rattle.requests.specs.Nr.Lent.{AssignsIn};
 ghost use Rattle.requests.specs.Wh.Traps.{PlantRefines};
 ghost use Rattle.requests.specs.Wh.Traps as traps;
 ghost use Rattle.rules.specs.Names.{name_of};
-ghost use Rattle.requests.specs.Definitions.Texts.{ChangeRefines, OpensAs, alone};
-ghost use Rattle.state.specs.WholeLaws.{OpeningIs, opened_with};
-ghost use Rattle.requests.specs.Definitions.Texts as texts;
-ghost use Rattle.settings.specs.Layout.Layouts.{printer_of};
-ghost use Rattle.std.specs.Prelude.{true, ◌≡◌, [], ◌*◌, get_or, length};
+ghost use Rattle.requests.specs.Definitions.Texts.{opens_text};
+ghost use Rattle.requests.specs.Definitions.Lent.{ChangesIn};
+ghost use Rattle.settings.specs.Layout.Layouts.{printer_of, PrinterInvariant};
+ghost use Rattle.line_execution.specs.TableSteps.Lent.{OpenedAs};
+ghost use Rattle.std.specs.Prelude.{true, ◌≡◌, ◌≤◌, [], ◌*◌, get_or, length};
 ghost use Rattle.scan.specs.Arguments.Parting.{UnreadRoom};
 ghost use Rattle.scan.specs.Arguments.Around.{arguments_of, Arguments};
 
 use input_stack::stack::Stack;
-use line_syntax::lines::Named;
-use requests::definitions::Changed;
-use requests::nr::Assigned;
-use requests::wh::Plants;
-use rules::Name;
-use rules::arrays::{
-    ARGUMENT_COUNT, ArgumentEnds, ByteColumn, LengthColumn, LineBytes, NumberColumn, StackEnds,
-};
+use registers::columns::Registers;
+use rules::Refusal;
+use rules::arrays::{ARGUMENT_COUNT, ArgumentEnds, LineBytes, StackEnds};
 use settings::layout::Printer;
 use state::{Opened, Opening};
+use texts::columns::Texts;
 use traps::table::Planted;
 
 // nr, by its arguments.
@@ -33,21 +29,15 @@ fn assign_parted(
     ends: &ArgumentEnds,
     given: usize,
     printer: Printer,
-    firsts: &mut ByteColumn,
-    seconds: &mut ByteColumn,
-    values: &mut NumberColumn,
-    steps: &mut NumberColumn,
-    count: usize,
-) -> Assigned
-    requires { registers.AssignReady firsts.old seconds.old values.old steps.old count printer × Arguments parts.now ends.now given }
-    ensures { AssignRefines firsts.old seconds.old values.old steps.old count (registers.assigns printer (get_or (arguments_of parts.now ends.now given) 0 []) (get_or (arguments_of parts.now ends.now given) 1 []) (get_or (arguments_of parts.now ends.now given) 2 [])) result firsts.new seconds.new values.new steps.new }
+    registers: &mut Registers,
+) -> Result<(), Refusal>
+    requires { PrinterInvariant printer × Arguments parts.now ends.now given }
+    ensures { AssignsIn registers.old registers.new (assigns printer (get_or (arguments_of parts.now ends.now given) 0 []) (get_or (arguments_of parts.now ends.now given) 1 []) (get_or (arguments_of parts.now ends.now given) 2 [])) result }
 {
     let name = line_syntax::lines::argument(parts, ends, given, 0);
     let value = line_syntax::lines::argument(parts, ends, given, 1);
     let step = line_syntax::lines::argument(parts, ends, given, 2);
-    requests::nr::assign(
-        name, value, step, printer, firsts, seconds, values, steps, count,
-    )
+    requests::nr::assign(name, value, step, printer, registers)
 }
 
 // nr, by what follows its name.
@@ -55,20 +45,14 @@ pub fn assign(
     line: &[u8],
     parts: &mut LineBytes,
     printer: Printer,
-    firsts: &mut ByteColumn,
-    seconds: &mut ByteColumn,
-    values: &mut NumberColumn,
-    steps: &mut NumberColumn,
-    count: usize,
-) -> Assigned
-    requires { registers.AssignReady firsts.old seconds.old values.old steps.old count printer × UnreadRoom line.now 0 parts.old 0 }
-    ensures { AssignRefines firsts.old seconds.old values.old steps.old count (λ s. change (printer_of printer) Nr line.now s) result firsts.new seconds.new values.new steps.new }
+    registers: &mut Registers,
+) -> Result<(), Refusal>
+    requires { PrinterInvariant printer × UnreadRoom line.now 0 parts.old 0 }
+    ensures { AssignsIn registers.old registers.new (λ s. change (printer_of printer) Nr line.now s) result }
 {
     let mut ends = [0u16; ARGUMENT_COUNT];
     let given = scan::arguments::arguments(line, 0, &mut *parts, &mut ends);
-    assign_parted(
-        &*parts, &ends, given, printer, firsts, seconds, values, steps, count,
-    )
+    assign_parted(&*parts, &ends, given, printer, registers)
 }
 
 // wh, by its arguments.
@@ -78,7 +62,7 @@ fn plant_parted(
     given: usize,
     printer: Printer,
     planted: Planted,
-) -> Plants
+) -> Result<Planted, Refusal>
     requires { traps.PlantReady planted printer × Arguments parts.now ends.now given }
     ensures { traps.PlantedTo (get_or (arguments_of parts.now ends.now given) 0 []) (get_or (arguments_of parts.now ends.now given) 1 []) planted printer result }
 {
@@ -88,7 +72,12 @@ fn plant_parted(
 }
 
 // wh, by what follows its name.
-pub fn plant(line: &[u8], parts: &mut LineBytes, printer: Printer, planted: Planted) -> Plants
+pub fn plant(
+    line: &[u8],
+    parts: &mut LineBytes,
+    printer: Printer,
+    planted: Planted,
+) -> Result<Planted, Refusal>
     requires { traps.PlantReady planted printer × UnreadRoom line.now 0 parts.old 0 }
     ensures { PlantRefines planted (λ s. change (printer_of printer) Wh line.now s) result }
 {
@@ -104,77 +93,40 @@ pub fn remove(
     printer: Printer,
     stack: Stack,
     frames: &StackEnds,
-    store: &mut [u8],
-    firsts: &mut ByteColumn,
-    seconds: &mut ByteColumn,
-    kinds: &mut ByteColumn,
-    lengths: &mut LengthColumn,
-    count: usize,
-) -> Changed
-    requires { texts.ChangeReady store.old firsts.old seconds.old kinds.old lengths.old count stack × UnreadRoom line.now 0 parts.old 0 }
-    ensures { ChangeRefines store.old firsts.old seconds.old kinds.old lengths.old count stack frames.now alone (λ s. change (printer_of printer) Rm line.now s) result store.new firsts.new seconds.new kinds.new lengths.new }
+    texts: &mut Texts,
+) -> Result<bool, Refusal>
+    requires { (stack.depth ≤ 17) × UnreadRoom line.now 0 parts.old 0 }
+    ensures { ChangesIn texts.old stack frames.now (λ s. change (printer_of printer) Rm line.now s) result texts.new }
 {
     let mut ends = [0u16; ARGUMENT_COUNT];
     let given = scan::arguments::arguments(line, 0, &mut *parts, &mut ends);
     let name = line_syntax::lines::argument(&*parts, &ends, given, 0);
-    requests::definitions::remove(
-        name, stack, frames, store, firsts, seconds, kinds, lengths, count,
-    )
-}
-
-// The definition of a name is open, unless it was refused.
-fn opened_as(changed: Changed, name: Name, opening: Opening) -> Opened
-    ensures { result ≡ opened_with changed name opening }
-{
-    match changed {
-        Changed::Count(_) => {
-            let empty = Opening {
-                there: true,
-                name,
-                length: 0,
-            };
-            Opened {
-                changed,
-                opening: empty,
-            }
-        }
-        Changed::Same => Opened { changed, opening },
-        Changed::Refused(_) => Opened { changed, opening },
-    }
+    requests::definitions::remove(name, stack, frames, texts)
 }
 
 // de of what its name is.
 fn open_named(
     name: &[u8],
-    opening: Opening,
     stack: Stack,
     frames: &StackEnds,
-    store: &mut [u8],
-    firsts: &mut ByteColumn,
-    seconds: &mut ByteColumn,
-    kinds: &mut ByteColumn,
-    lengths: &mut LengthColumn,
-    count: usize,
-) -> Opened
-    requires { texts.ChangeReady store.old firsts.old seconds.old kinds.old lengths.old count stack }
-    ensures { OpensAs store.old firsts.old seconds.old kinds.old lengths.old count stack frames.now (name_of name.now) (texts.opens_text name.now) result.changed store.new firsts.new seconds.new kinds.new lengths.new × OpeningIs (name_of name.now) result.changed opening result.opening }
+    texts: &mut Texts,
+) -> Result<Option<Opened>, Refusal>
+    requires { stack.depth ≤ 17 }
+    ensures { OpenedAs texts.old stack frames.now (name_of name.now) (opens_text name.now) result texts.new }
 {
-    match line_syntax::lines::name_of(name) {
-        Named::One(known) => {
-            let changed = requests::definitions::open(
-                name, stack, frames, store, firsts, seconds, kinds, lengths, count,
-            );
-            opened_as(changed, known, opening)
-        }
-        Named::Nothing => Opened {
-            changed: Changed::Same,
-            opening,
-        },
-        Named::TooLong => Opened {
-            changed: Changed::Refused(7),
-            opening,
-        },
+    let Some(known) = line_syntax::lines::name_of(name)? else {
+        return Ok(None);
+    };
+    if !requests::definitions::open(name, stack, frames, texts)? {
+        return Ok(None);
     }
+    let opening = Opening {
+        there: true,
+        name: known,
+        length: 0,
+    };
+    let texts = texts.count;
+    Ok(Some(Opened { texts, opening }))
 }
 
 // de, by what follows its name.
@@ -182,23 +134,15 @@ pub fn open(
     line: &[u8],
     parts: &mut LineBytes,
     printer: Printer,
-    opening: Opening,
     stack: Stack,
     frames: &StackEnds,
-    store: &mut [u8],
-    firsts: &mut ByteColumn,
-    seconds: &mut ByteColumn,
-    kinds: &mut ByteColumn,
-    lengths: &mut LengthColumn,
-    count: usize,
-) -> Opened
-    requires { texts.ChangeReady store.old firsts.old seconds.old kinds.old lengths.old count stack × UnreadRoom line.now 0 parts.old 0 }
-    ensures { OpensAs store.old firsts.old seconds.old kinds.old lengths.old count stack frames.now (name_of (argument_at 0 line.now)) (λ s. change (printer_of printer) De line.now s) result.changed store.new firsts.new seconds.new kinds.new lengths.new × OpeningIs (name_of (argument_at 0 line.now)) result.changed opening result.opening }
+    texts: &mut Texts,
+) -> Result<Option<Opened>, Refusal>
+    requires { (stack.depth ≤ 17) × UnreadRoom line.now 0 parts.old 0 }
+    ensures { OpenedAs texts.old stack frames.now (name_of (argument_at 0 line.now)) (λ s. change (printer_of printer) De line.now s) result texts.new }
 {
     let mut ends = [0u16; ARGUMENT_COUNT];
     let given = scan::arguments::arguments(line, 0, &mut *parts, &mut ends);
     let name = line_syntax::lines::argument(&*parts, &ends, given, 0);
-    open_named(
-        name, opening, stack, frames, store, firsts, seconds, kinds, lengths, count,
-    )
+    open_named(name, stack, frames, texts)
 }

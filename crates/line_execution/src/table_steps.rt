@@ -4,67 +4,70 @@ ghost use Rattle.rules.specs.Acts as rule;
 ghost use Rattle.rules.specs.Acts.{settles};
 ghost use Rattle.settings.specs.Layout.Layouts.{printer_of};
 ghost use Rattle.state.specs.Whole.{WholeState, StateRefines};
+ghost use Rattle.page.specs.declared.springs.Way.TheVariants.{Refused};
+ghost use Rattle.state.specs.Steps.{stayed};
 ghost use Rattle.state.specs.Statuses.{whole_of, StateReady};
+ghost use Rattle.texts.specs.Table.Lent.{counted};
+ghost use Rattle.requests.specs.Definitions.Lent.{count_done};
 ghost use Rattle.line_execution.specs.TableSteps.Steps.{assigned_to, planted_to, changed_to, opened_to};
 
 use page::springs::Way;
-use requests::definitions::Changed;
-use requests::nr::Assigned;
-use requests::wh::Plants;
-use rules::TableChange;
+use registers::columns::Registers;
 use rules::arrays::{
     ByteColumn, LINE_SIZE, LengthColumn, LineBytes, NumberColumn, RowBytes, StackBytes, StackEnds,
 };
+use rules::{Refusal, TableChange};
 use settings::layout::Printer;
 use state::{Opened, Status, WorkOutcome, stay, with_planted, with_registers, with_texts};
+use texts::columns::Texts;
+use traps::table::Planted;
 
-// After nr.
-fn assigned(answer: Assigned, status: Status) -> WorkOutcome
-    ensures { result ≡ assigned_to answer status }
+// A change that is refused closes the session.
+fn refused(refusal: Refusal, status: Status) -> WorkOutcome
+    ensures { result ≡ stayed (Refused refusal) status }
+{
+    stay(Way::Refused(refusal), status)
+}
+
+// After nr, with so many registers. This and the three below stay apart: each sets another part of the status, and a closure at each call is no plainer.
+fn assigned(answer: Result<(), Refusal>, registers: usize, status: Status) -> WorkOutcome
+    ensures { result ≡ assigned_to (counted answer registers) status }
 {
     match answer {
-        Assigned::Count(n) => stay(Way::On, with_registers(status, n)),
-        Assigned::Refused(k) => stay(Way::Refused(k), status),
+        Ok(()) => stay(Way::On, with_registers(status, registers)),
+        Err(refusal) => refused(refusal, status),
     }
 }
 
 // After wh.
-fn trapped(answer: Plants, status: Status) -> WorkOutcome
+fn trapped(answer: Result<Planted, Refusal>, status: Status) -> WorkOutcome
     ensures { result ≡ planted_to answer status }
 {
-    let planted = answer.planted;
-    let after = with_planted(status, planted);
-    let refused = answer.refused;
-    if refused == 0 {
-        return stay(Way::On, after);
+    match answer {
+        Ok(planted) => stay(Way::On, with_planted(status, planted)),
+        Err(refusal) => refused(refusal, status),
     }
-    stay(Way::Refused(refused), after)
 }
 
 // After de.
-fn opened(answer: Opened, status: Status) -> WorkOutcome
+fn opened(answer: Result<Option<Opened>, Refusal>, status: Status) -> WorkOutcome
     ensures { result ≡ opened_to answer status }
 {
-    let opening = answer.opening;
-    let changed = answer.changed;
-    match changed {
-        Changed::Count(n) => stay(Way::On, with_texts(status, n, opening)),
-        Changed::Same => stay(Way::On, with_texts(status, status.texts, opening)),
-        Changed::Refused(k) => stay(Way::Refused(k), with_texts(status, status.texts, opening)),
+    match answer {
+        Ok(Some(new)) => stay(Way::On, with_texts(status, new.texts, new.opening)),
+        Ok(None) => stay(Way::On, status),
+        Err(refusal) => refused(refusal, status),
     }
 }
 
-// After ds and rm.
-pub fn changed(answer: Changed, status: Status) -> WorkOutcome
-    ensures { result ≡ changed_to answer status }
+// After ds and rm, with so many texts.
+pub fn changed(answer: Result<bool, Refusal>, texts: usize, status: Status) -> WorkOutcome
+    ensures { result ≡ changed_to (count_done answer texts) status }
 {
     match answer {
-        Changed::Count(n) => {
-            let opening = status.opening;
-            stay(Way::On, with_texts(status, n, opening))
-        }
-        Changed::Same => stay(Way::On, status),
-        Changed::Refused(k) => stay(Way::Refused(k), status),
+        Ok(true) => stay(Way::On, with_texts(status, texts, status.opening)),
+        Ok(false) => stay(Way::On, status),
+        Err(refusal) => refused(refusal, status),
     }
 }
 
@@ -91,58 +94,58 @@ pub fn change(
     requires { let q : WholeState = whole_of status cells.now arena.now ends.now store.old text_firsts.old text_seconds.old kinds.old lengths.old firsts.old seconds.old values.old steps.old in StateReady q line.now row.now printer × (status.opening.there ≡ false) }
     ensures { let q : WholeState = whole_of status cells.now arena.now ends.now store.old text_firsts.old text_seconds.old kinds.old lengths.old firsts.old seconds.old values.old steps.old in StateRefines (λ s. settles (rule.change (printer_of printer) request line.now s) s) q result.way result.written (whole_of result.status cells.now arena.now ends.now store.new text_firsts.new text_seconds.new kinds.new lengths.new firsts.new seconds.new values.new steps.new) row.now }
 {
-    let planted = status.planted;
-    let stack = status.stack;
-    let opening = status.opening;
     let mut parts = [0u8; LINE_SIZE];
     match request {
         TableChange::Nr => {
-            let answer = super::table_requests::assign(
-                line,
-                &mut parts,
-                printer,
+            let mut registers = Registers {
                 firsts,
                 seconds,
                 values,
                 steps,
-                status.registers,
-            );
-            assigned(answer, status)
+                count: status.registers,
+            };
+            let answer = super::table_requests::assign(line, &mut parts, printer, &mut registers);
+            assigned(answer, registers.count, status)
         }
         TableChange::Wh => {
-            let answer = super::table_requests::plant(line, &mut parts, printer, planted);
+            let answer = super::table_requests::plant(line, &mut parts, printer, status.planted);
             trapped(answer, status)
         }
         TableChange::Rm => {
+            let mut texts = Texts {
+                store,
+                firsts: text_firsts,
+                seconds: text_seconds,
+                kinds,
+                lengths,
+                count: status.texts,
+            };
             let answer = super::table_requests::remove(
                 line,
                 &mut parts,
                 printer,
-                stack,
+                status.stack,
                 ends,
-                store,
-                text_firsts,
-                text_seconds,
-                kinds,
-                lengths,
-                status.texts,
+                &mut texts,
             );
-            changed(answer, status)
+            changed(answer, texts.count, status)
         }
         TableChange::De => {
+            let mut texts = Texts {
+                store,
+                firsts: text_firsts,
+                seconds: text_seconds,
+                kinds,
+                lengths,
+                count: status.texts,
+            };
             let answer = super::table_requests::open(
                 line,
                 &mut parts,
                 printer,
-                opening,
-                stack,
+                status.stack,
                 ends,
-                store,
-                text_firsts,
-                text_seconds,
-                kinds,
-                lengths,
-                status.texts,
+                &mut texts,
             );
             opened(answer, status)
         }

@@ -1,7 +1,6 @@
 -- A body line that is kept in the open definition, in the whole state. Assumes nothing.
-use Rattle.std.specs.Prelude.{◌≡◌, Bool, true, false, List, [], ℕ, ◌≤◌, length}
+use Rattle.std.specs.Prelude.{◌≡◌, Bool, true, false, List, [], ℕ, ◌≤◌, length, None, Some, Result, Ok, Err}
 use Rattle.std.proofs.Common.{sym, ap, ◌∙◌, subst, arith}
-use Rattle.std.proofs.Math.Option.{none, some}
 use Rattle.stream.specs.Machine.{works}
 use Rattle.rules.specs.Refusals.{Judged}
 use Rattle.rules.specs.Printers.{Printer}
@@ -12,8 +11,7 @@ use Rattle.rules.specs.StateSetters.{input, tables, with_opened}
 use Rattle.rules.specs.Rows.{Next, goes}
 use Rattle.rules.specs.Acts.{on_value}
 use Rattle.rules.specs.ControlLines.{keep_body}
-use Rattle.texts.specs.declared.table.KeptLine.{KeptLine}
-use Rattle.texts.specs.declared.table.KeptLine.TheVariants as kept
+use Rattle.rules.specs.declared.Refusal.{Refusal}
 use Rattle.texts.specs.Table.Changes.{room_of, body_of, KeptTo, ClosedTo}
 use Rattle.traps.specs.Table.Table.{planted_of}
 use Rattle.input_stack.specs.Stack.Frames.{Frame, frames_of}
@@ -28,19 +26,19 @@ use Rattle.state.specs.Whole.{WholeState, text_columns, whole_state, texts_in, o
 use Rattle.line_expansion.specs.Dealing.{keeps_in, closes_in}
 
 -- how a body line leads on, and the open definition after it
-abbrev pub kept_way : KeptLine → Way
-kept_way (kept.Longer n) = On
-kept_way kept.Full = Refused 11
+abbrev pub kept_way : Result ℕ Refusal → Way
+kept_way (Ok n) = On
+kept_way (Err e) = Refused e
 
-abbrev pub opening_kept : KeptLine → Opening → Opening
-opening_kept (kept.Longer n) o = record { there = true; name = o.name; length = n }
-opening_kept kept.Full o = o
+abbrev pub opening_kept : Result ℕ Refusal → Opening → Opening
+opening_kept (Ok n) o = record { there = true; name = o.name; length = n }
+opening_kept (Err e) o = o
 
 module _ (p : Printer) (q : WholeState) (line st' row : List ℕ) (s : StateInvariant q) (d : q.page_state.stack.depth ≤ 16) (l : length row ≡ 872) (o : q.opening.there ≡ true) where
-  abbrev Keeps : KeptLine → Type 0
+  abbrev Keeps : Result ℕ Refusal → Type 0
   Keeps r = KeptTo q.texts.store q.texts.lengths q.texts.count q.opening.length line r st'
 
-  abbrev kept_whole : KeptLine → WholeState
+  abbrev kept_whole : Result ℕ Refusal → WholeState
   kept_whole r = whole_state q.page_state q.planted (text_columns st' q.texts.firsts q.texts.seconds q.texts.kinds q.texts.lengths q.texts.count) (opening_kept r q.opening) q.registers
 
   -- the definition that is open
@@ -51,7 +49,7 @@ module _ (p : Printer) (q : WholeState) (line st' row : List ℕ) (s : StateInva
   abbrev at : State → List Text → Definition → State
   at x ts e = record {
     input = input x.input.gathered x.input.line x.input.ended x.input.stored (stack_of ts q.page_state.stack q.page_state.arena q.page_state.ends);
-    tables = tables (registers_in q.registers) ts (some e) (planted_of q.planted);
+    tables = tables (registers_in q.registers) ts (Some e) (planted_of q.planted);
     layout = (state_in q x).layout;
     page = (state_in q x).page;
     collected = (state_in q x).collected;
@@ -63,31 +61,31 @@ module _ (p : Printer) (q : WholeState) (line st' row : List ℕ) (s : StateInva
 
   -- what the rules make of the line
   abbrev led : State → Judged (List ℕ) → Next
-  led x j = on_value j (state_in q x) (λ b. goes (with_opened (some (record { name = q.opening.name; body = b })) (state_in q x)))
+  led x j = on_value j (state_in q x) (λ b. goes (with_opened (Some (record { name = q.opening.name; body = b })) (state_in q x)))
 
-  kept_is : (r : KeptLine) → Keeps r → (x : State) → works [] (close_by (kept_way r) (state_in (kept_whole r) x)) ≡ keeps_in p (state_in q x).tables.opened line (state_in q x)
-  kept_is (kept.Longer n) a x =
+  kept_is : (r : Result ℕ Refusal) → Keeps r → (x : State) → works [] (close_by (kept_way r) (state_in (kept_whole r) x)) ≡ keeps_in p (state_in q x).tables.opened line (state_in q x)
+  kept_is (Ok n) a x =
       let t = a.texts q.texts.firsts q.texts.seconds q.texts.kinds s.lies in
       ap (λ (ts : List Text). works [] (at x ts (record { name = q.opening.name; body = body_of st' q.texts.lengths q.texts.count n }))) t
       ∙ ap (led x) (a.is q.texts.firsts q.texts.seconds q.texts.kinds s.lies)
       ∙ ap (λ (k : ℕ). led x (keep_line_in (room_of k) (texts_in q.texts) definition.body line)) s.store
       ∙ opened_here x
-  kept_is kept.Full a x =
+  kept_is (Err e) a x =
       rw a.kept
       (ap (led x) (a.is q.texts.firsts q.texts.seconds q.texts.kinds s.lies)
       ∙ ap (λ (k : ℕ). led x (keep_line_in (room_of k) (texts_in q.texts) definition.body line)) s.store
       ∙ opened_here x)
 
-  kept_opens : (r : KeptLine) → Keeps r → OpensIn (opening_kept r q.opening).there (opening_kept r q.opening) (kept_whole r).texts
-  kept_opens (kept.Longer n) a = a.opens
-  kept_opens kept.Full a = subst (λ (b : Bool). OpensIn b q.opening (kept_whole kept.Full).texts) (sym o) a.opens
+  kept_opens : (r : Result ℕ Refusal) → Keeps r → OpensIn (opening_kept r q.opening).there (opening_kept r q.opening) (kept_whole r).texts
+  kept_opens (Ok n) a = a.opens
+  kept_opens (Err e) a = subst (λ (b : Bool). OpensIn b q.opening (kept_whole (Err e)).texts) (sym o) a.opens
 
-  kept_store : (r : KeptLine) → Keeps r → KeptStore (kept_way r) q.texts.store st'
-  kept_store (kept.Longer n) a = tt
-  kept_store kept.Full a = a.kept
+  kept_store : (r : Result ℕ Refusal) → Keeps r → KeptStore (kept_way r) q.texts.store st'
+  kept_store (Ok n) a = tt
+  kept_store (Err e) a = a.kept
 
   -- a body line is kept, or refused
-  pub keep_refines : (r : KeptLine) → Keeps r → StateRefines (λ v. keeps_in p v.tables.opened line v) q (kept_way r) 0 (kept_whole r) row
+  pub keep_refines : (r : Result ℕ Refusal) → Keeps r → StateRefines (λ v. keeps_in p v.tables.opened line v) q (kept_way r) 0 (kept_whole r) row
   keep_refines r a = record {
     is = kept_is r a;
     sound = record {
@@ -128,7 +126,7 @@ module _ (p : Printer) (q : WholeState) (fs' ss' ks' ls' row : List ℕ) (n : �
   abbrev with_items : State → List Text → List Item → State
   with_items x ts k = record {
     input = input x.input.gathered x.input.line x.input.ended x.input.stored k;
-    tables = tables (registers_in q.registers) ts none (planted_of q.planted);
+    tables = tables (registers_in q.registers) ts None (planted_of q.planted);
     layout = (state_in q x).layout;
     page = (state_in q x).page;
     collected = (state_in q x).collected;

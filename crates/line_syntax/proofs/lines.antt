@@ -1,4 +1,2 @@
-pub mod LineLaws
 pub mod PlaceLaws
-pub mod MeaningLaws
 pub mod BackLaws

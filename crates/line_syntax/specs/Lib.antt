@@ -1,3 +1,1 @@
-pub mod RequestNames
 pub mod Lines
-pub mod Conditions

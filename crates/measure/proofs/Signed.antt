@@ -1,21 +1,16 @@
 -- Signed numbers: their size, and how they are read back from their bits. Assumes nothing.
-use Prim.Native.Nat.{ℕ, suc, ◌+◌, ◌-◌, ◌*◌, ◌≤◌, ◌<◌, ◌^◌, zero-le}
-use mathlib.Core.Path.{◌≡◌, refl, ◌∙◌}
+use Prim.Native.Nat.{ℕ, suc, ◌+◌, ◌-◌, ◌≤◌, ◌<◌, ◌^◌, zero-le}
+use mathlib.Core.Path.{◌≡◌, refl}
 use mathlib.Core.Bool.{Bool, true, false, cond}
 use native.Mathlib.Omega.{arith}
-use lib.IntN.{ℤ, pos, negsuc, nat_abs, ◌+ℤ◌, ◌*ℤ◌}
+use lib.IntN.{ℤ, pos, negsuc, nat_abs, ◌+ℤ◌}
 use lib.Dec.{ltb}
 use lib.Signed.{lt_z}
 use borrow.Author.Tests.{le-ltb, ltb-true}
-use mir.Syntax.{Width, w32, w64}
+use mir.Syntax.{w32, w64}
 use mir.Val.{SFits, to_z, of_z}
 use mir.Facts.{to_z-of_z, sfits_widen}
-use Rattle.measure.specs.RoundingLaws.{abs_neg}
 use Rattle.measure.specs.Counts.{nat_of}
-
-pub abs_mul : (z : ℤ) (s : ℕ) → nat_abs (z *ℤ pos s) ≡ nat_abs z * s
-abs_mul (pos n) s = refl
-abs_mul (negsuc n) s = abs_neg (pos (suc n * s))
 
 -- the size of a sum
 abs_sub : (a b : ℕ) (t : Bool) → ltb a b ≡ t → nat_abs (cond t (negsuc (b - suc a)) (pos (a - b))) ≤ a + b
@@ -35,10 +30,6 @@ small (negsuc n) h = record { sfits = omega arith }
 -- `x as i64` of an i32 is x
 pub widened : {z : ℤ} → SFits w32 z → to_z w64 (of_z w64 (to_z w32 (of_z w32 z))) ≡ z
 widened h = rw (to_z-of_z h, to_z-of_z {w = w64} (sfits_widen tt h))
-
--- what a callee ensures of a signed argument and result
-pub called : {w : Width} {z r : ℤ} (f : ℤ → ℤ) → SFits w32 z → SFits w r → r ≡ f (to_z w32 (of_z w32 z)) → to_z w (of_z w r) ≡ f z
-called f h k e = to_z-of_z k ∙ (rw (to_z-of_z h) at e)
 
 -- a count below zero, and another
 pub below : (z : ℤ) → lt_z z (pos 0) ≡ true → 0 ≡ nat_of z

@@ -1,14 +1,12 @@
 -- The scales of literals, for any pitch.
-use Rattle.std.specs.Prelude.{ℕ, ◌*◌, ◌/◌, cond, eqb}
+use Rattle.std.specs.Prelude.{ℕ, ◌*◌, ◌/◌, cond, eqb, Option, Some, None}
 use Rattle.measure.specs.declared.Pitch.{Pitch}
 use Rattle.measure.specs.declared.Ratio.{Ratio}
 use Rattle.measure.specs.declared.Scale.{Scale}
 use Rattle.measure.specs.declared.Scale.TheVariants.{Inch, Centimetre, Pica, Em, En, Point, Unit, LineSpace}
-use Rattle.measure.specs.declared.MaybeScale.{MaybeScale}
-use Rattle.measure.specs.declared.MaybeScale.TheVariants.{Some, None}
 
 -- "Literals are whole digits with scale i .., c .., P .., m and n .., p .., u .., v ..": the scale of a letter, by its byte
-unfoldable pub scale_of : ℕ → MaybeScale
+unfoldable pub scale_of : ℕ → Option Scale
 scale_of b =
     cond (eqb b 105) (Some Inch)
     (cond (eqb b 99) (Some Centimetre)

@@ -1,13 +1,12 @@
 -- The worked facts of document 01 on units and cells, at ten to the inch.
-use Rattle.std.specs.Prelude.{◌≡◌, refl, List, [], ◌∷◌, map, ℕ, ℤ, pos, negsuc}
+use Rattle.std.specs.Prelude.{◌≡◌, refl, List, [], ◌∷◌, map, ℕ, ℤ, pos, negsuc, Option, Some, None}
+use Rattle.measure.specs.declared.Scale.{Scale}
 use Rattle.measure.specs.Pitches.{ten_pitch}
 use Rattle.measure.specs.Scales.{scale_of, literal_of}
 use Rattle.measure.specs.Rounding.{half_up, cells_of}
-use Rattle.measure.specs.declared.MaybeScale.{MaybeScale}
-use Rattle.measure.specs.declared.MaybeScale.TheVariants.{Some, None}
 
 -- a literal by its count and what its scale's byte names; -1, which no literal is, stands for no scale
-literal : ℕ → MaybeScale → ℤ
+literal : ℕ → Option Scale → ℤ
 literal n (Some s) = pos (literal_of ten_pitch s n)
 literal n None = negsuc 0
 

@@ -8,15 +8,15 @@ ghost use Rattle.measure.specs.Counts.{across_of, down_of, cells_across, rows_do
 ghost use Rattle.measure.specs.Rounding.{half_up, nearest_of, cells_of, rows_of, units_of_cells, units_of_rows};
 
 // A count of cells across: a width, an indent, or a change of one.
-#[derive(Clone, Copy)]
+#[derive(Clone, Copy, Debug, PartialEq, Eq, PartialOrd, Ord)]
 pub struct Cells(pub i32);
 
 // A count of rows down: a place on the page, a spacing, or a change of one.
-#[derive(Clone, Copy)]
+#[derive(Clone, Copy, Debug, PartialEq, Eq, PartialOrd, Ord)]
 pub struct Rows(pub i32);
 
 // The units of a printer's cell and of its row.
-#[derive(Clone, Copy)]
+#[derive(Clone, Copy, Debug, PartialEq, Eq)]
 pub struct Pitch {
     pub cell: u8,
     pub row: u8,
@@ -29,7 +29,7 @@ pub fn ten_pitch() -> Pitch
     Pitch { cell: 24, row: 40 }
 }
 
-#[derive(Clone, Copy)]
+#[derive(Clone, Copy, Debug, PartialEq, Eq)]
 pub enum Scale {
     Inch,
     Centimetre,
@@ -41,31 +41,25 @@ pub enum Scale {
     LineSpace,
 }
 
-#[derive(Clone, Copy)]
-pub enum MaybeScale {
-    Some(Scale),
-    None,
-}
-
 // The scale that a byte names. Each letter has its own arm: the check reads neighbours in one arm as a range.
-pub fn scale_of(byte: u8) -> MaybeScale
+pub fn scale_of(byte: u8) -> Option<Scale>
     ensures { result ≡ scale_of byte }
 {
     match byte {
-        b'i' => MaybeScale::Some(Scale::Inch),
-        b'c' => MaybeScale::Some(Scale::Centimetre),
-        b'P' => MaybeScale::Some(Scale::Pica),
-        b'm' => MaybeScale::Some(Scale::Em),
-        b'n' => MaybeScale::Some(Scale::En),
-        b'p' => MaybeScale::Some(Scale::Point),
-        b'u' => MaybeScale::Some(Scale::Unit),
-        b'v' => MaybeScale::Some(Scale::LineSpace),
-        _ => MaybeScale::None,
+        b'i' => Some(Scale::Inch),
+        b'c' => Some(Scale::Centimetre),
+        b'P' => Some(Scale::Pica),
+        b'm' => Some(Scale::Em),
+        b'n' => Some(Scale::En),
+        b'p' => Some(Scale::Point),
+        b'u' => Some(Scale::Unit),
+        b'v' => Some(Scale::LineSpace),
+        _ => None,
     }
 }
 
 // What one of a scale is in units: the fraction units / per.
-#[derive(Clone, Copy)]
+#[derive(Clone, Copy, Debug, PartialEq, Eq)]
 pub struct Ratio {
     pub units: u16,
     pub per: u8,
@@ -82,11 +76,11 @@ pub fn ratio_of(scale: Scale, pitch: Pitch) -> Ratio
         },
         Scale::Pica => Ratio { units: 240, per: 6 },
         Scale::Em => Ratio {
-            units: pitch.cell as u16,
+            units: u16::from(pitch.cell),
             per: 1,
         },
         Scale::En => Ratio {
-            units: pitch.cell as u16,
+            units: u16::from(pitch.cell),
             per: 1,
         },
         Scale::Point => Ratio {
@@ -95,7 +89,7 @@ pub fn ratio_of(scale: Scale, pitch: Pitch) -> Ratio
         },
         Scale::Unit => Ratio { units: 1, per: 1 },
         Scale::LineSpace => Ratio {
-            units: pitch.row as u16,
+            units: u16::from(pitch.row),
             per: 1,
         },
     }
@@ -106,7 +100,7 @@ pub fn units_of_literal(count: u32, scale: Scale, pitch: Pitch) -> u64
     ensures { result ≡ literal_of pitch scale count }
 {
     let ratio = ratio_of(scale, pitch);
-    (count as u64) * (ratio.units as u64) / (ratio.per as u64)
+    u64::from(count) * u64::from(ratio.units) / u64::from(ratio.per)
 }
 
 // The nearest count of a size in units without a sign: half a size or more left over counts as one.
@@ -117,7 +111,7 @@ fn half_up(units: u32, size: u8) -> u32
     if size == 0 {
         return 0;
     }
-    let whole = size as u32;
+    let whole = u32::from(size);
     let count = units / whole;
     if 2 * (units % whole) < whole {
         return count;
@@ -129,13 +123,11 @@ fn half_up(units: u32, size: u8) -> u32
 pub fn nearest(units: i32, size: u8) -> i32
     ensures { result ≡ nearest_of size units }
 {
-    // the least i32 without its sign is no i32
-    let wide = units as i64;
-    if wide < 0 {
-        let count = half_up((0 - wide) as u32, size);
-        return (0 - (count as i64)) as i32;
+    let count = i64::from(half_up(units.unsigned_abs(), size));
+    if units < 0 {
+        return -count as i32;
     }
-    half_up(wide as u32, size) as i32
+    count as i32
 }
 
 pub fn cells_of(units: i32, pitch: Pitch) -> Cells
@@ -154,7 +146,7 @@ pub fn rows_of(units: i32, pitch: Pitch) -> Rows
 fn times(count: i32, size: u8) -> i64
     ensures { result ≡ count *ℤ pos size }
 {
-    (count as i64) * (size as i64)
+    i64::from(count) * i64::from(size)
 }
 
 pub fn units_of_cells(cells: Cells, pitch: Pitch) -> i64
@@ -173,34 +165,26 @@ pub fn units_of_rows(rows: Rows, pitch: Pitch) -> i64
 pub fn across(cells: Cells) -> u32
     ensures { result ≡ across_of cells }
 {
-    let n = cells.0;
-    if n < 0 {
-        return 0;
-    }
-    n as u32
+    cells.0.max(0) as u32
 }
 
 // A count of rows as a plain number; a negative one is none.
 pub fn down(rows: Rows) -> u32
     ensures { result ≡ down_of rows }
 {
-    let n = rows.0;
-    if n < 0 {
-        return 0;
-    }
-    n as u32
+    rows.0.max(0) as u32
 }
 
 // So many cells.
 pub fn cells_across(count: u16) -> Cells
     ensures { result ≡ cells_across count }
 {
-    Cells(count as i32)
+    Cells(i32::from(count))
 }
 
 // So many rows.
 pub fn rows_down(count: u16) -> Rows
     ensures { result ≡ rows_down count }
 {
-    Rows(count as i32)
+    Rows(i32::from(count))
 }

@@ -1,3 +1,1 @@
-pub mod Arithmetic
 pub mod Expression
-pub mod Scales

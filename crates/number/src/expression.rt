@@ -1,113 +1,68 @@
 // Numbers of document 01: literals with scales, and the readers of expressions and terms.
 ghost use Rattle.std.specs.Prelude.{◌≡◌, ◌-◌, ◌*◌, ◌≤◌, length, get_or, drop};
 ghost use Rattle.rules.specs.Numbers.{joint_of, start_of, evaluate as evaluateOf};
-ghost use Rattle.number.specs.Arithmetic.Values.{judged_of};
-ghost use Rattle.number.specs.Expression.Reading.{joint_in, GoodJoint, digits_of, bounded_of, read_of, Forward, literal_term};
+ghost use Rattle.rules.specs.Results.{judged};
+ghost use Rattle.number.specs.Expression.Reading.{joint_in, GoodJoint, digits_of, read_of, Forward, literal_term};
 ghost use Rattle.measure.specs.Pitches.{Sized};
 ghost use Rattle.number.specs.Expression.Meaning.{TermIs, ExpressionIs};
 
-use super::arithmetic::Value;
-use measure::{MaybeScale, Pitch, Scale};
-use rules::Operator;
-
-// An operator and its width in bytes, or none.
-#[derive(Clone, Copy)]
-enum Joint {
-    By(Operator, usize),
-    None,
-}
-
-// The number that a run of digits spells, with the place after it; or one past 1,000,000,000.
-#[derive(Clone, Copy)]
-enum Digits {
-    Number(u64, usize),
-    Huge,
-}
+use measure::{Pitch, Scale};
+use rules::{Operator, Refusal};
 
 // A value with the place after it, or a refusal.
-#[derive(Clone, Copy)]
-enum Read {
-    Value(i32, usize),
-    Refused,
-}
+type Read = Result<(i32, usize), Refusal>;
 
 // The byte at a place, 0 past the end. No byte 0 means anything in a number.
 pub fn byte_at(s: &[u8], at: usize) -> u8
     ensures value { result ≡ get_or s.now at 0 }
     ensures upper_bound { result ≤ 255 * (length s.now - at) }
 {
-    if at < s.len() { s[at] } else { 0 }
+    s.get(at).copied().unwrap_or(0)
 }
 
-// The operator at a place. Two-byte ones are tried first.
-fn operator_at(s: &[u8], at: usize) -> Joint
+// The operator at a place, with its width in bytes. Two-byte ones are tried first.
+fn operator_at(s: &[u8], at: usize) -> Option<(Operator, usize)>
     requires { at ≤ length s.now }
     ensures result_value { joint_in s.now at result ≡ joint_of (drop at s.now) }
     ensures good_joint { GoodJoint (length s.now) at result }
 {
     let b = byte_at(s, at);
+    let equal = byte_at(s, at + 1) == b'=';
     match b {
-        b'+' => Joint::By(Operator::Add, 1),
-        b'-' => Joint::By(Operator::Subtract, 1),
-        b'*' => Joint::By(Operator::Multiply, 1),
-        b'/' => Joint::By(Operator::Divide, 1),
-        b'%' => Joint::By(Operator::Remainder, 1),
-        b'&' => Joint::By(Operator::And, 1),
-        b':' => Joint::By(Operator::Or, 1),
-        b'<' => {
-            if byte_at(s, at + 1) == b'=' {
-                return Joint::By(Operator::AtMost, 2);
-            }
-            Joint::By(Operator::Less, 1)
-        }
-        b'>' => {
-            if byte_at(s, at + 1) == b'=' {
-                return Joint::By(Operator::AtLeast, 2);
-            }
-            Joint::By(Operator::Greater, 1)
-        }
-        b'=' => {
-            if byte_at(s, at + 1) == b'=' {
-                return Joint::By(Operator::Equal, 2);
-            }
-            Joint::By(Operator::Equal, 1)
-        }
-        _ => Joint::None,
+        b'+' => Some((Operator::Add, 1)),
+        b'-' => Some((Operator::Subtract, 1)),
+        b'*' => Some((Operator::Multiply, 1)),
+        b'/' => Some((Operator::Divide, 1)),
+        b'%' => Some((Operator::Remainder, 1)),
+        b'&' => Some((Operator::And, 1)),
+        b':' => Some((Operator::Or, 1)),
+        b'<' if equal => Some((Operator::AtMost, 2)),
+        b'<' => Some((Operator::Less, 1)),
+        b'>' if equal => Some((Operator::AtLeast, 2)),
+        b'>' => Some((Operator::Greater, 1)),
+        b'=' if equal => Some((Operator::Equal, 2)),
+        b'=' => Some((Operator::Equal, 1)),
+        _ => None,
     }
 }
 
-// The digits from a place on.
-fn digits_at(s: &[u8], at: usize) -> Digits
+// The number that the digits from a place on spell, with the place after them; refused past 1,000,000,000.
+fn digits_at(s: &[u8], at: usize) -> Result<(u64, usize), Refusal>
     requires { at ≤ length s.now }
     ensures { result ≡ digits_of s.now at }
 {
     let mut n: u64 = 0;
-    let mut i = at;
-    while i < s.len() {
+    for i in at..s.len() {
         let b = s[i];
-        if b < b'0' {
-            return Digits::Number(n, i);
+        if !b.is_ascii_digit() {
+            return Ok((n, i));
         }
-        if b'9' < b {
-            return Digits::Number(n, i);
-        }
-        n = n * 10 + (b - b'0') as u64;
+        n = n * 10 + u64::from(b - b'0');
         if 1000000000 < n {
-            return Digits::Huge;
+            return Err(Refusal::BadNumber);
         }
-        i += 1;
     }
-    Digits::Number(n, i)
-}
-
-// A number of units as a value, refused past 1,000,000,000.
-fn bounded(units: u64, next: usize) -> Read
-    ensures { result ≡ bounded_of units next }
-{
-    if units <= 1000000000 {
-        return Read::Value(units as i32, next);
-    }
-    Read::Refused
+    Ok((n, s.len()))
 }
 
 // A literal: digits, and the scale that a letter behind them names or else the default one.
@@ -116,48 +71,33 @@ fn literal(s: &[u8], at: usize, default: Scale, pitch: Pitch) -> Read
     ensures result_value { read_of s.now result ≡ literal_term pitch default (start_of (drop at s.now)) }
     ensures forward { Forward (length s.now) at result }
 {
-    let Digits::Number(n, next) = digits_at(s, at) else {
-        return Read::Refused;
-    };
+    let (n, next) = digits_at(s, at)?;
     if next == at {
-        return Read::Refused;
+        return Err(Refusal::BadNumber);
     }
-    let count = n as u32;
-    let letter = byte_at(s, next);
-    match measure::scale_of(letter) {
-        MaybeScale::Some(scale) => bounded(
-            measure::units_of_literal(count, scale, pitch),
-            next + 1,
-        ),
-        MaybeScale::None => bounded(measure::units_of_literal(count, default, pitch), next),
-    }
+    let (scale, end) = match measure::scale_of(byte_at(s, next)) {
+        Some(scale) => (scale, next + 1),
+        None => (default, next),
+    };
+    let units = measure::units_of_literal(n as u32, scale, pitch);
+    let value = super::arithmetic::judge(units as i64)?;
+    Ok((value, end))
 }
 
 // Terms joined by operators, from a place on, left to right. `left` parentheses may still be opened.
+// No `for`: what comes next is where a term ends.
 #[cycle(expression_term)]
 fn expression(s: &[u8], at: usize, left: u8, default: Scale, pitch: Pitch) -> Read
     requires { (at ≤ length s.now) × Sized pitch }
     ensures { ExpressionIs pitch default s.now at left result }
 {
-    let Read::Value(first, next) = term(s, at, left, default, pitch) else {
-        return Read::Refused;
-    };
-    let mut v = first;
-    let mut i = next;
-    loop {
-        let j = operator_at(s, i);
-        let Joint::By(op, width) = j else {
-            return Read::Value(v, i);
-        };
-        let Read::Value(x, after) = term(s, i + width, left, default, pitch) else {
-            return Read::Refused;
-        };
-        let Value::Is(y) = super::arithmetic::operate(op, v, x) else {
-            return Read::Refused;
-        };
-        v = y;
+    let (mut v, mut i) = term(s, at, left, default, pitch)?;
+    while let Some((op, width)) = operator_at(s, i) {
+        let (x, after) = term(s, i + width, left, default, pitch)?;
+        v = super::arithmetic::operate(op, v, x)?;
         i = after;
     }
+    Ok((v, i))
 }
 
 // A literal, a parenthesised expression, or one sign and a term.
@@ -166,42 +106,33 @@ fn term(s: &[u8], at: usize, left: u8, default: Scale, pitch: Pitch) -> Read
     requires { (at ≤ length s.now) × Sized pitch }
     ensures { TermIs pitch default s.now at left result }
 {
-    let b = byte_at(s, at);
-    if b == b'(' {
-        if left == 0 {
-            return Read::Refused;
+    match byte_at(s, at) {
+        b'(' if left == 0 => Err(Refusal::BadNumber),
+        b'(' => {
+            let (v, next) = expression(s, at + 1, left - 1, default, pitch)?;
+            if byte_at(s, next) != b')' {
+                return Err(Refusal::BadNumber);
+            }
+            Ok((v, next + 1))
         }
-        let Read::Value(v, next) = expression(s, at + 1, left - 1, default, pitch) else {
-            return Read::Refused;
-        };
-        if byte_at(s, next) == b')' {
-            return Read::Value(v, next + 1);
+        b'-' => {
+            let (v, next) = term(s, at + 1, left, default, pitch)?;
+            Ok((-v, next))
         }
-        return Read::Refused;
+        b'+' => term(s, at + 1, left, default, pitch),
+        _ => literal(s, at, default, pitch),
     }
-    if b == b'-' {
-        let Read::Value(v, next) = term(s, at + 1, left, default, pitch) else {
-            return Read::Refused;
-        };
-        return Read::Value(0 - v, next);
-    }
-    if b == b'+' {
-        return term(s, at + 1, left, default, pitch);
-    }
-    literal(s, at, default, pitch)
 }
 
 // The value of a whole argument: nothing may follow its expression.
 #[tactic(auto, using(crate::proofs::expression::Arguments::more))]
-pub fn evaluate(s: &[u8], default: Scale, pitch: Pitch) -> Value
+pub fn evaluate(s: &[u8], default: Scale, pitch: Pitch) -> Result<i32, Refusal>
     requires { Sized pitch }
-    ensures { judged_of result ≡ evaluateOf pitch default s.now }
+    ensures { judged result ≡ evaluateOf pitch default s.now }
 {
-    let Read::Value(v, next) = expression(s, 0, 8, default, pitch) else {
-        return Value::Bad;
-    };
+    let (v, next) = expression(s, 0, 8, default, pitch)?;
     if next < s.len() {
-        return Value::Bad;
+        return Err(Refusal::BadNumber);
     }
-    Value::Is(v)
+    Ok(v)
 }

@@ -5,7 +5,8 @@ ghost use Rattle.traps.specs.Table.Table.{planted_of};
 ghost use Rattle.page.specs.Position.Landing.{PositionInvariant, page_of, landing_is, landing_down, landing_next, rows_to_trap, blanks_of};
 
 use measure::Rows;
-use traps::table::{FoundTrap, Planted};
+use rules::{Name, Refusal};
+use traps::table::Planted;
 
 // The page being written: its number, 0 before the first; the rows used on it; and whether the end has begun.
 #[derive(Clone, Copy)]
@@ -15,48 +16,49 @@ pub struct Page {
     pub last: bool,
 }
 
-// Where a move down leads: a row of a page, and the trap that is seen there; the end is done; or a page too many.
+// A row of a page that a move down reaches, and the name of the trap that is seen there.
 #[derive(Clone, Copy)]
-pub enum Moved {
-    On(Page, FoundTrap),
-    Done,
-    TooMany,
+pub struct Reached {
+    pub page: Page,
+    pub trap: Option<Name>,
 }
 
-// The start of the next page.
-pub fn start_page(page: Page, length: Rows, planted: Planted) -> Moved
+// The start of the next page. "12: past 1,000,000 .. pages".
+pub fn start_page(page: Page, length: Rows, planted: Planted) -> Result<Option<Reached>, Refusal>
     requires { PositionInvariant page length planted }
     ensures { landing_is result ≡ landing_next (page_of page) (down_of length) (planted_of planted) }
 {
-    if page.number < 1000000 {
-        let next = Page {
-            number: page.number + 1,
-            used: Rows(0),
-            last: page.last,
-        };
-        return Moved::On(next, traps::nearest::seen_at(planted, length, Rows(0)));
+    if page.number >= 1000000 {
+        return Err(Refusal::LongDocument);
     }
-    Moved::TooMany
+    let next = Page {
+        number: page.number + 1,
+        used: Rows(0),
+        ..page
+    };
+    let trap = traps::nearest::seen_at(planted, length, next.used);
+    Ok(Some(Reached { page: next, trap }))
 }
 
-// So many rows down from where the page stands.
-pub fn move_down(page: Page, rows: Rows, length: Rows, planted: Planted) -> Moved
+// So many rows down from where the page stands; no row, where the end is done.
+pub fn move_down(
+    page: Page,
+    rows: Rows,
+    length: Rows,
+    planted: Planted,
+) -> Result<Option<Reached>, Refusal>
     requires { PositionInvariant page length planted }
     ensures { landing_is result ≡ landing_down (page_of page) (down_of length) (down_of rows) (planted_of planted) }
 {
     let to = measure::down(page.used) as usize + measure::down(rows) as usize;
-    let end = measure::down(length) as usize;
-    if to < end {
+    if to < measure::down(length) as usize {
         let used = measure::rows_down(to as u16);
-        let moved = Page {
-            number: page.number,
-            used,
-            last: page.last,
-        };
-        return Moved::On(moved, traps::nearest::seen_at(planted, length, used));
+        let trap = traps::nearest::seen_at(planted, length, used);
+        let moved = Page { used, ..page };
+        return Ok(Some(Reached { page: moved, trap }));
     }
     if page.last {
-        return Moved::Done;
+        return Ok(None);
     }
     start_page(page, length, planted)
 }
@@ -75,13 +77,6 @@ pub fn blanks(count: Rows, page: Page, length: Rows, planted: Planted) -> Rows
     requires { PositionInvariant page length planted }
     ensures { down_of result ≡ blanks_of count.0 (rows_to_trap (page_of page) (down_of length) (planted_of planted)) }
 {
-    let wanted = measure::down(count);
-    if wanted == 0 {
-        return Rows(0);
-    }
-    let rows = rows_below(page, length, planted);
-    if wanted < measure::down(rows) {
-        return count;
-    }
-    rows
+    let below = measure::down(rows_below(page, length, planted));
+    Rows(measure::down(count).min(below) as i32)
 }

@@ -7,6 +7,7 @@ use native.Mathlib.Nat.{le_refl}
 use native.Mathlib.Omega.{arith}
 use lib.ListN.{length, take, drop, length-drop, take-append-drop}
 use lib.Seq.{length-take-le, take-nil, take-take, take-add, drop-drop, length-paste, take-paste, drop-paste}
+use Rattle.std.specs.Prelude.{Option, Some, None}
 use Rattle.stream.specs.declared.Answer.{Answer}
 use Rattle.stream.specs.declared.Answer.TheVariants as answer
 use Rattle.stream.specs.Answers.{needs_room, reply_of}
@@ -20,8 +21,6 @@ use Rattle.record.specs.declared.Record.{Record}
 use Rattle.record.specs.declared.Closing.{Closing}
 use Rattle.record.specs.declared.Closing.TheVariants.{Open}
 use Rattle.record.specs.declared.WrittenOut.{WrittenOut}
-use Rattle.record.specs.declared.Stop.{Stop}
-use Rattle.record.specs.declared.Stop.TheVariants.{Goes, With}
 use Rattle.record.specs.View.{state_of, waiting_of, ValidRecord}
 use Rattle.record.specs.Contract.{call_on, Closes, EndedBy}
 use Rattle.record.specs.Turns.{core_of, put_at, nothing_waits, advanced, with_waiting, weight, WrittenOutTo, TurnReady, TurnRefines, StopRefines, TurnContract, TurnsRefine, no_turns, stays, turns, RunContract}
@@ -280,19 +279,19 @@ module _ (r₀ : Record) (st₀ block : List ℕ) (last : Bool) (out₀ : List �
       pub turns_on : TurnReady block (at_rest r) st t
       turns_on = record { valid = at_rest_lem.valid; none = refl; within = at_rest_lem.taken }
 
-      module _ (s : Stop) (r' : Record) (st' : List ℕ) (t' : ℕ) (d : TurnContract s block last (at_rest r) st t r' st' t') where
-        pub ends_with : (a : Answer) → s ≡ With a → Ends r₀ st₀ block last out₀ a r' st' t' x.written out'
+      module _ (s : Option Answer) (r' : Record) (st' : List ℕ) (t' : ℕ) (d : TurnContract s block last (at_rest r) st t r' st' t') where
+        pub ends_with : (a : Answer) → s ≡ Some a → Ends r₀ st₀ block last out₀ a r' st' t' x.written out'
         ends_with a e =
             refines_stop r₀ st₀ block last out₀ (at_rest r) st t x.written out' at_rest_lem turns_on a r' st' t'
             (subst (λ v. TurnContract v block last (at_rest r) st t r' st' t') e d)
 
-        turn_on : s ≡ Goes → TurnRefines block last (at_rest r) st t r' st' t'
+        turn_on : s ≡ None → TurnRefines block last (at_rest r) st t r' st' t'
         turn_on e = subst (λ v. TurnContract v block last (at_rest r) st t r' st' t') e d
 
-        pub goes_on : s ≡ Goes → Going r₀ st₀ block last out₀ r' st' t' x.written out'
+        pub goes_on : s ≡ None → Going r₀ st₀ block last out₀ r' st' t' x.written out'
         goes_on e = go_turn r₀ st₀ block last out₀ (at_rest r) st t x.written out' at_rest_lem turns_on r' st' t' (turn_on e)
 
-        pub goes_less : s ≡ Goes → weight block r' st' t' < weight block r st t
+        pub goes_less : s ≡ None → weight block r' st' t' < weight block r st t
         goes_less e =
             let m : weight block (at_rest r) st t ≡ weight block r st t = ap (λ v. weight block (closed_by v (with_waiting nothing_waits r)) st t) (sym o) in
             subst (λ v. weight block r' st' t' < v) m (turn_on e).less

@@ -29,19 +29,6 @@ use Rattle.record.proofs.Going.{go_start, go_turn, refines_stop}
 pub false_true : false ≡ true → ⊥
 false_true e = let z : ◌≡◌ {A = ℕ} 0 1 = cc (e) in omega arith
 
-pub inside_no : (bl : List ℕ) (last : Bool) (d : ℕ) (s : Source) (w : Waiting) (c : Closing) → (InsideCall bl last d s w c → ⊥) → InsideJudged false bl last d s w c
-inside_no bl last d s w c f = record { yes = λ e. absurd (false_true e); no = λ e. f }
-
--- where the session has work, and where it is closed
-pub inside_busy : (bl : List ℕ) (last : Bool) (d : ℕ) (s : Source) (w : Waiting) (c : Closing) (b : Bool) → HasWork d s.ended b → b ≡ true → InsideJudged false bl last d s w c
-inside_busy bl last d s w c b h e = inside_no bl last d s w c (λ i. false_true (sym i.unended ∙ h.yes e i.empty))
-
-pub inside_done : (bl : List ℕ) (last : Bool) (d : ℕ) (s : Source) (w : Waiting) (c : Closing) → c ≡ Done → InsideJudged false bl last d s w c
-inside_done bl last d s w c e = inside_no bl last d s w c (λ i. let q : Done ≡ Open = sym e ∙ i.unclosed in let z : ◌≡◌ {A = ℕ} 0 1 = cc (q) in omega arith)
-
-pub inside_refused : (bl : List ℕ) (last : Bool) (d : ℕ) (s : Source) (w : Waiting) (c : Closing) (n k : ℕ) → c ≡ Refused n k → InsideJudged false bl last d s w c
-inside_refused bl last d s w c n k e = inside_no bl last d s w c (λ i. let q : Refused n k ≡ Open = sym e ∙ i.unclosed in let z : ◌≡◌ {A = ℕ} 0 1 = cc (q) in omega arith)
-
 module _ (r : Record) (st block : List ℕ) (last : Bool) (out : List ℕ) (l : ValidRecord r st) (h : InsideCall block last r.status.stack.depth r.source r.waiting r.closing) where
   abbrev s : Source
   s = r.source

@@ -7,6 +7,7 @@ use native.Mathlib.Omega.{arith}
 use lib.ListN.{length, take, drop, length-drop, take-append-drop, drop_of_length-le}
 use lib.Seq.{length-take-le, drop-drop}
 use lib.IntN.{ℤ}
+use Rattle.std.specs.Prelude.{Option, Some, None}
 use Rattle.stream.specs.declared.Answer.{Answer}
 use Rattle.stream.specs.declared.Answer.TheVariants as answer
 use Rattle.stream.specs.Answers.{Closing, done, refused, needs_input, closes, reply_of}
@@ -27,8 +28,6 @@ use Rattle.state.specs.declared.Status.{Status}
 use Rattle.state.specs.Whole.{state_in}
 use Rattle.state.specs.Statuses.{whole_of}
 use Rattle.record.specs.declared.Record.{Record}
-use Rattle.record.specs.declared.Stop.{Stop}
-use Rattle.record.specs.declared.Stop.TheVariants.{Goes}
 use Rattle.record.specs.declared.Closing.{Closing as Closed}
 use Rattle.record.specs.declared.Closing.TheVariants.{Open, Done, Refused}
 use Rattle.record.specs.View.{sourced, closed_as, whole_in, state_of, waiting_of, RecordInvariant, formed_good}
@@ -193,12 +192,12 @@ module _ (block : List ℕ) (last : Bool) (r : Record) (st : List ℕ) (t : ℕ)
   }
 
 -- a turn that goes on
-pub turn_goes : (s : Stop) → s ≡ Goes → (block : List ℕ) (last : Bool) (r : Record) (st : List ℕ) (t : ℕ) (r' : Record) (st' : List ℕ) (t' : ℕ)
+pub turn_goes : (s : Option Answer) → s ≡ None → (block : List ℕ) (last : Bool) (r : Record) (st : List ℕ) (t : ℕ) (r' : Record) (st' : List ℕ) (t' : ℕ)
     → TurnRefines block last r st t r' st' t' → TurnContract s block last r st t r' st' t'
 turn_goes s e block last r st t r' st' t' h = subst (λ v. TurnContract v block last r st t r' st' t') (sym e) h
 
 -- and takes nothing
-pub turn_stops : (s : Stop) → s ≡ Goes → (block : List ℕ) (last : Bool) (r : Record) (st : List ℕ) (t : ℕ) (r' : Record) (st' : List ℕ) (t' : ℕ) → t' ≡ t
+pub turn_stops : (s : Option Answer) → s ≡ None → (block : List ℕ) (last : Bool) (r : Record) (st : List ℕ) (t : ℕ) (r' : Record) (st' : List ℕ) (t' : ℕ) → t' ≡ t
     → TurnRefines block last r st t r' st' t → TurnContract s block last r st t r' st' t'
 turn_stops s e block last r st t r' st' t' f h = turn_goes s e block last r st t r' st' t' (subst (TurnRefines block last r st t r' st') (sym f) h)
 

@@ -1,7 +1,7 @@
 -- Where a definition is open in a session that is not closed, lines come next: a text is on top of the stack, or nothing is. Assumes nothing.
+use Rattle.std.specs.Prelude.{Option, None}
 use mathlib.Core.Path.{◌≡◌, refl, subst}
 use mathlib.Core.Bool.{Bool, true}
-use mathlib.Core.Option.{Option, none}
 use mathlib.Core.List.{List, ◌∷◌}
 use Prim.Native.Nat.{ℕ}
 use Rattle.stream.specs.Answers.{Closing}
@@ -27,10 +27,10 @@ next_text ts (what.Others g) l es k h = absurd h
 next_text ts (what.Acts r) l es k h = absurd h
 next_text ts (what.Ejects n) l es k h = absurd h
 
-open_next : (b : Bool) (o : Opening) (t : Texts) (c : Option Closing) (k : List Item) → b ≡ true → c ≡ none → OpenOver (opened_if b o t) c k → NextLine k
-open_next b o t c k e f h = subst (λ (v : Bool). OpenOver (opened_if v o t) none k) e (subst (λ (v : Option Closing). OpenOver (opened_if b o t) v k) f h)
+open_next : (b : Bool) (o : Opening) (t : Texts) (c : Option Closing) (k : List Item) → b ≡ true → c ≡ None → OpenOver (opened_if b o t) c k → NextLine k
+open_next b o t c k e f h = subst (λ (v : Bool). OpenOver (opened_if v o t) None k) e (subst (λ (v : Option Closing). OpenOver (opened_if b o t) v k) f h)
 
-pub quiet_in : (q : WholeState) (x : State) → Within (state_in q x) → x.closing ≡ none → Quiet q
+pub quiet_in : (q : WholeState) (x : State) → Within (state_in q x) → x.closing ≡ None → Quiet q
 quiet_in q x h c e d =
     let ts = texts_in q.texts in
     let s = q.page_state.stack in

@@ -15,6 +15,8 @@ use Rattle.rules.specs.ControlLines.{deal}
 use Rattle.rules.specs.Session.{step, read_end, last_line as lastItem}
 use Rattle.source_line.specs.declared.Source.{Source}
 use Rattle.source_line.specs.declared.Gathered.{Gathered}
+use Rattle.rules.specs.declared.Refusal.{Refusal}
+use Rattle.rules.specs.Results.{refusal_number}
 use Rattle.source_line.specs.declared.Why.{Why}
 use Rattle.source_line.specs.declared.Why.TheVariants as why
 use Rattle.source_line.specs.Gathering.{with_source, Takes, gathered_to, GatheredTo}
@@ -173,13 +175,13 @@ module _ (pl : RecordCore) (g cs row bs ps tf ts ks ls fs ss : List ℕ) (vs us 
           refl))
 
       -- a byte is refused
-      pub refused_taken : (n : ℕ) → got.why ≡ why.Refused n → (p : RecordCore) → p ≡ core_after pl.status got.source (way.Refused n) 0
+      pub refused_taken : (n : Refusal) → got.why ≡ why.Refused n → (p : RecordCore) → p ≡ core_after pl.status got.source (way.Refused n) 0
           → (t' : ℕ) → t' ≡ t + got.taken → InputRefines block (with pl g) st t (with p g') st t'
       refused_taken n e p f =
           let l = h.formed in
           goes (why.Refused n) e (with p g') st
           (subst (λ v. Arrives (towards (why.Refused n)) st (with v g') st) (sym f)
-          (arrived (ap (close (refused n got.source.line)) (sym sources)) refl
+          (arrived (ap (close (refused (refusal_number n) got.source.line)) (sym sources)) refl
           (record {
             sound = l.sound;
             fits = l.fits;

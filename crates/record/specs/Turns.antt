@@ -1,10 +1,11 @@
 -- The turns of a call, over records. Assumes nothing.
-use Rattle.std.specs.Prelude.{◌≡◌, Bool, true, false, List, [], ℕ, ◌+◌, ◌-◌, ◌*◌, ◌<◌, ◌≤◌, length, take, drop, ℤ}
+use Rattle.std.specs.Prelude.{◌≡◌, Option, Some, None, Bool, true, false, List, [], ℕ, ◌+◌, ◌-◌, ◌*◌, ◌<◌, ◌≤◌, length, take, drop, ℤ}
 use Rattle.stream.specs.declared.Answer.{Answer}
 use Rattle.stream.specs.Answers.{reply_of}
 use Rattle.stream.specs.Machine.{works, stop, call_from}
 use Rattle.rules.specs.Printers.{ten_to_the_inch}
 use Rattle.rules.specs.State.{State}
+use Rattle.rules.specs.Results.{refusal_number}
 use Rattle.rules.specs.Rows.{Next}
 use Rattle.rules.specs.Session.{step}
 use Rattle.rules.specs.Load.{load, byte_load, formatter}
@@ -28,8 +29,6 @@ use Rattle.record.specs.declared.TurnOutcome.{TurnOutcome}
 use Rattle.record.specs.declared.WrittenOut.{WrittenOut}
 use Rattle.record.specs.declared.Ran.{Ran}
 use Rattle.record.specs.declared.Reply.{Reply}
-use Rattle.record.specs.declared.Stop.{Stop}
-use Rattle.record.specs.declared.Stop.TheVariants.{Goes, With}
 use Rattle.record.specs.Contract.{call_on, Closes, EndedBy, CallRefines}
 use Rattle.record.specs.View.{sourced, state_of, waiting_of, RecordInvariant, ValidRecord}
 
@@ -79,7 +78,7 @@ core_in t = core_of t.status t.source t.waiting t.closing
 abbrev pub closing_of : Way → ℕ → Closing
 closing_of way.On l = Open
 closing_of way.Done l = Done
-closing_of (way.Refused n) l = Refused n l
+closing_of (way.Refused n) l = Refused (refusal_number n) l
 
 -- after a piece of work so many bytes of the row wait
 abbrev pub core_after : Status → Source → Way → ℕ → RecordCore
@@ -87,7 +86,7 @@ core_after s x w n = core_of s x (record { at = 0; end = n }) (closing_of w x.li
 
 -- and the call goes on
 abbrev pub turn_after : Status → Source → Way → (written taken : ℕ) → TurnOutcome
-turn_after s x w n t = record { stop = Goes; status = s; source = x; waiting = record { at = 0; end = n }; closing = closing_of w x.line; taken = t }
+turn_after s x w n t = record { stop = None; status = s; source = x; waiting = record { at = 0; end = n }; closing = closing_of w x.line; taken = t }
 
 -- with whichever bytes in the array of the gathered line
 abbrev pub Whichever : (List ℕ → Type 0) → Type 0
@@ -184,9 +183,9 @@ pub record StopRefines (block : List ℕ) (last : Bool) (r : Record) (st : List 
   pub same_taken : t' ≡ t
 
 -- one turn of a call
-abbrev pub TurnContract : Stop → (block : List ℕ) → (last : Bool) → Record → (st : List ℕ) → (t : ℕ) → Record → (st' : List ℕ) → (t' : ℕ) → Type 0
-TurnContract Goes bl last r st t r' st' t' = TurnRefines bl last r st t r' st' t'
-TurnContract (With a) bl last r st t r' st' t' = StopRefines bl last r st t a r' st' t'
+abbrev pub TurnContract : Option Answer → (block : List ℕ) → (last : Bool) → Record → (st : List ℕ) → (t : ℕ) → Record → (st' : List ℕ) → (t' : ℕ) → Type 0
+TurnContract None bl last r st t r' st' t' = TurnRefines bl last r st t r' st' t'
+TurnContract (Some a) bl last r st t r' st' t' = StopRefines bl last r st t a r' st' t'
 
 -- whether there is work to do
 pub record HasWork (depth : ℕ) (ended : Bool) (r : Bool) : Type 0 where
@@ -205,9 +204,9 @@ pub record WrittenOutTo (w : Waiting) (row out : List ℕ) (from : ℕ) (r : Wri
   pub to : r.written ≡ from + count
 
 -- the answer of a session that is closed
-abbrev pub ClosedIs : Stop → Closing → Type 0
-ClosedIs Goes c = c ≡ Open
-ClosedIs (With a) c = Closes c a
+abbrev pub ClosedIs : Option Answer → Closing → Type 0
+ClosedIs None c = c ≡ Open
+ClosedIs (Some a) c = Closes c a
 
 -- the same record, but for the bytes that wait
 abbrev pub with_waiting : Waiting → Record → Record

@@ -3,7 +3,6 @@
 // The record of a session, and what a turn of a call leads to.
 ghost use Rattle.std.specs.Prelude.{◌≡◌};
 ghost use Rattle.source_line.specs.Writing.{Writes};
-ghost use Rattle.record.specs.declared.Stop.TheVariants.{Goes};
 ghost use Rattle.record.specs.Turns.{closing_of, turn_after, emptied as emptiedOf, HasWork, ClosedIs, WrittenOutTo};
 ghost use Rattle.record.specs.Inside.{InsideJudged};
 
@@ -27,7 +26,7 @@ pub struct Waiting {
 pub enum Closing {
     Open,
     Done,
-    // the refusal's number and source line
+    // the refusal's number and source line: any number, as a record that is handed in may hold any
     Refused(u8, u32),
 }
 
@@ -80,17 +79,10 @@ pub struct Ran {
     pub written: usize,
 }
 
-// Whether a call goes on.
-#[derive(Clone, Copy)]
-pub enum Stop {
-    Goes,
-    With(Answer),
-}
-
-// What a turn leads to: the parts of a core stand by themselves, so that the status is copied no more than once.
+// What a turn leads to, with the answer if the call ends there: the parts of a core stand by themselves, so that the status is copied no more than once.
 #[derive(Clone, Copy)]
 pub struct TurnOutcome {
-    pub stop: Stop,
+    pub stop: Option<Answer>,
     pub status: Status,
     pub source: Source,
     pub waiting: Waiting,
@@ -112,7 +104,7 @@ fn closing_of(way: Way, line: u32) -> Closing
     match way {
         Way::On => Closing::Open,
         Way::Done => Closing::Done,
-        Way::Refused(n) => Closing::Refused(n, line),
+        Way::Refused(refusal) => Closing::Refused(refusal.number(), line),
     }
 }
 
@@ -127,7 +119,7 @@ pub fn turn_after(
     ensures { result ≡ turn_after status source way written taken }
 {
     TurnOutcome {
-        stop: Stop::Goes,
+        stop: None,
         status,
         source,
         waiting: Waiting {
@@ -143,10 +135,7 @@ pub fn turn_after(
 pub fn has_work(depth: usize, ended: bool) -> bool
     ensures { HasWork depth ended result }
 {
-    if depth != 0 {
-        return true;
-    }
-    ended
+    depth != 0 || ended
 }
 
 // The source once its line is dealt with.
@@ -154,21 +143,20 @@ pub fn emptied(source: Source, ended: bool) -> Source
     ensures { result ≡ emptiedOf source ended }
 {
     Source {
-        line: source.line,
         length: 0,
         ended,
-        stored: source.stored,
+        ..source
     }
 }
 
-// The answer of a session that is closed.
-pub fn closed(closing: Closing) -> Stop
+// The answer of a session, if it is closed.
+pub fn closed(closing: Closing) -> Option<Answer>
     ensures { ClosedIs result closing }
 {
     match closing {
-        Closing::Open => Stop::Goes,
-        Closing::Done => Stop::With(Answer::Done),
-        Closing::Refused(n, line) => Stop::With(Answer::Refused(n, line)),
+        Closing::Open => None,
+        Closing::Done => Some(Answer::Done),
+        Closing::Refused(number, line) => Some(Answer::Refused(number, line)),
     }
 }
 
@@ -198,21 +186,10 @@ pub fn is_inside(
 ) -> bool
     ensures { InsideJudged result block.now last depth source waiting closing }
 {
-    if last {
-        return false;
-    }
-    if block.len() == 0 {
-        return false;
-    }
-    if waiting.at != waiting.end {
-        return false;
-    }
-    if has_work(depth, source.ended) {
-        return false;
-    }
-    match closing {
-        Closing::Open => source_line::is_inside(block, source.length),
-        Closing::Done => false,
-        Closing::Refused(n, line) => false,
-    }
+    !last
+        && !block.is_empty()
+        && waiting.at == waiting.end
+        && !has_work(depth, source.ended)
+        && matches!(closing, Closing::Open)
+        && source_line::is_inside(block, source.length)
 }

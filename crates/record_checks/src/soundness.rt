@@ -15,10 +15,9 @@ use rules::arrays::{
     ByteColumn, ITEM_HEAD, ITEM_WORDS, LINE_SIZE, LengthColumn, STACK_ITEMS, STORE_SIZE, StackEnds,
     TABLE_SIZE,
 };
-use settings::layout::{Layout, Total};
+use settings::layout::Layout;
 use settings::lengths::Setting;
 use state::{Opening, Status};
-use texts::table::TextPlace;
 
 // The cells of a line, as a width is counted.
 const LINE_CELLS: u32 = LINE_SIZE as u32;
@@ -30,118 +29,73 @@ const FRAME_SIZE: u16 = LINE_SIZE as u16;
 fn is_setting(setting: Setting, most: u32) -> bool
     ensures { result ≡ is_setting most setting }
 {
-    let now = setting.now;
-    let former = setting.former;
-    if most < measure::across(now) {
-        return false;
-    }
-    measure::across(former) <= most
+    measure::across(setting.now) <= most && measure::across(setting.former) <= most
 }
 
 // "pl 1 to 500 rows"
 fn is_length(rows: Rows) -> bool
     ensures { result ≡ is_length rows }
 {
-    let n = measure::down(rows);
-    if n < 1 {
-        return false;
-    }
-    n <= 500
+    (1..=500).contains(&measure::down(rows))
 }
 
 // "the ti total 0 to 239"
-fn is_total(total: Total) -> bool
+fn is_total(total: Option<Cells>) -> bool
     ensures { result ≡ is_total total }
 {
     match total {
-        Total::Is(cells) => measure::across(cells) <= 239,
-        Total::Nothing => true,
+        Some(cells) => measure::across(cells) <= 239,
+        None => true,
     }
 }
 
 // "ll 1 to 240 cells, in and the ti total 0 to 239, po 0 to 120, pl 1 to 500 rows"
+#[tactic(auto, unfolding(crate::specs::Soundness::Checks::is_layout))]
 fn is_layout(layout: Layout) -> bool
     ensures { result ≡ is_layout layout }
 {
-    let line = layout.line;
-    if !is_setting(line, 240) {
-        return false;
-    }
-    let indent = layout.indent;
-    if !is_setting(indent, 239) {
-        return false;
-    }
-    let offset = layout.offset;
-    if !is_setting(offset, 120) {
-        return false;
-    }
-    let page = layout.page;
-    if !is_length(page) {
-        return false;
-    }
-    let total = layout.total;
-    is_total(total)
+    is_setting(layout.line, 240)
+        && is_setting(layout.indent, 239)
+        && is_setting(layout.offset, 120)
+        && is_length(layout.page)
+        && is_total(layout.total)
 }
 
 // A row of the page that is not behind its last, and one of 1,000,000 pages.
+#[tactic(auto, unfolding(crate::specs::Soundness::Checks::is_page))]
 fn is_page(page: Page, length: Rows) -> bool
     ensures { result ≡ is_page page length }
 {
-    let used = page.used;
-    if measure::down(length) <= measure::down(used) {
-        return false;
-    }
-    page.number <= 1000000
+    measure::down(page.used) < measure::down(length) && page.number <= 1_000_000
 }
 
 // A gap of 0 to 2 cells.
 fn is_gap(gap: Cells) -> bool
     ensures { result ≡ is_gap gap.0 }
 {
-    let n = gap.0;
-    if n < 0 {
-        return false;
-    }
-    measure::across(gap) <= 2
+    (0..=2).contains(&gap.0)
 }
 
 // A line within its cells, its room and indent within the settings' ranges, and a gap of at most 2.
+#[tactic(auto, unfolding(crate::specs::Soundness::Checks::is_collected))]
 fn is_collected(collected: Collected) -> bool
     ensures { result ≡ is_collected collected }
 {
-    if LINE_SIZE < collected.length {
-        return false;
-    }
-    let room = collected.room;
-    if LINE_CELLS < measure::across(room) {
-        return false;
-    }
-    let indent = collected.indent;
-    if 239 < measure::across(indent) {
-        return false;
-    }
-    let next = collected.next;
-    is_gap(next)
+    collected.length <= LINE_SIZE
+        && measure::across(collected.room) <= LINE_CELLS
+        && measure::across(collected.indent) <= 239
+        && is_gap(collected.next)
 }
 
 // The settings, the page, the collected line and the traps.
+#[tactic(auto, unfolding(crate::specs::Soundness::Checks::is_page_state))]
 fn is_page_state(status: Status) -> bool
     ensures { result ≡ is_page_state status }
 {
-    let layout = status.layout;
-    if !is_layout(layout) {
-        return false;
-    }
-    let page = status.page;
-    let length = layout.page;
-    if !is_page(page, length) {
-        return false;
-    }
-    let collected = status.collected;
-    if !is_collected(collected) {
-        return false;
-    }
-    status.planted.count <= 16
+    is_layout(status.layout)
+        && is_page(status.page, status.layout.page)
+        && is_collected(status.collected)
+        && status.planted.count <= 16
 }
 
 // Whether there are at most nine arguments in a frame, each within so many bytes and not before it begins.
@@ -152,20 +106,14 @@ fn are_arguments(ends: &StackEnds, frame: usize, count: u8, size: u16) -> bool
     if 9 < count {
         return false;
     }
-    let given = count as usize;
     let at = frame * ITEM_WORDS + ITEM_HEAD;
+    let given = &ends[at..at + usize::from(count)];
     let mut from: u16 = 0;
-    let mut i: usize = 0;
-    while i < given {
-        let end = ends[at + i];
-        if end < from {
-            return false;
-        }
-        if size < end {
+    for &end in given {
+        if end < from || size < end {
             return false;
         }
         from = end;
-        i += 1;
     }
     true
 }
@@ -175,13 +123,11 @@ pub fn is_there(firsts: &ByteColumn, seconds: &ByteColumn, count: usize, name: N
     requires { Names firsts.now seconds.now count }
     ensures { result ≡ is_at (text_place name (names_of firsts.now seconds.now count)) }
 {
-    match texts::table::find(firsts, seconds, count, name) {
-        TextPlace::At(_) => true,
-        TextPlace::Not => false,
-    }
+    texts::table::find(firsts, seconds, count, name).is_some()
 }
 
 // A text that is read is there, with its arguments; a gap is at most 2.
+#[tactic(auto, unfolding(crate::specs::Soundness::Checks::is_item))]
 fn is_item(
     what: What,
     size: u16,
@@ -196,10 +142,7 @@ fn is_item(
 {
     match what {
         What::Reading(name, _, given) => {
-            if are_arguments(ends, frame, given, size) {
-                return is_there(firsts, seconds, count, name);
-            }
-            false
+            are_arguments(ends, frame, given, size) && is_there(firsts, seconds, count, name)
         }
         What::Others(gap) => gap <= 2,
         _ => true,
@@ -218,37 +161,26 @@ fn is_frame(
     requires { Names firsts.now seconds.now count × (length ends.now ≡ 221) × (frame < 17) }
     ensures { result ≡ is_frame (names_of firsts.now seconds.now count) entry (take 9 (drop (frame * 13 + 4) ends.now)) }
 {
-    let size = entry.size;
-    if FRAME_SIZE < size {
-        return false;
-    }
-    let what = entry.what;
-    is_item(what, size, frame, ends, firsts, seconds, count)
+    entry.size <= FRAME_SIZE && is_item(entry.what, entry.size, frame, ends, firsts, seconds, count)
 }
 
 pub fn is_text(what: What) -> bool
     ensures { result ≡ is_text what }
 {
-    match what {
-        What::Reading(_, _, _) => true,
-        _ => false,
-    }
+    matches!(what, What::Reading(..))
 }
 
 // "input stack past 16 items": 16, and one that is no text for a moment over them.
 fn is_depth(stack: Stack, ends: &StackEnds) -> bool
     ensures { result ≡ is_depth stack ends.now }
 {
-    let depth = stack.depth;
-    if depth <= 16 {
+    if stack.depth <= 16 {
         return true;
     }
-    if STACK_ITEMS < depth {
+    if STACK_ITEMS < stack.depth {
         return false;
     }
-    let entry = input_stack::stack::top(stack, ends);
-    let what = entry.what;
-    !is_text(what)
+    !is_text(input_stack::stack::top(stack, ends).what)
 }
 
 // The input stack, over texts of these names.
@@ -265,9 +197,7 @@ fn is_stack(
     if !is_depth(stack, ends) {
         return false;
     }
-    let mut i = stack.depth;
-    while 0 < i {
-        i -= 1;
+    for i in 0..stack.depth {
         let entry = input_stack::stack::entry_at(ends, i);
         if !is_frame(entry, i, ends, firsts, seconds, count) {
             return false;
@@ -284,32 +214,23 @@ fn is_opening(opening: Opening, lengths: &LengthColumn, count: usize, store: usi
     if !opening.there {
         return true;
     }
-    if TABLE_SIZE <= count {
-        return false;
-    }
-    let length = opening.length;
-    if STORE_SIZE < length {
-        return false;
-    }
-    texts::table::start_of(lengths, count) + length <= store
+    count < TABLE_SIZE
+        && opening.length <= STORE_SIZE
+        && texts::table::start_of(lengths, count) + opening.length <= store
 }
 
 // The texts lie within a store of 8,192 bytes, and an open definition behind them.
+#[tactic(auto, unfolding(crate::specs::Soundness::Checks::are_texts))]
 fn are_texts(status: Status, store: usize, lengths: &LengthColumn) -> bool
     ensures { result ≡ are_texts status store lengths.now }
 {
-    if store != STORE_SIZE {
-        return false;
-    }
-    let count = status.texts;
-    if !texts::table::is_table(store, lengths, count) {
-        return false;
-    }
-    let opening = status.opening;
-    is_opening(opening, lengths, count, store)
+    store == STORE_SIZE
+        && texts::table::is_table(store, lengths, status.texts)
+        && is_opening(status.opening, lengths, status.texts, store)
 }
 
 // Whether the parts of a record that work begins with keep to their limits, with a store of so many bytes.
+#[tactic(auto, unfolding(crate::specs::Soundness::Checks::is_sound))]
 pub fn is_sound(
     status: Status,
     store: usize,
@@ -323,15 +244,8 @@ pub fn is_sound(
     requires { Lent ends.now text_firsts.now text_seconds.now lengths.now firsts.now seconds.now }
     ensures { result ≡ is_sound status store ends.now text_firsts.now text_seconds.now lengths.now firsts.now seconds.now }
 {
-    if !is_page_state(status) {
-        return false;
-    }
-    if !are_texts(status, store, lengths) {
-        return false;
-    }
-    if !registers::checks::is_table(firsts, seconds, status.registers) {
-        return false;
-    }
-    let stack = status.stack;
-    is_stack(stack, ends, text_firsts, text_seconds, status.texts)
+    is_page_state(status)
+        && are_texts(status, store, lengths)
+        && registers::checks::is_table(firsts, seconds, status.registers)
+        && is_stack(status.stack, ends, text_firsts, text_seconds, status.texts)
 }

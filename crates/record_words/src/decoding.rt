@@ -10,10 +10,11 @@ use page::position::Page;
 use record::{Closing, Waiting};
 use rules::arrays::RecordWords;
 use rules::{Name, Trap};
-use settings::layout::{Layout, Total};
+use settings::layout::Layout;
 use settings::lengths::Setting;
 use source_line::Source;
 use state::Opening;
+use std::array::from_fn;
 use traps::table::Planted;
 
 // The items on the input stack, the texts and the registers that there are.
@@ -29,13 +30,10 @@ fn count_at(words: &RecordWords, at: usize) -> u32
     requires { at < 68 }
     ensures { (result ≡ count_at words.now at) × Short result }
 {
-    let word = words[at];
-    if word < 0 {
-        return 0;
-    }
-    word as u32
+    words[at].max(0) as u32
 }
 
+// A count as a size: `usize` has no `From<u32>`.
 fn size_at(words: &RecordWords, at: usize) -> usize
     requires { at < 68 }
     ensures { (result ≡ count_at words.now at) × Short result }
@@ -48,22 +46,14 @@ fn short_at(words: &RecordWords, at: usize) -> u16
     requires { at < 68 }
     ensures { result ≡ min (count_at words.now at) 65535 }
 {
-    let count = count_at(words, at);
-    if count < 65535 {
-        return count as u16;
-    }
-    65535
+    count_at(words, at).min(65535) as u16
 }
 
 fn byte_at(words: &RecordWords, at: usize) -> u8
     requires { at < 68 }
     ensures { result ≡ min (count_at words.now at) 255 }
 {
-    let count = count_at(words, at);
-    if count < 255 {
-        return count as u8;
-    }
-    255
+    count_at(words, at).min(255) as u8
 }
 
 // Any word but 0 is true.
@@ -71,21 +61,7 @@ fn flag_at(words: &RecordWords, at: usize) -> bool
     requires { at < 68 }
     ensures { result ≡ is_set (word_at words.now at) }
 {
-    let word = words[at];
-    if word < 0 {
-        return true;
-    }
-    if 0 < word {
-        return true;
-    }
-    false
-}
-
-fn cells_at(words: &RecordWords, at: usize) -> Cells
-    requires { at < 68 }
-    ensures { result ≡ cells_at words.now at }
-{
-    Cells(words[at])
+    words[at] != 0
 }
 
 // A gap is a count of cells.
@@ -93,15 +69,7 @@ fn gap_at(words: &RecordWords, at: usize) -> Cells
     requires { at < 68 }
     ensures { result ≡ cells_across (count_at words.now at) }
 {
-    let n = count_at(words, at) as i32;
-    Cells(n)
-}
-
-fn rows_at(words: &RecordWords, at: usize) -> Rows
-    requires { at < 68 }
-    ensures { result ≡ rows_at words.now at }
-{
-    Rows(words[at])
+    Cells(count_at(words, at) as i32)
 }
 
 fn setting_at(words: &RecordWords, at: usize) -> Setting
@@ -109,11 +77,12 @@ fn setting_at(words: &RecordWords, at: usize) -> Setting
     ensures { result ≡ setting_at words.now at }
 {
     Setting {
-        now: cells_at(words, at),
-        former: cells_at(words, at + 1),
+        now: Cells(words[at]),
+        former: Cells(words[at + 1]),
     }
 }
 
+// A name of two bytes: `From` knows nothing of a quotient and a remainder by 256.
 fn name_of(number: u16) -> Name
     ensures { result ≡ name_from number }
 {
@@ -130,13 +99,10 @@ fn name_at(words: &RecordWords, at: usize) -> Name
     name_of(short_at(words, at))
 }
 
-fn total_by(there: bool, count: Cells) -> Total
+fn total_by(there: bool, count: Cells) -> Option<Cells>
     ensures { result ≡ total_by there count }
 {
-    if there {
-        return Total::Is(count);
-    }
-    Total::Nothing
+    there.then_some(count)
 }
 
 pub fn layout(words: &RecordWords) -> Layout
@@ -146,10 +112,10 @@ pub fn layout(words: &RecordWords) -> Layout
         line: setting_at(words, places::LINE_LENGTH),
         indent: setting_at(words, places::INDENT),
         offset: setting_at(words, places::OFFSET),
-        page: rows_at(words, places::PAGE_LENGTH),
+        page: Rows(words[places::PAGE_LENGTH]),
         total: total_by(
             flag_at(words, places::HAS_TOTAL),
-            cells_at(words, places::TOTAL),
+            Cells(words[places::TOTAL]),
         ),
         filling: flag_at(words, places::FILLING),
         adjusting: flag_at(words, places::ADJUSTING),
@@ -162,7 +128,7 @@ pub fn page(words: &RecordWords) -> Page
 {
     Page {
         number: count_at(words, places::PAGE_NUMBER),
-        used: rows_at(words, places::ROWS_USED),
+        used: Rows(words[places::ROWS_USED]),
         last: flag_at(words, places::IS_LAST_PAGE),
     }
 }
@@ -172,8 +138,8 @@ pub fn collected(words: &RecordWords) -> Collected
 {
     Collected {
         there: flag_at(words, places::HAS_LINE),
-        indent: cells_at(words, places::LINE_INDENT),
-        room: cells_at(words, places::LINE_ROOM),
+        indent: Cells(words[places::LINE_INDENT]),
+        room: Cells(words[places::LINE_ROOM]),
         length: size_at(words, places::LINE_CELLS),
         next: gap_at(words, places::NEXT_GAP),
     }
@@ -251,7 +217,7 @@ fn trap_at(words: &RecordWords, i: usize) -> Trap
 {
     let at = places::TRAPS + 2 * i;
     Trap {
-        place: rows_at(words, at),
+        place: Rows(words[at]),
         name: name_at(words, at + 1),
     }
 }
@@ -259,26 +225,8 @@ fn trap_at(words: &RecordWords, i: usize) -> Trap
 pub fn planted(words: &RecordWords) -> Planted
     ensures { result ≡ planted_in words.now }
 {
-    let traps = [
-        trap_at(words, 0),
-        trap_at(words, 1),
-        trap_at(words, 2),
-        trap_at(words, 3),
-        trap_at(words, 4),
-        trap_at(words, 5),
-        trap_at(words, 6),
-        trap_at(words, 7),
-        trap_at(words, 8),
-        trap_at(words, 9),
-        trap_at(words, 10),
-        trap_at(words, 11),
-        trap_at(words, 12),
-        trap_at(words, 13),
-        trap_at(words, 14),
-        trap_at(words, 15),
-    ];
     Planted {
-        traps,
+        traps: from_fn(|i| trap_at(words, i)),
         count: size_at(words, places::TRAP_COUNT),
     }
 }

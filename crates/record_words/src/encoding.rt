@@ -12,7 +12,7 @@ use page::position::Page;
 use record::{Closing, RecordCore, Waiting};
 use rules::arrays::{RECORD_WORDS, RecordWords};
 use rules::{Name, Trap};
-use settings::layout::{Layout, Total};
+use settings::layout::Layout;
 use settings::lengths::Setting;
 use source_line::Source;
 use state::{Opening, Status};
@@ -22,10 +22,7 @@ use traps::table::Planted;
 fn word_of(count: usize) -> i32
     ensures { result ≡ word_of count }
 {
-    if count < 2147483647 {
-        return count as i32;
-    }
-    2147483647
+    count.min(2147483647) as i32
 }
 
 fn put_count(words: &mut RecordWords, at: usize, count: usize)
@@ -39,53 +36,37 @@ fn put_flag(words: &mut RecordWords, at: usize, flag: bool)
     requires { at < 68 }
     ensures { words.new ≡ set words.old at (flag_word flag) }
 {
-    if flag {
-        words[at] = 1;
-        return;
-    }
-    words[at] = 0;
-}
-
-fn put_cells(words: &mut RecordWords, at: usize, cells: Cells)
-    requires { at < 68 }
-    ensures { words.new ≡ set words.old at cells.0 }
-{
-    let count = cells.0;
-    words[at] = count;
-}
-
-fn put_rows(words: &mut RecordWords, at: usize, rows: Rows)
-    requires { at < 68 }
-    ensures { words.new ≡ set words.old at rows.0 }
-{
-    let count = rows.0;
-    words[at] = count;
+    words[at] = i32::from(flag);
 }
 
 fn put_name(words: &mut RecordWords, at: usize, name: Name)
     requires { at < 68 }
     ensures { (words.new ≡ set words.old at (name_to_word name)) × TwoByteName name }
 {
-    put_count(words, at, name.first as usize * 256 + name.second as usize);
+    put_count(
+        words,
+        at,
+        usize::from(name.first) * 256 + usize::from(name.second),
+    );
 }
 
 fn put_setting(words: &mut RecordWords, at: usize, setting: Setting)
     requires { at < 67 }
     ensures { words.new ≡ set (set words.old at setting.now.0) (at + 1) setting.former.0 }
 {
-    put_cells(words, at, setting.now);
-    put_cells(words, at + 1, setting.former);
+    words[at] = setting.now.0;
+    words[at + 1] = setting.former.0;
 }
 
-fn put_total(words: &mut RecordWords, total: Total)
+fn put_total(words: &mut RecordWords, total: Option<Cells>)
     ensures { words.new ≡ sets words.old 7 (total_tag total ∷ total_value total ∷ []) }
 {
     match total {
-        Total::Is(count) => {
+        Some(count) => {
             put_flag(words, places::HAS_TOTAL, true);
-            put_cells(words, places::TOTAL, count);
+            words[places::TOTAL] = count.0;
         }
-        Total::Nothing => {
+        None => {
             put_flag(words, places::HAS_TOTAL, false);
             put_count(words, places::TOTAL, 0);
         }
@@ -95,15 +76,11 @@ fn put_total(words: &mut RecordWords, total: Total)
 fn put_layout(words: &mut RecordWords, layout: Layout)
     ensures { words.new ≡ sets words.old 0 (layout_words layout) }
 {
-    let line = layout.line;
-    let indent = layout.indent;
-    let offset = layout.offset;
-    let total = layout.total;
-    put_setting(words, places::LINE_LENGTH, line);
-    put_setting(words, places::INDENT, indent);
-    put_setting(words, places::OFFSET, offset);
-    put_rows(words, places::PAGE_LENGTH, layout.page);
-    put_total(words, total);
+    put_setting(words, places::LINE_LENGTH, layout.line);
+    put_setting(words, places::INDENT, layout.indent);
+    put_setting(words, places::OFFSET, layout.offset);
+    words[places::PAGE_LENGTH] = layout.page.0;
+    put_total(words, layout.total);
     put_flag(words, places::FILLING, layout.filling);
     put_flag(words, places::ADJUSTING, layout.adjusting);
     put_count(words, places::CENTRED, layout.centred as usize);
@@ -113,7 +90,7 @@ fn put_page(words: &mut RecordWords, page: Page)
     ensures { words.new ≡ sets words.old 12 (page_words page) }
 {
     put_count(words, places::PAGE_NUMBER, page.number as usize);
-    put_rows(words, places::ROWS_USED, page.used);
+    words[places::ROWS_USED] = page.used.0;
     put_flag(words, places::IS_LAST_PAGE, page.last);
 }
 
@@ -121,11 +98,14 @@ fn put_collected(words: &mut RecordWords, collected: Collected)
     ensures { words.new ≡ sets words.old 15 (collected_words collected) }
 {
     put_flag(words, places::HAS_LINE, collected.there);
-    put_cells(words, places::LINE_INDENT, collected.indent);
-    put_cells(words, places::LINE_ROOM, collected.room);
+    words[places::LINE_INDENT] = collected.indent.0;
+    words[places::LINE_ROOM] = collected.room.0;
     put_count(words, places::LINE_CELLS, collected.length);
-    let next = collected.next;
-    put_count(words, places::NEXT_GAP, measure::across(next) as usize);
+    put_count(
+        words,
+        places::NEXT_GAP,
+        measure::across(collected.next) as usize,
+    );
 }
 
 fn put_counts(words: &mut RecordWords, counts: Counts)
@@ -150,7 +130,7 @@ fn put_source(words: &mut RecordWords, source: Source)
     put_count(words, places::SOURCE_LINES, source.line as usize);
     put_count(words, places::GATHERED_LENGTH, source.length);
     put_flag(words, places::IS_ENDED, source.ended);
-    put_count(words, places::STORED_LINES, source.stored as usize);
+    put_count(words, places::STORED_LINES, usize::from(source.stored));
 }
 
 fn put_waiting(words: &mut RecordWords, waiting: Waiting)
@@ -175,7 +155,7 @@ fn put_closing(words: &mut RecordWords, closing: Closing)
     match closing {
         Closing::Open => put_answer(words, 0, 0, 0),
         Closing::Done => put_answer(words, 1, 0, 0),
-        Closing::Refused(number, line) => put_answer(words, 2, number as usize, line as usize),
+        Closing::Refused(number, line) => put_answer(words, 2, usize::from(number), line as usize),
     }
 }
 
@@ -185,7 +165,7 @@ fn put_trap(words: &mut RecordWords, i: usize, trap: Trap)
     ensures { (words.new ≡ set (set words.old (36 + 2 * i) trap.place.0) (36 + 2 * i + 1) (name_to_word trap.name)) × TwoByteName trap.name }
 {
     let at = places::TRAPS + 2 * i;
-    put_rows(words, at, trap.place);
+    words[at] = trap.place.0;
     put_name(words, at + 1, trap.name);
 }
 
@@ -193,11 +173,8 @@ fn put_planted(words: &mut RecordWords, planted: Planted)
     ensures { (words.new ≡ sets words.old 35 (planted_words planted)) × (length planted.traps ≡ 16) × AllNamed planted.traps }
 {
     put_count(words, places::TRAP_COUNT, planted.count);
-    let mut i: usize = 0;
-    while i < 16 {
-        let trap = planted.traps[i];
-        put_trap(words, i, trap);
-        i += 1;
+    for i in 0..16 {
+        put_trap(words, i, planted.traps[i]);
     }
 }
 
@@ -257,22 +234,22 @@ pub fn write_place(words: &mut RecordWords, place: RecordCore)
     ensures { PlaceWritten place words.new }
 {
     let status = place.status;
-    let stack = status.stack;
     let counts = Counts {
-        depth: stack.depth,
+        depth: status.stack.depth,
         texts: status.texts,
         registers: status.registers,
     };
-    let layout = status.layout;
-    let page = status.page;
-    let collected = status.collected;
-    let opening = status.opening;
-    let planted = status.planted;
-    let source = place.source;
-    let waiting = place.waiting;
-    let closing = place.closing;
     write(
-        words, layout, page, collected, counts, opening, source, waiting, closing, planted,
+        words,
+        status.layout,
+        status.page,
+        status.collected,
+        counts,
+        status.opening,
+        place.source,
+        place.waiting,
+        place.closing,
+        status.planted,
     );
 }
 

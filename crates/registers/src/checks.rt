@@ -2,9 +2,9 @@
 ghost use Rattle.std.specs.Prelude.{◌≡◌, ◌<◌, ◌-◌};
 ghost use Rattle.registers.specs.Checks.Checks.{NameColumns, NumberColumns, is_register_table, in_bounds, is_bounded};
 
-use super::table::Order;
 use rules::Name;
 use rules::arrays::{ByteColumn, NumberColumn, TABLE_SIZE};
+use std::cmp::Ordering;
 
 // Whether the first rows of lent columns are a table: "The registers stand in name order".
 pub fn is_table(firsts: &ByteColumn, seconds: &ByteColumn, count: usize) -> bool
@@ -14,26 +14,13 @@ pub fn is_table(firsts: &ByteColumn, seconds: &ByteColumn, count: usize) -> bool
     if TABLE_SIZE < count {
         return false;
     }
-    let mut i: usize = 0;
-    let mut next: usize = 1;
-    while next < count {
-        let first_byte = firsts[i];
-        let second_byte = seconds[i];
+    for next in 1..count {
         let name = Name {
-            first: first_byte,
-            second: second_byte,
+            first: firsts[next - 1],
+            second: seconds[next - 1],
         };
-        match super::table::order_at(firsts, seconds, next, name) {
-            Order::Earlier => {
-                i = next;
-                next += 1;
-            }
-            Order::Same => {
-                return false;
-            }
-            Order::Later => {
-                return false;
-            }
+        if super::table::order_at(firsts, seconds, next, name) != Ordering::Less {
+            return false;
         }
     }
     true
@@ -42,13 +29,7 @@ pub fn is_table(firsts: &ByteColumn, seconds: &ByteColumn, count: usize) -> bool
 fn is_within(n: i32) -> bool
     ensures { result ≡ in_bounds n }
 {
-    if n < -1000000000 {
-        return false;
-    }
-    if 1000000000 < n {
-        return false;
-    }
-    true
+    n.unsigned_abs() <= 1000000000
 }
 
 // Whether the first rows of lent columns hold values and steps within ±1,000,000,000.
@@ -59,17 +40,8 @@ pub fn is_bounded(values: &NumberColumn, steps: &NumberColumn, count: usize) -> 
     if TABLE_SIZE < count {
         return false;
     }
-    let mut i: usize = 0;
-    while i < count {
-        let value = values[i];
-        if is_within(value) {
-            let step = steps[i];
-            if is_within(step) {
-                i += 1;
-            } else {
-                return false;
-            }
-        } else {
+    for i in 0..count {
+        if !is_within(values[i]) || !is_within(steps[i]) {
             return false;
         }
     }

@@ -9,14 +9,30 @@ use rules::arrays::STORE_SIZE;
 use std::env::FillError;
 use std::io::Read;
 use std::rt::{Env, Files};
-use std::{fs, io};
+use std::{fmt, fs, io};
 use stream::Answer;
 
-// The record after a block, and whether the session goes on.
+// A refusal by its number: it is shown as a phrase for it.
 #[derive(Drop)]
-struct Fed {
-    record: Record,
-    going: bool,
+struct Why(u8);
+
+impl fmt::Display for Why {
+    fn fmt<W: fmt::Write>(&self, f: &mut fmt::Formatter<W>) -> fmt::Result {
+        f.write_str(match self.0 {
+            1 => "damaged record or store",
+            2 => "byte not allowed in the source",
+            3 => "line too long",
+            4 => "strings nested too deep, or too much to scan",
+            5 => "unknown or unfinished escape",
+            6 => "malformed number",
+            7 => "value out of range",
+            8 => "macro definition not ended",
+            9 => "text in use, or macro named as a string",
+            10 => "input stack or stored lines past their limit",
+            11 => "no room for a register, name, trap or text",
+            _ => "too many lines or pages",
+        })
+    }
 }
 
 // A message that standard error does not take is lost: there is no other place for it.
@@ -47,67 +63,18 @@ fn before_number(text: &str) -> &str
     }
 }
 
-// A phrase for each refusal.
-fn say_why(rt: &impl Eprint, number: u8) {
-    match number {
-        1 => say(rt, "damaged record or store"),
-        2 => say(rt, "byte not allowed in the source"),
-        3 => say(rt, "line too long"),
-        4 => say(rt, "strings nested too deep, or too much to scan"),
-        5 => say(rt, "unknown or unfinished escape"),
-        6 => say(rt, "malformed number"),
-        7 => say(rt, "value out of range"),
-        8 => say(rt, "macro definition not ended"),
-        9 => say(rt, "text in use, or macro named as a string"),
-        10 => say(rt, "input stack or stored lines past their limit"),
-        11 => say(rt, "no room for a register, name, trap or text"),
-        _ => say(rt, "too many lines or pages"),
-    }
-}
-
-fn say_refused(rt: &impl Eprint, number: u8, line: u32) {
-    let _ = eprint!(rt; "rockavine: refused {number} at line {line}: ");
-    say_why(rt, number);
-    say(rt, "\n");
-}
-
 // What is left of a block from a place on.
 fn rest(block: &[u8], from: usize) -> &[u8]
     ensures { result.now ≡ drop from block.now }
 {
-    if from <= block.len() {
-        return &block[from..];
-    }
-    &block[0..0]
+    &block[from.min(block.len())..]
 }
 
 // The first bytes of the room are the next ones of the pages.
 fn write_pages(rt: &impl Print, room: &[u8], count: usize) -> io::Result<()> {
-    if count <= room.len() {
-        return rt.write_all(&room[..count]);
-    }
-    Err(io::Error::from(io::ErrorKind::InvalidData))
-}
-
-// Whether a call of this answer is to be followed by another on the same block.
-fn wants_room(rt: &impl Eprint, answer: Answer) -> bool {
-    match answer {
-        Answer::NeedsInput => false,
-        Answer::NeedsRoom => true,
-        Answer::Done => false,
-        Answer::Refused(number, line) => {
-            say_refused(rt, number, line);
-            false
-        }
-    }
-}
-
-fn is_closed(answer: Answer) -> bool {
-    match answer {
-        Answer::NeedsInput => false,
-        Answer::NeedsRoom => false,
-        Answer::Done => true,
-        Answer::Refused(_, _) => true,
+    match room.get(..count) {
+        Some(pages) => rt.write_all(pages),
+        None => Err(io::Error::from(io::ErrorKind::InvalidData)),
     }
 }
 
@@ -115,23 +82,17 @@ fn is_closed(answer: Answer) -> bool {
 fn behind(from: usize, taken: usize, length: usize) -> usize
     ensures { result ≡ min (from + taken) length }
 {
-    if length < taken {
-        return length;
-    }
-    if length - taken < from {
-        return length;
-    }
-    from + taken
+    from.saturating_add(taken).min(length)
 }
 
-// Calls the session on a block until it wants the next one or is closed. A proved loop has to end: it counts its turns, up to a number that no run uses up.
+// Calls the session on a block until it wants the next one, which gives the record for that, or is closed. A proved loop has to end: it counts its turns, up to a number that no run uses up.
 fn feed(
     rt: &(impl Print + Eprint + AllocGlobal),
     start: Record,
     store: &mut [u8],
     block: &[u8],
     last: bool,
-) -> Fed {
+) -> Option<Record> {
     let mut record = start;
     let mut from: usize = 0;
     for _ in 0..u64::MAX {
@@ -141,23 +102,23 @@ fn feed(
         record = reply.next;
         if let Err(error) = write_pages(rt, &room, reply.written) {
             say_failed(rt, "rockavine: standard output", error);
-            return Fed {
-                record,
-                going: false,
-            };
+            return None;
         }
         from = behind(from, reply.taken, block.len());
-        if !wants_room(rt, answer) {
-            return Fed {
-                record,
-                going: !is_closed(answer),
-            };
+        match answer {
+            Answer::NeedsRoom => {}
+            Answer::NeedsInput => return Some(record),
+            Answer::Done => return None,
+            Answer::Refused(number, line) => {
+                let _ = eprintln!(rt;
+                    "rockavine: refused {number} at line {line}: {}",
+                    Why(number)
+                );
+                return None;
+            }
         }
     }
-    Fed {
-        record,
-        going: false,
-    }
+    None
 }
 
 // Reads a block and feeds it; a block of no bytes is the last.
@@ -166,16 +127,13 @@ fn feed_some(
     input: &mut impl Read,
     record: Record,
     store: &mut [u8],
-) -> Fed {
+) -> Option<Record> {
     let mut block = [0u8; 65536];
     match input.read(&mut block) {
         Ok(count) => feed(rt, record, store, &block[..count], count == 0),
         Err(error) => {
             say_failed(rt, "rockavine: input", error);
-            Fed {
-                record,
-                going: false,
-            }
+            None
         }
     }
 }
@@ -184,11 +142,10 @@ fn format(rt: &(impl Print + Eprint + AllocGlobal), input: &mut impl Read) {
     let mut store = [0u8; STORE_SIZE];
     let mut record = session::start();
     for _ in 0..u64::MAX {
-        let fed = feed_some(rt, input, record, &mut store);
-        if !fed.going {
-            return;
+        match feed_some(rt, input, record, &mut store) {
+            Some(next) => record = next,
+            None => return,
         }
-        record = fed.record;
     }
 }
 

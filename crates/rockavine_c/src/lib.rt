@@ -122,19 +122,16 @@ pub extern "C" fn rockavine_call_parts(
         *line = 0;
         return 3;
     }
-    let source = place.source;
-    let waiting = place.waiting;
-    let closing = place.closing;
     // most calls with few bytes: a line is neither begun nor ended, and the record stays as it is but for that line
     if record::is_inside(
         block,
         replies::is_last(last),
         place.status.stack.depth,
-        source,
-        waiting,
-        closing,
+        place.source,
+        place.waiting,
+        place.closing,
     ) {
-        take_block(block, words, gathered, source.length);
+        take_block(block, words, gathered, place.source.length);
         *taken = block.len();
         *written = 0;
         *number = 0;
@@ -161,12 +158,10 @@ pub extern "C" fn rockavine_call_parts(
         values,
         steps,
     );
-    let answer = ran.answer;
-    let after = ran.place;
     *taken = ran.taken;
     *written = ran.written;
-    *number = replies::number_of(answer);
-    *line = replies::line_of(answer);
-    record_words::encoding::write_place(words, after);
-    replies::code_of(answer)
+    *number = replies::number_of(ran.answer);
+    *line = replies::line_of(ran.answer);
+    record_words::encoding::write_place(words, ran.place);
+    replies::code_of(ran.answer)
 }

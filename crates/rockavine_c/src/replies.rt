@@ -4,7 +4,7 @@ ghost use Rattle.rockavine_c.specs.Replies.Replies.{code_of, answer_number, answ
 
 use stream::Answer;
 
-// The number of an answer for C.
+// The number of an answer, as the C interface has it.
 pub fn code_of(answer: Answer) -> u32
     ensures { result ≡ code_of answer }
 {
@@ -21,9 +21,7 @@ pub fn number_of(answer: Answer) -> u8
     ensures { result ≡ answer_number answer }
 {
     match answer {
-        Answer::NeedsInput => 0,
-        Answer::NeedsRoom => 0,
-        Answer::Done => 0,
+        Answer::NeedsInput | Answer::NeedsRoom | Answer::Done => 0,
         Answer::Refused(number, _) => number,
     }
 }
@@ -33,9 +31,7 @@ pub fn line_of(answer: Answer) -> u32
     ensures { result ≡ answer_line answer }
 {
     match answer {
-        Answer::NeedsInput => 0,
-        Answer::NeedsRoom => 0,
-        Answer::Done => 0,
+        Answer::NeedsInput | Answer::NeedsRoom | Answer::Done => 0,
         Answer::Refused(_, line) => line,
     }
 }

@@ -1,6 +1,5 @@
 -- What each request does once its line is expanded and its break is made (document 01, 'Numbers' and 'Lines and escapes').
-use Rattle.std.specs.Prelude.{Bool, true, false, not, List, [], ◌∷◌, ℕ, leb, length, get_or, ℤ, pos, negsuc, ◌+ℤ◌}
-use Rattle.std.proofs.Math.Option.{Option, none, some}
+use Rattle.std.specs.Prelude.{Bool, true, false, not, List, [], ◌∷◌, ℕ, leb, length, get_or, ℤ, pos, negsuc, ◌+ℤ◌, Option, None, Some}
 use Rattle.rules.specs.Printers.{Printer}
 use Rattle.rules.specs.declared.Name.{Name}
 use Rattle.rules.specs.Bytes.{is_there}
@@ -68,8 +67,8 @@ define_text s l n = do
 
 -- "ds with a name only an empty string"; with none it does nothing
 abbrev pub define_from : Option Part → (afterIf : Bool) → State → Judged State
-define_from none i s = value s
-define_from (some f) i s = on_name (name_of f.part) s (define_text s (written_back i (string_text f.rest)))
+define_from None i s = value s
+define_from (Some f) i s = on_name (name_of f.part) s (define_text s (written_back i (string_text f.rest)))
 
 -- ds, by what follows its name
 unfoldable pub defines : (afterIf : Bool) → List ℕ → State → Judged State
@@ -80,7 +79,7 @@ abbrev pub open_text : State → Name → Judged State
 open_text s n = do
   m ← free s n
   ts ← open_macro m s.tables.texts
-  value (with_opened (some (record { name = m; body = [] })) (with_texts ts s))
+  value (with_opened (Some (record { name = m; body = [] })) (with_texts ts s))
 
 -- "rm of a name with no user text does nothing"
 abbrev pub remove_if : (there : Bool) → State → Name → Judged State
@@ -135,7 +134,7 @@ module _ (p : Printer) where
   indent_total (b ∷ l) y = do
     v ← cells p.pitch (b ∷ l)
     n ← indent_range (changed (signed (b ∷ l)) y.indent.now v)
-    value (with_total (some n) y)
+    value (with_total (Some n) y)
 
   -- sp: "sp 1" where missing
   abbrev pub spacing : List ℕ → Judged ℤ

@@ -1,6 +1,5 @@
 -- Control lines, arguments and names (document 01, 'Lines and escapes'). Assumes nothing.
-use Rattle.std.specs.Prelude.{true, false, List, [], ◌∷◌, ℕ, zero, suc, eqb}
-use Rattle.std.proofs.Math.Option.{Option, some}
+use Rattle.std.specs.Prelude.{true, false, List, [], ◌∷◌, ℕ, zero, suc, eqb, Option, Some}
 use Rattle.rules.specs.Bytes.{byte, space, first_where, entry}
 
 -- A part of a line, and what follows it.
@@ -65,8 +64,8 @@ first_by other b l = up_to bare (b ∷ l)
 
 -- the argument that starts here, if one does
 abbrev pub first_of : List ℕ → Option Part
-first_of [] = Option.none
-first_of (b ∷ l) = some (first_by (byte_of b) b l)
+first_of [] = Option.None
+first_of (b ∷ l) = Some (first_by (byte_of b) b l)
 
 -- "Arguments part at spaces": the first argument, and what follows it
 unfoldable pub first : List ℕ → Option Part
@@ -76,7 +75,7 @@ first l = first_of (after_spaces l)
 -- "past nine are dropped": at most n arguments
 unfoldable pub arguments_up_to : ℕ → List ℕ → List (List ℕ)
 arguments_up_to zero l = []
-arguments_up_to (suc n) l = elim (first l) [ Option.none ↦ [] | some p ↦ p.part ∷ arguments_up_to n p.rest ]
+arguments_up_to (suc n) l = elim (first l) [ Option.None ↦ [] | Some p ↦ p.part ∷ arguments_up_to n p.rest ]
 
 -- "past nine are dropped"
 unfoldable pub arguments : List ℕ → List (List ℕ)

@@ -1,6 +1,5 @@
 -- Bytes, and tables with an entry for some of them. Assumes nothing.
-use Rattle.std.specs.Prelude.{Bool, true, false, List, [], ◌∷◌, ℕ, eqb}
-use Rattle.std.proofs.Math.Option.{Option, none, some}
+use Rattle.std.specs.Prelude.{Bool, true, false, List, [], ◌∷◌, ℕ, eqb, Option, None, Some}
 use Prim.Native.Char.{Char, code}
 use Prim.Native.String as Quoted
 
@@ -39,18 +38,18 @@ gap_start = 4
 
 -- the first of a list that passes a test
 unfoldable pub first_where : {A : Type 0} → (A → Bool) → List A → Option A
-first_where test [] = none
-first_where test (x ∷ xs) = elim (test x) [ true ↦ some x | false ↦ first_where test xs ]
+first_where test [] = None
+first_where test (x ∷ xs) = elim (test x) [ true ↦ Some x | false ↦ first_where test xs ]
 
 -- whether there is one
 abbrev pub is_there : {A : Type 0} → Option A → Bool
-is_there none = false
-is_there (some a) = true
+is_there None = false
+is_there (Some a) = true
 
 -- A table gives each of some keys an entry: the entry of a key, if it has one.
 abbrev pub entry_of : {K A : Type 0} → Option (K × A) → Option A
-entry_of none = none
-entry_of (some e) = some e.1
+entry_of None = None
+entry_of (Some e) = Some e.1
 
 -- the entry of a byte in a table, if it has one
 abbrev pub in_table : {A : Type 0} → List (ℕ × A) → ℕ → Option A
@@ -59,8 +58,8 @@ in_table t b = entry_of (first_where (λ e. eqb b e.0) t)
 
 -- the entry of a byte, or else what all other bytes have
 abbrev pub or_other : {A : Type 0} → Option A → A → A
-or_other none d = d
-or_other (some a) d = a
+or_other None d = d
+or_other (Some a) d = a
 
 -- the entry of a byte in a table, or else what all other bytes have
 abbrev pub entry : {A : Type 0} → List (ℕ × A) → A → ℕ → A

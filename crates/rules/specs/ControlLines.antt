@@ -1,6 +1,5 @@
 -- How a line is dealt with (document 01, 'Lines and escapes'; 'Rows, pages, traps' for breaks and the first page).
-use Rattle.std.specs.Prelude.{Bool, true, false, ◌&&◌, List, [], ℕ, zero, suc, eqb}
-use Rattle.std.proofs.Math.Option.{Option, none, some}
+use Rattle.std.specs.Prelude.{Bool, true, false, ◌&&◌, List, [], ℕ, zero, suc, eqb, Option, None, Some}
 use Rattle.rules.specs.Printers.{Printer}
 use Rattle.rules.specs.declared.Name.{Name}
 use Rattle.rules.specs.Texts.{Text, text_of, keep_line, close_macro}
@@ -28,13 +27,13 @@ pub data Meaning : Type 0 where
 
 -- a request, or nothing
 abbrev pub request_meaning : Option Request → Meaning
-request_meaning none = nothing
-request_meaning (some r) = means_request r
+request_meaning None = nothing
+request_meaning (Some r) = means_request r
 
 -- a user text, or else what the name is among requests
 abbrev pub text_meaning : Option Text → Name → Meaning
-text_meaning (some t) n = calls t
-text_meaning none n = request_meaning (request_of n)
+text_meaning (Some t) n = calls t
+text_meaning None n = request_meaning (request_of n)
 
 -- what a name stands for now
 abbrev pub meaning_of : Name → State → Meaning
@@ -65,8 +64,8 @@ on_scan (scan_refused n rs) s k = refuses n (with_registers rs s)
 module _ (p : Printer) where
   -- Where a period calls it and a line is collected, a breaking request breaks, and what it does after that is held; else it acts at once.
   abbrev pub break_or_act : (period : Bool) → Option Collected → Breaking → List ℕ → State → Next
-  break_or_act true (some c) r l s = break c (held_after r l) s
-  break_or_act true none r l s = act p r l s
+  break_or_act true (Some c) r l s = break c (held_after r l) s
+  break_or_act true None r l s = act p r l s
   break_or_act false c r l s = act p r l s
 
   -- "The first page starts at the first .. break, sp or bp"
@@ -108,17 +107,17 @@ module _ (p : Printer) where
 
   -- a body line, as expanded, goes behind those before it, or "11: .. live text past 8,192 bytes"
   abbrev pub keep_body : Definition → List ℕ → State → Next
-  keep_body d l s = on_value (keep_line s.tables.texts d.body l) s (λ body. goes (with_opened (some (record { name = d.name; body = body })) s))
+  keep_body d l s = on_value (keep_line s.tables.texts d.body l) s (λ body. goes (with_opened (Some (record { name = d.name; body = body })) s))
 
   -- "A definition closes at a line that is exactly two periods"; any other line is kept: "Body lines of de .. are in copy mode"
   abbrev pub body_line : (closing : Bool) → Definition → (args : List (List ℕ)) → List ℕ → State → Next
-  body_line true d args l s = goes (with_opened none (with_texts (close_macro d.name d.body s.tables.texts) s))
+  body_line true d args l s = goes (with_opened None (with_texts (close_macro d.name d.body s.tables.texts) s))
   body_line false d args l s = on_scan (expand args Copy 0 l s) s (keep_body d)
 
   -- a body line of an open definition, or a line
   abbrev pub deal_from : Option Definition → (args : List (List ℕ)) → List ℕ → State → Next
-  deal_from (some d) args l s = body_line (is_closing l) d args l s
-  deal_from none args l s = fresh_line (line_of l) args s
+  deal_from (Some d) args l s = body_line (is_closing l) d args l s
+  deal_from None args l s = fresh_line (line_of l) args s
 
   -- a line as it was taken from the source or from a text, with the arguments of that text's call
   unfoldable pub deal : (args : List (List ℕ)) → List ℕ → State → Next

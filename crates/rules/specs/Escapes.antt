@@ -1,6 +1,5 @@
 -- The expansion of a line (document 01, 'Lines and escapes'), byte by byte: "the first event that earns one decides". Assumes nothing.
-use Rattle.std.specs.Prelude.{Bool, true, false, ◌&&◌, List, [], ◌∷◌, ◌++◌, ℕ, zero, suc, ◌-◌, leb, length, get_or}
-use Rattle.std.proofs.Math.Option.{Option, none, some}
+use Rattle.std.specs.Prelude.{Bool, true, false, ◌&&◌, List, [], ◌∷◌, ◌++◌, ℕ, zero, suc, ◌-◌, leb, length, get_or, Option, None, Some}
 use Rattle.rules.specs.Bytes.{byte, bytes, space, backslash, mark, fixed_blank, first_where, entry}
 use Rattle.rules.specs.declared.Name.{Name}
 use Rattle.rules.specs.Names.{one_byte, two_bytes}
@@ -165,8 +164,8 @@ enter_by false l s = refuse_scan 4 s
 
 -- "a string, scanned in place"; "9: .. a macro named as a string"; "Undefined ones give .. nothing"
 abbrev pub enter : Option Text → Scan → Effect
-enter none s = goes_on [] (with_escape outside s)
-enter (some t) s = elim t.kind [ Macro ↦ refuse_scan 9 s | String ↦ enter_by (leb (length s.unread) 8) t.bytes s ]
+enter None s = goes_on [] (with_escape outside s)
+enter (Some t) s = elim t.kind [ Macro ↦ refuse_scan 9 s | String ↦ enter_by (leb (length s.unread) 8) t.bytes s ]
 
 -- "give a register in decimal", or the refusal of its step
 abbrev pub show_it : Reference → Scan → Effect

@@ -1,6 +1,5 @@
 -- Words, the collected line and the row as printed (document 01, 'Filling').
-use Rattle.std.specs.Prelude.{Bool, true, false, ◌||◌, List, [], ◌∷◌, ◌++◌, ℕ, zero, suc, ◌+◌, ◌-◌, ◌/◌, ◌%◌, leb, eqb, length, replicate}
-use Rattle.std.proofs.Math.Option.{none, get_or}
+use Rattle.std.specs.Prelude.{Bool, true, false, ◌||◌, List, [], ◌∷◌, ◌++◌, ℕ, zero, suc, ◌+◌, ◌-◌, ◌/◌, ◌%◌, leb, eqb, length, replicate, None, unwrap_or}
 use Rattle.rules.specs.Bytes.{byte, newline, space, mark, fixed_blank, gap_start}
 use Rattle.rules.specs.Settings.{Across, Layout}
 use Rattle.rules.specs.LayoutSetters.{with_total}
@@ -118,7 +117,7 @@ joined w c = record { indent = c.indent; room = c.room; cells = c.cells ++ (gap_
 
 -- the indent printed: the ti total if one is kept
 abbrev pub indent_now : Layout → Across
-indent_now y = get_or y.total y.indent.now
+indent_now y = unwrap_or y.total y.indent.now
 
 -- "Room is ll minus indent, 0 if that is negative"
 abbrev pub room_now : Layout → Across
@@ -130,7 +129,7 @@ begin y w = record { indent = indent_now y; room = room_now y; cells = printed w
 
 -- the ti total is used up
 abbrev pub begun : Layout → Layout
-begun y = with_total none y
+begun y = with_total None y
 
 -- "A word joins if width + gap + word is at most room; else the line is written and the word starts the next"
 pub data Placed : Type 0 where

@@ -1,6 +1,5 @@
 -- A layout field by field, and each field set anew. Nothing of document 01 is said here. Assumes nothing.
-use Rattle.std.specs.Prelude.{Bool, ℕ}
-use Rattle.std.proofs.Math.Option.{Option}
+use Rattle.std.specs.Prelude.{Bool, ℕ, Option}
 use Rattle.rules.specs.Settings.{Across, Down, Setting, Layout}
 
 -- a layout, field by field

@@ -38,3 +38,5 @@ pub mod Pages
 pub mod Laws
 -- How the contracts of registers and texts name the columns of a table: no rule uses it.
 pub mod Columns
+-- What a result of the code says in the terms of the rules: no rule uses it.
+pub mod Results

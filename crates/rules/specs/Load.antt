@@ -1,8 +1,7 @@
 -- How much work a state has left, and the limits that each piece of work keeps: why every document comes to its closing answer. Nothing here need be
 -- believed: a load is only the fuel of `pages`, each step lowers it (Laws.Falls, `falls`), so it is never used up (Laws.Pages, `always_ends`), and any
 -- greater fuel gives the same pages. Only `formatter`, the last definition, says which step the machine has: `step`. Assumes nothing.
-use Rattle.std.specs.Prelude.{Bool, true, false, List, [], ◌∷◌, ℕ, zero, suc, ◌+◌, ◌-◌, ◌*◌, ◌<◌, ◌≤◌, length}
-use Rattle.std.proofs.Math.Option.{Option, none, some}
+use Rattle.std.specs.Prelude.{Bool, true, false, List, [], ◌∷◌, ℕ, zero, suc, ◌+◌, ◌-◌, ◌*◌, ◌<◌, ◌≤◌, length, Option, None, Some}
 use Rattle.rules.specs.Filling.{Collected}
 use Rattle.rules.specs.State.{State, plain_text, control, ignored, Item, reading, fresh, again, others, acts, ejects}
 use Rattle.stream.specs.Answers.{Closing}
@@ -41,8 +40,8 @@ stack_load (i ∷ k) = item_load i + stack_load k
 
 -- a collected line, the first page and the end are still to come
 abbrev pub collected_load : Option Collected → ℕ
-collected_load none = 0
-collected_load (some c) = 1100
+collected_load None = 0
+collected_load (Some c) = 1100
 
 abbrev pub first_load : (page : ℕ) → ℕ
 first_load zero = 1100
@@ -59,8 +58,8 @@ base_load s =
     + first_load s.page.number + end_load s.input.ended
 
 abbrev pub weigh : Option Closing → ℕ → ℕ
-weigh none n = suc n
-weigh (some a) n = 0
+weigh None n = suc n
+weigh (Some a) n = 0
 
 unfoldable pub load : State → ℕ
 load s = weigh s.closing (base_load s + stack_load s.input.stack)

@@ -1,12 +1,9 @@
 -- Numbers (document 01, 'Numbers'): an argument's value. Everything malformed or out of bounds here earns 6. Assumes nothing.
-use Rattle.std.specs.Prelude.{Bool, true, false, not, ◌&&◌, ◌||◌, List, [], ◌∷◌, ℕ, zero, suc, ◌+◌, ◌-◌, ◌*◌, leb, eqb, length, ℤ, pos, negsuc, nat_abs, neg_ℤ, ◌+ℤ◌, ◌-ℤ◌, ◌*ℤ◌}
-use Rattle.std.proofs.Math.Option.{Option, none, some}
+use Rattle.std.specs.Prelude.{Bool, true, false, not, ◌&&◌, ◌||◌, List, [], ◌∷◌, ℕ, zero, suc, ◌+◌, ◌-◌, ◌*◌, leb, eqb, length, ℤ, pos, negsuc, nat_abs, neg_ℤ, ◌+ℤ◌, ◌-ℤ◌, ◌*ℤ◌, Option, None, Some}
 use Rattle.std.specs.Int.Signed.{lt_z, le_z, quot_z, rem_z}
 use Rattle.measure.specs.declared.Pitch.{Pitch}
 use Rattle.measure.specs.declared.Scale.{Scale}
 use Rattle.measure.specs.declared.Scale.TheVariants.{Em, LineSpace, Unit as BasicUnit}
-use Rattle.measure.specs.declared.MaybeScale.{MaybeScale}
-use Rattle.measure.specs.declared.MaybeScale.TheVariants.{Some, None}
 use Rattle.measure.specs.Scales.{scale_of, literal_of}
 use Rattle.measure.specs.Rounding.{nearest_of}
 use Rattle.rules.specs.Bytes.{byte, first_where, in_table, entry}
@@ -78,8 +75,8 @@ pub data Joint : Type 0 where
 
 -- an operator, or else what else follows
 abbrev pub joins_or : Option Operator → List ℕ → Joint → Joint
-joins_or none l j = j
-joins_or (some o) l j = joins o l
+joins_or None l j = j
+joins_or (Some o) l j = joins o l
 
 -- what follows a term, by its first byte alone
 abbrev pub one_byte_joint : ℕ → List ℕ → Joint
@@ -88,7 +85,7 @@ one_byte_joint b l = joins_or (in_table operators b) l (stops (b ∷ l))
 -- the operator of two bytes whose second is =
 abbrev pub operator_before : (equal : Bool) → ℕ → Option Operator
 operator_before true b = in_table operators_before_equal b
-operator_before false b = none
+operator_before false b = None
 
 -- what follows a term; operators of two bytes are tried first
 unfoldable pub joint_of : List ℕ → Joint
@@ -112,7 +109,7 @@ module _ (p : Pitch) where
   scaled s n l = within (pos (literal_of p s n)) >>= λ z. value (z, l)
 
   -- the scale is the letter behind the digits, or else the default one
-  abbrev pub scaled_or : MaybeScale → (default : Scale) → ℕ → ℕ → List ℕ → Read
+  abbrev pub scaled_or : Option Scale → (default : Scale) → ℕ → ℕ → List ℕ → Read
   scaled_or (Some s) d n b l = scaled s n l
   scaled_or None d n b l = scaled d n (b ∷ l)
 

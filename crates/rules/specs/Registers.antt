@@ -1,6 +1,5 @@
 -- Number registers (document 01, 'Lines and escapes' and 'Refusal numbers'). Assumes nothing.
-use Rattle.std.specs.Prelude.{Bool, true, false, List, [], ◌∷◌, ℕ, zero, suc, ◌+◌, ◌/◌, ◌%◌, leb, ltb, length, ℤ, pos, negsuc, ◌+ℤ◌, ◌-ℤ◌}
-use Rattle.std.proofs.Math.Option.{Option, none, some}
+use Rattle.std.specs.Prelude.{Bool, true, false, List, [], ◌∷◌, ℕ, zero, suc, ◌+◌, ◌/◌, ◌%◌, leb, ltb, length, ℤ, pos, negsuc, ◌+ℤ◌, ◌-ℤ◌, Option, None, Some}
 use Rattle.rules.specs.Bytes.{byte, first_where, is_there, entry_of}
 use Rattle.rules.specs.declared.Name.{Name}
 use Rattle.rules.specs.Names.{one_byte, two_bytes, same_name, earlier, same, later, order}
@@ -21,13 +20,13 @@ register_of n rs = first_where (λ r. same_name n r.name) rs
 
 -- "Undefined ones give 0"; "nr without a step the old step (0 at first)"
 abbrev pub value_or0 : Option Register → ℤ
-value_or0 none = pos 0
-value_or0 (some r) = r.value
+value_or0 None = pos 0
+value_or0 (Some r) = r.value
 
 -- "the old step (0 at first)"
 abbrev pub step_or0 : Option Register → ℤ
-step_or0 none = pos 0
-step_or0 (some r) = r.step
+step_or0 None = pos 0
+step_or0 (Some r) = r.step
 
 -- The registers stand in name order; one of the same name is replaced.
 unfoldable pub put : Register → List Register → List Register
@@ -72,13 +71,13 @@ step_to r z rs = within z >>= λ v. value (v, put (register r.name v r.step) rs)
 
 -- "7: .. a predefined register .. stepped"; "Undefined ones give 0 .., and a step does not make one"
 abbrev pub refer_by : Turn → Option (Seen → ℤ) → Option Register → Seen → List Register → Reference
-refer_by Still (some f) u s rs = value (f s, rs)
-refer_by Up (some f) u s rs = bad 7
-refer_by Down (some f) u s rs = bad 7
-refer_by t none none s rs = value (pos 0, rs)
-refer_by Still none (some r) s rs = value (r.value, rs)
-refer_by Up none (some r) s rs = step_to r (r.value +ℤ r.step) rs
-refer_by Down none (some r) s rs = step_to r (r.value -ℤ r.step) rs
+refer_by Still (Some f) u s rs = value (f s, rs)
+refer_by Up (Some f) u s rs = bad 7
+refer_by Down (Some f) u s rs = bad 7
+refer_by t None None s rs = value (pos 0, rs)
+refer_by Still None (Some r) s rs = value (r.value, rs)
+refer_by Up None (Some r) s rs = step_to r (r.value +ℤ r.step) rs
+refer_by Down None (Some r) s rs = step_to r (r.value -ℤ r.step) rs
 
 -- what a reference gives: "with + or - before the name to step first"
 unfoldable pub step_register : Seen → Turn → Name → List Register → Reference

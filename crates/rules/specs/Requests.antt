@@ -1,6 +1,5 @@
 -- The requests (document 01, 'What is built'), which of them break, and which start the first page ('Rows, pages, traps').
-use Rattle.std.specs.Prelude.{Bool, true, false, ◌||◌, List, [], ◌∷◌}
-use Rattle.std.proofs.Math.Option.{Option}
+use Rattle.std.specs.Prelude.{Bool, true, false, ◌||◌, List, [], ◌∷◌, Option}
 use Prim.Native.Char.{Char}
 use Rattle.rules.specs.Bytes.{byte, first_where, entry_of}
 use Rattle.rules.specs.Names.{two_bytes, same_name}

@@ -1,6 +1,5 @@
 -- Pieces of work that write rows: the move down, the trap that springs, breaks, sp, bp and the end (document 01, 'Rows, pages, traps').
-use Rattle.std.specs.Prelude.{Bool, true, false, List, [], ◌∷◌, ◌++◌, ℕ, zero, suc, ◌+◌, ◌-◌, leb, ltb, eqb, length, ℤ, pos, negsuc}
-use Rattle.std.proofs.Math.Option.{Option, none, some}
+use Rattle.std.specs.Prelude.{Bool, true, false, List, [], ◌∷◌, ◌++◌, ℕ, zero, suc, ◌+◌, ◌-◌, leb, ltb, eqb, length, ℤ, pos, negsuc, Option, None, Some}
 use Rattle.rules.specs.declared.Name.{Name}
 use Rattle.rules.specs.Bytes.{newline}
 use Rattle.rules.specs.Texts.{Text, text_of}
@@ -64,13 +63,13 @@ call t args held s = let k = reading t.name (lines_of t.kind t.bytes) args ∷ (
 
 -- "a name with no user text springs nothing"
 abbrev pub user_text : Option Name → List Text → Option Text
-user_text none ts = none
-user_text (some n) ts = text_of n ts
+user_text None ts = None
+user_text (Some n) ts = text_of n ts
 
 -- the text of a trap, if there is one, over what is held
 abbrev pub spring_text : Option Text → List Item → State → State
-spring_text none held s = with_stack (held ++ s.input.stack) s
-spring_text (some t) held s = call t [] held s
+spring_text None held s = with_stack (held ++ s.input.stack) s
+spring_text (Some t) held s = call t [] held s
 
 -- the trap at a row springs, if there is one, and what is held goes on after its macro
 unfoldable pub spring : (row : Down) → (held : List Item) → State → State
@@ -105,7 +104,7 @@ down n held s = reach (ltb (s.page.used + n) s.layout.page) (s.page.used + n) he
 
 -- the collected line is written, and what is held goes on after the trap that this springs
 unfoldable pub break : Collected → (held : List Item) → State → Next
-break c held s = works (broken_row s.layout c) (down 1 held (with_collected none s))
+break c held s = works (broken_row s.layout c) (down 1 held (with_collected None s))
 
 -- the rows from here to the nearest trap or the page end
 abbrev pub rows_below : State → Down
@@ -145,9 +144,9 @@ eject_last s = blank (rows_below s) [] s
 
 -- "The end breaks, then ejects"; "at row 0 with nothing collected it writes nothing, and where no page has started it starts none"
 abbrev pub end_from : Option Collected → (used : Down) → State → Next
-end_from (some c) r s = break c [] s
-end_from none zero s = goes (close done s)
-end_from none (suc r) s = eject_last s
+end_from (Some c) r s = break c [] s
+end_from None zero s = goes (close done s)
+end_from None (suc r) s = eject_last s
 
 -- the end begins
 unfoldable pub begin_end : State → Next

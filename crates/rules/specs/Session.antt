@@ -1,6 +1,5 @@
 -- One piece of work (document 01, 'A session'): "deal with the top of the input stack; else take one byte; else, if marked last, read the end".
-use Rattle.std.specs.Prelude.{Bool, true, false, ◌&&◌, List, [], ◌∷◌, ◌++◌, ℕ, suc, leb, ltb, eqb, length}
-use Rattle.std.proofs.Math.Option.{Option, none, some}
+use Rattle.std.specs.Prelude.{Bool, true, false, ◌&&◌, List, [], ◌∷◌, ◌++◌, ℕ, suc, leb, ltb, eqb, length, Option, None, Some}
 use Rattle.rules.specs.Printers.{Printer}
 use Rattle.rules.specs.Bytes.{newline}
 use Rattle.stream.specs.Machine.{asks, closed}
@@ -14,8 +13,8 @@ use Rattle.rules.specs.ControlLines.{deal, deal_again}
 
 -- "A finished text leaves the stack when the next line is asked for"; "8: a macro definition not ended when its input ends"
 abbrev pub leave : Option Definition → State → Next
-leave none s = goes s
-leave (some d) s = refuses 8 s
+leave None s = goes s
+leave (Some d) s = refuses 8 s
 
 -- The count of stored lines starts again with a source line, which begins with its first byte.
 abbrev pub begun_by : (gathered : List ℕ) → Input → Input
@@ -80,14 +79,14 @@ module _ (p : Printer) where
   -- nothing lies on the stack
   abbrev pub idle : (ended : Bool) → Option Definition → State → Next
   idle false d s = asks (λ b. take_byte b s) (read_end s)
-  idle true (some d) s = refuses 8 s
-  idle true none s = work_end s.page.last s
+  idle true (Some d) s = refuses 8 s
+  idle true None s = work_end s.page.last s
 
   -- "deal with the top of the input stack; else take one byte; else, if marked last, read the end"; "After done or refused (repeated)"
   abbrev pub step_from : Option Closing → List Item → State → Next
-  step_from (some a) k s = closed a
-  step_from none [] s = idle s.input.ended s.tables.opened s
-  step_from none (i ∷ k) s = work i (with_stack k s)
+  step_from (Some a) k s = closed a
+  step_from None [] s = idle s.input.ended s.tables.opened s
+  step_from None (i ∷ k) s = work i (with_stack k s)
 
   -- one piece of work, or what the formatter asks for
   unfoldable pub step : State → Next

@@ -1,6 +1,5 @@
 -- Settings (document 01: the ranges and the start under 'Refusal numbers', changes under 'Numbers', missing arguments under 'Lines and escapes').
-use Rattle.std.specs.Prelude.{Bool, true, false, ◌&&◌, ℕ, suc, leb, ℤ, pos, negsuc, ◌+ℤ◌}
-use Rattle.std.proofs.Math.Option.{Option, none}
+use Rattle.std.specs.Prelude.{Bool, true, false, ◌&&◌, ℕ, suc, leb, ℤ, pos, negsuc, ◌+ℤ◌, Option, None}
 use Rattle.rules.specs.Printers.{Printer}
 use Rattle.rules.specs.Refusals.{Judged, bad, judge}
 
@@ -51,7 +50,7 @@ start_layout p = record {
   indent = steady 0;
   offset = steady 0;
   page = p.page;
-  total = none;
+  total = None;
   filling = true;
   adjusting = true;
   centred = 0;

@@ -1,6 +1,5 @@
 -- The state between two pieces of work (document 01, 'A session'). It holds lists and live things only.
-use Rattle.std.specs.Prelude.{Bool, false, ◌||◌, List, [], ◌∷◌, ℕ, ◌*◌, pos}
-use Rattle.std.proofs.Math.Option.{Option, none, some}
+use Rattle.std.specs.Prelude.{Bool, false, ◌||◌, List, [], ◌∷◌, ℕ, ◌*◌, pos, Option, None, Some}
 use Rattle.rules.specs.declared.Name.{Name}
 use Rattle.rules.specs.Names.{same_name}
 use Rattle.rules.specs.Printers.{Printer}
@@ -73,16 +72,16 @@ pub record State : Type 0 where
 abbrev pub start : Printer → State
 start p = record {
   input = record { gathered = []; line = 0; ended = false; stored = 0; stack = [] };
-  tables = record { registers = []; texts = []; opened = none; traps = [] };
+  tables = record { registers = []; texts = []; opened = None; traps = [] };
   layout = start_layout p;
   page = no_page;
-  collected = none;
-  closing = none;
+  collected = None;
+  closing = None;
 }
 
 -- closed with an answer; "whatever is unread or collected" is lost
 abbrev pub close : Closing → State → State
-close v s = record { input = s.input; tables = s.tables; layout = s.layout; page = s.page; collected = none; closing = some v }
+close v s = record { input = s.input; tables = s.tables; layout = s.layout; page = s.page; collected = None; closing = Some v }
 
 -- a refusal: "number, source line from 1, for the end the last"; "A refusal drops the collected line"
 abbrev pub refuse : ℕ → State → State

@@ -1,6 +1,5 @@
 -- Parts of the state field by field, and each part set anew. Nothing of document 01 is said here. Assumes nothing.
-use Rattle.std.specs.Prelude.{Bool, List, ℕ}
-use Rattle.std.proofs.Math.Option.{Option}
+use Rattle.std.specs.Prelude.{Bool, List, ℕ, Option}
 use Rattle.rules.specs.declared.Register.{Register}
 use Rattle.rules.specs.declared.Trap.{Trap}
 use Rattle.rules.specs.Texts.{Text}

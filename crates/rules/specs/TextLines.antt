@@ -1,6 +1,5 @@
 -- What a text line does (document 01, 'Filling', and 'Rows, pages, traps' for what a trap interrupts). The line is expanded.
-use Rattle.std.specs.Prelude.{Bool, true, false, not, ◌||◌, List, [], ◌∷◌, ℕ, zero, suc, ◌-◌, leb, pos}
-use Rattle.std.proofs.Math.Option.{Option, none, some}
+use Rattle.std.specs.Prelude.{Bool, true, false, not, ◌||◌, List, [], ◌∷◌, ℕ, zero, suc, ◌-◌, leb, pos, Option, None, Some}
 use Rattle.stream.specs.Machine.{works}
 use Rattle.rules.specs.Settings.{Layout}
 use Rattle.rules.specs.LayoutSetters.{with_centred}
@@ -24,10 +23,10 @@ breaks_if false c = fills
 abbrev pub text_line_case : (page : ℕ) → List Word → Option Collected → (as_it_stands : Bool) → TextLineCase
 text_line_case zero ws c n = starts
 text_line_case (suc p) [] c n = emptyLine
-text_line_case (suc p) (w ∷ ws) none true = stands
-text_line_case (suc p) (w ∷ ws) none false = fills
-text_line_case (suc p) (w ∷ ws) (some c) true = breaks c
-text_line_case (suc p) (w ∷ ws) (some c) false = breaks_if (leads (w ∷ ws)) c
+text_line_case (suc p) (w ∷ ws) None true = stands
+text_line_case (suc p) (w ∷ ws) None false = fills
+text_line_case (suc p) (w ∷ ws) (Some c) true = breaks c
+text_line_case (suc p) (w ∷ ws) (Some c) false = breaks_if (leads (w ∷ ws)) c
 
 -- a line under nf or ce is written as it stands; ce counts it when its row is written
 abbrev pub as_it_stands : Layout → Bool
@@ -49,15 +48,15 @@ next_gap (w ∷ ws) g = 1
 
 -- the words that fitted, or the row that is full
 abbrev pub filled : Placed → ℕ → State → Next
-filled (all_placed c) g s = goes (with_collected (some (with_next g c)) s)
+filled (all_placed c) g s = goes (with_collected (Some (with_next g c)) s)
 filled (full c w ws) g s =
     works (full_row s.layout c)
-    (down 1 (others_of ws g) (with_collected (some (with_next (next_gap ws g) (begin s.layout w))) (with_layout (begun s.layout) s)))
+    (down 1 (others_of ws g) (with_collected (Some (with_next (next_gap ws g) (begin s.layout w))) (with_layout (begun s.layout) s)))
 
 -- words behind a collected line, or the first of a new one
 abbrev pub fill_from : Option Collected → Word → List Word → ℕ → State → Next
-fill_from none w ws g s = filled (place (begin s.layout w) ws) g (with_layout (begun s.layout) s)
-fill_from (some c) w ws g s = filled (place c (w ∷ ws)) g s
+fill_from None w ws g s = filled (place (begin s.layout w) ws) g (with_layout (begun s.layout) s)
+fill_from (Some c) w ws g s = filled (place c (w ∷ ws)) g s
 
 -- words are placed one by one; g is the gap that the line's ending asks for
 unfoldable pub fill : List Word → ℕ → State → Next
@@ -66,13 +65,13 @@ fill (w ∷ ws) g s = fill_from s.collected w ws g s
 
 -- "A line that, as expanded, has no bytes or only spaces acts as sp 1", its break too
 abbrev pub blank_from : Option Collected → State → Next
-blank_from none s = skip (pos 1) s
-blank_from (some c) s = break c (acts Sp [] ∷ []) s
+blank_from None s = skip (pos 1) s
+blank_from (Some c) s = break c (acts Sp [] ∷ []) s
 
 -- the gap before the first word of an input line
 abbrev pub gap_here : Option Collected → ℕ
-gap_here none = 0
-gap_here (some c) = c.next
+gap_here None = 0
+gap_here (Some c) = c.next
 
 -- what a text line does in each case
 abbrev pub text_way : TextLineCase → List Word → List ℕ → State → Next

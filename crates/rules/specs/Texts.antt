@@ -1,6 +1,5 @@
 -- Macros and strings (document 01, 'Lines and escapes' and 'Refusal numbers'). Assumes nothing.
-use Rattle.std.specs.Prelude.{true, false, ◌&&◌, List, [], ◌∷◌, ◌++◌, ℕ, suc, ◌+◌, leb, ltb, length}
-use Rattle.std.proofs.Math.Option.{Option}
+use Rattle.std.specs.Prelude.{true, false, ◌&&◌, List, [], ◌∷◌, ◌++◌, ℕ, suc, ◌+◌, leb, ltb, length, Option}
 use Rattle.rules.specs.Bytes.{newline, first_where}
 use Rattle.rules.specs.declared.Name.{Name}
 use Rattle.rules.specs.Names.{same_name}

@@ -1,6 +1,5 @@
 -- Rows, pages and traps (document 01, 'Rows, pages, traps').
-use Rattle.std.specs.Prelude.{Bool, true, false, ◌&&◌, List, [], ◌∷◌, ℕ, suc, ◌-◌, ltb, eqb, replicate, ℤ, pos, negsuc}
-use Rattle.std.proofs.Math.Option.{Option, none, some}
+use Rattle.std.specs.Prelude.{Bool, true, false, ◌&&◌, List, [], ◌∷◌, ℕ, suc, ◌-◌, ltb, eqb, replicate, ℤ, pos, negsuc, Option, None, Some}
 use Rattle.rules.specs.declared.Name.{Name}
 use Rattle.rules.specs.declared.Trap.{Trap}
 use Rattle.rules.specs.Bytes.{newline}
@@ -22,8 +21,8 @@ no_page = record { number = 0; used = 0; last = false }
 
 -- the row, if the trap is awake
 abbrev pub some_if : (awake : Bool) → Down → Option Down
-some_if true n = some n
-some_if false n = none
+some_if true n = Some n
+some_if false n = None
 
 -- the row of a trap on a page of pl rows: "negative ones counted up from the page end"; "Traps outside rows 0 to pl-1 sleep"
 abbrev pub row_of : (pl : Down) → ℤ → Option Down
@@ -32,13 +31,13 @@ row_of pl (negsuc n) = some_if (ltb n pl) (pl - suc n)
 
 -- whether a trap stands at a row
 abbrev pub is_row : Down → Option Down → Bool
-is_row r none = false
-is_row r (some n) = eqb r n
+is_row r None = false
+is_row r (Some n) = eqb r n
 
 -- "of two at one row the earlier planted is seen"
 unfoldable pub seen_at : (pl row : Down) → List Trap → Option Name
-seen_at pl r [] = none
-seen_at pl r (t ∷ ts) = elim (is_row r (row_of pl t.place.0)) [ true ↦ some t.name | false ↦ seen_at pl r ts ]
+seen_at pl r [] = None
+seen_at pl r (t ∷ ts) = elim (is_row r (row_of pl t.place.0)) [ true ↦ Some t.name | false ↦ seen_at pl r ts ]
 
 -- "The nearest trap": the first row below this one that has a trap, or else the row `best`
 abbrev pub lower : Bool → Down → Down → Down
@@ -47,8 +46,8 @@ lower false n best = best
 
 -- the row of a trap, if it is nearer than the best so far
 abbrev pub nearer : (row : Down) → Option Down → (best : Down) → Down
-nearer r none best = best
-nearer r (some n) best = lower (ltb r n && ltb n best) n best
+nearer r None best = best
+nearer r (Some n) best = lower (ltb r n && ltb n best) n best
 
 -- the nearest of the traps below a row
 unfoldable pub nearest_trap : (pl row best : Down) → List Trap → Down

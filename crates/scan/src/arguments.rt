@@ -3,7 +3,7 @@ ghost use Rattle.rules.specs.Arguments.{bare, quoted};
 ghost use Rattle.scan.specs.Arguments.Parting.{Spaces, WordEnds, quote_at, UnreadRoom, Parted, ArgumentTaken, PartedAll};
 ghost use Rattle.std.specs.Prelude.{◌≡◌, ◌-◌, ◌≤◌, length};
 
-use rules::arrays::{ArgumentEnds, LineBytes};
+use rules::arrays::{ARGUMENT_COUNT, ArgumentEnds, LineBytes};
 
 // Where a line goes on, and how many bytes have been written.
 #[derive(Clone, Copy)]
@@ -12,26 +12,17 @@ pub struct Cut {
     pub written: usize,
 }
 
-// The next argument of a line, if it has one.
-#[derive(Clone, Copy)]
-pub enum Argument {
-    There(Cut),
-    Nothing,
-}
-
 // The place behind the spaces that stand at a place.
 pub fn skip_spaces(line: &[u8], at: usize) -> usize
     requires { at ≤ length line.now }
     ensures { Spaces line.now at result }
 {
-    let mut i = at;
-    while i < line.len() {
+    for i in at..line.len() {
         if line[i] != b' ' {
             return i;
         }
-        i += 1;
     }
-    i
+    line.len()
 }
 
 // The place of the first space from a place on, or the end of the line.
@@ -39,25 +30,19 @@ pub fn word_end(line: &[u8], at: usize) -> usize
     requires { at ≤ length line.now }
     ensures { WordEnds line.now at result }
 {
-    let mut i = at;
-    while i < line.len() {
+    for i in at..line.len() {
         if line[i] == b' ' {
             return i;
         }
-        i += 1;
     }
-    i
+    line.len()
 }
 
 // Whether a double quote stands at a place.
 fn quote_at(line: &[u8], at: usize) -> bool
     ensures { result ≡ quote_at line.now at }
 {
-    if at < line.len() {
-        line[at] == b'"'
-    } else {
-        false
-    }
+    line.get(at) == Some(&b'"')
 }
 
 // The argument that begins here without a quote.
@@ -65,21 +50,22 @@ fn bare_argument(line: &[u8], at: usize, out: &mut LineBytes, written: usize) ->
     requires { UnreadRoom line.now at out.old written }
     ensures { Parted bare line.now at out.old written result out.new }
 {
-    let mut i = at;
     let mut w = written;
-    while i < line.len() {
-        let b = line[i];
-        if b == b' ' {
+    for i in at..line.len() {
+        if line[i] == b' ' {
             return Cut { at: i, written: w };
         }
-        out[w] = b;
+        out[w] = line[i];
         w += 1;
-        i += 1;
     }
-    Cut { at: i, written: w }
+    Cut {
+        at: line.len(),
+        written: w,
+    }
 }
 
 // The argument behind a quote, up to the next lone one; two quotes inside are one.
+// A while: a turn passes one byte or two, and writes one.
 fn quoted_argument(line: &[u8], at: usize, out: &mut LineBytes, written: usize) -> Cut
     requires { UnreadRoom line.now at out.old written }
     ensures { Parted quoted line.now at out.old written result out.new }
@@ -109,18 +95,18 @@ fn quoted_argument(line: &[u8], at: usize, out: &mut LineBytes, written: usize) 
 }
 
 // The next argument of a line, written behind what is written.
-pub fn next_argument(line: &[u8], at: usize, out: &mut LineBytes, written: usize) -> Argument
+pub fn next_argument(line: &[u8], at: usize, out: &mut LineBytes, written: usize) -> Option<Cut>
     requires { UnreadRoom line.now at out.old written }
     ensures { ArgumentTaken line.now at out.old written result out.new }
 {
     let i = skip_spaces(line, at);
     if i == line.len() {
-        return Argument::Nothing;
+        return None;
     }
     if line[i] == b'"' {
-        return Argument::There(quoted_argument(line, i + 1, &mut *out, written));
+        return Some(quoted_argument(line, i + 1, &mut *out, written));
     }
-    Argument::There(bare_argument(line, i, &mut *out, written))
+    Some(bare_argument(line, i, &mut *out, written))
 }
 
 // The arguments of a line, "past nine are dropped": their bytes one after the other, where each ends, and how many there are.
@@ -128,21 +114,15 @@ pub fn arguments(line: &[u8], at: usize, out: &mut LineBytes, ends: &mut Argumen
     requires { UnreadRoom line.now at out.old 0 × (length ends.old ≡ 9) }
     ensures { PartedAll line.now at result out.new ends.new }
 {
-    let mut count = 0;
     let mut i = at;
     let mut w = 0;
-    while count < 9 {
-        match next_argument(line, i, &mut *out, w) {
-            Argument::There(cut) => {
-                ends[count] = cut.written as u16;
-                w = cut.written;
-                i = cut.at;
-                count += 1;
-            }
-            Argument::Nothing => {
-                return count;
-            }
-        }
+    for count in 0..ARGUMENT_COUNT {
+        let Some(cut) = next_argument(line, i, &mut *out, w) else {
+            return count;
+        };
+        ends[count] = cut.written as u16;
+        w = cut.written;
+        i = cut.at;
     }
-    count
+    ARGUMENT_COUNT
 }

@@ -1,3 +1,5 @@
+#![tactic(auto, using(crate::proofs::output::Places::unread, crate::proofs::output::Places::nothing), unfolding(crate::specs::Escapes::Readings::escape_of, rules::specs::Escapes::action_of, rules::specs::Bytes::first_where))]
+
 // An escape is read: what it leads to, and the place after it.
 ghost use Rattle.std.specs.Prelude.{◌-◌, ◌≤◌, length};
 ghost use Rattle.rules.specs.declared.Mode.TheVariants.{Plain, Copy};
@@ -7,7 +9,8 @@ ghost use Rattle.scan.specs.Escapes.Readings.{lone, ReadingIs, ReadingIn, Naming
 use rules::{FIXED_BLANK, MARK, Mode, Name, Turn};
 
 // What an escape leads to: a byte is written, or a backslash and a byte; a register is shown, a string is read, an
-// argument is given, counted from 0; the line ends; or the escape is not listed, or cut short.
+// argument is given, counted from 0; the line ends; or the escape is not listed, or cut short. That one is no error yet:
+// its bytes are counted first, and may be too many.
 #[derive(Clone, Copy)]
 pub enum EscapeAction {
     Writes(u8),
@@ -26,11 +29,11 @@ pub struct Reading {
     pub what: EscapeAction,
 }
 
-// The name of a register or a string, and the place after it; or the text ends there.
+// The name of a register or a string, if the text does not end in it, and the place after what was read.
 #[derive(Clone, Copy)]
-enum Naming {
-    Named(usize, Name),
-    Cut(usize),
+struct Naming {
+    end: usize,
+    name: Option<Name>,
 }
 
 // A name of one byte, or after a parenthesis one of two.
@@ -39,38 +42,45 @@ fn name_at(text: &[u8], at: usize) -> Naming
     ensures { NamingIs text.now at result }
 {
     if text.len() <= at {
-        return Naming::Cut(at);
+        return Naming {
+            end: at,
+            name: None,
+        };
     }
     let first = text[at];
     if first != b'(' {
-        return Naming::Named(at + 1, Name { first, second: 0 });
+        return Naming {
+            end: at + 1,
+            name: Some(Name { first, second: 0 }),
+        };
     }
-    let left = text.len() - at;
-    if left < 3 {
-        return Naming::Cut(text.len());
+    if text.len() - at < 3 {
+        return Naming {
+            end: text.len(),
+            name: None,
+        };
     }
-    Naming::Named(
-        at + 3,
-        Name {
+    Naming {
+        end: at + 3,
+        name: Some(Name {
             first: text[at + 1],
             second: text[at + 2],
-        },
-    )
+        }),
+    }
 }
 
-// The name of a register that steps so.
+// The name of a register that steps so. Apart from string_at: the two make different actions of a name, and one function
+// for both would need an enum of them.
 fn number_at(text: &[u8], at: usize, turn: Turn) -> Reading
     requires { at ≤ length text.now }
     ensures { ReadingIn (naming (number turn)) text.now at result }
 {
-    match name_at(text, at) {
-        Naming::Named(end, name) => Reading {
-            end,
-            what: EscapeAction::Number(turn, name),
-        },
-        Naming::Cut(end) => Reading {
-            end,
-            what: EscapeAction::Bad,
+    let naming = name_at(text, at);
+    Reading {
+        end: naming.end,
+        what: match naming.name {
+            Some(name) => EscapeAction::Number(turn, name),
+            None => EscapeAction::Bad,
         },
     }
 }
@@ -80,14 +90,12 @@ fn string_at(text: &[u8], at: usize) -> Reading
     requires { at ≤ length text.now }
     ensures { ReadingIn (naming a_string) text.now at result }
 {
-    match name_at(text, at) {
-        Naming::Named(end, name) => Reading {
-            end,
-            what: EscapeAction::Text(name),
-        },
-        Naming::Cut(end) => Reading {
-            end,
-            what: EscapeAction::Bad,
+    let naming = name_at(text, at);
+    Reading {
+        end: naming.end,
+        what: match naming.name {
+            Some(name) => EscapeAction::Text(name),
+            None => EscapeAction::Bad,
         },
     }
 }
@@ -124,23 +132,15 @@ fn argument_at(text: &[u8], at: usize) -> Reading
             what: EscapeAction::Bad,
         };
     }
-    let digit = text[at];
-    if digit < b'1' {
-        return Reading {
+    match text[at] {
+        digit @ b'1'..=b'9' => Reading {
+            end: at + 1,
+            what: EscapeAction::Gives(usize::from(digit - b'1')),
+        },
+        _ => Reading {
             end: at + 1,
             what: EscapeAction::Bad,
-        };
-    }
-    if b'9' < digit {
-        return Reading {
-            end: at + 1,
-            what: EscapeAction::Bad,
-        };
-    }
-    let k = (digit - b'1') as usize;
-    Reading {
-        end: at + 1,
-        what: EscapeAction::Gives(k),
+        },
     }
 }
 
@@ -158,11 +158,7 @@ fn plain_at(text: &[u8], at: usize) -> Reading
     }
     let next = at + 1;
     match text[at] {
-        b'\\' => Reading {
-            end: next,
-            what: EscapeAction::Writes(92),
-        },
-        b'e' => Reading {
+        b'\\' | b'e' => Reading {
             end: next,
             what: EscapeAction::Writes(92),
         },

@@ -5,6 +5,7 @@ use mathlib.Core.List.{List}
 use Prim.Native.Nat.{ℕ}
 use native.Mathlib.Omega.{arith}
 use lib.ListN.{length}
+use Rattle.std.specs.Prelude.{Option, Some, None}
 use Rattle.stream.specs.declared.Answer.{Answer}
 use Rattle.stream.specs.declared.Answer.TheVariants as answer
 use Rattle.stream.specs.Answers.{done, refused}
@@ -20,8 +21,6 @@ use Rattle.record.specs.declared.Reply.{Reply}
 use Rattle.record.specs.declared.Waiting.{Waiting}
 use Rattle.record.specs.declared.Closing.{Closing}
 use Rattle.record.specs.declared.Closing.TheVariants.{Open, Done, Refused}
-use Rattle.record.specs.declared.Stop.{Stop}
-use Rattle.record.specs.declared.Stop.TheVariants.{Goes}
 use Rattle.record.specs.View.{sourced, closed_as, whole_in, ValidRecord}
 use Rattle.record.specs.Contract.{Closes}
 use Rattle.record.specs.Turns.{TurnReady, RunContract}
@@ -137,7 +136,7 @@ module _ (r : Record) (st bl : List ℕ) (last : Bool) (out : List ℕ) (l : Val
       })
 
   -- a call on any other record within its limits
-  pub call_served : (s : Stop) → EndsWith s r.closing r.waiting → s ≡ Goes → (p : Reply) (st' out' : List ℕ)
+  pub call_served : (s : Option Answer) → EndsWith s r.closing r.waiting → s ≡ None → (p : Reply) (st' out' : List ℕ)
       → RunContract r st bl last out p st' out' → CallContract r st bl last out p st' out'
   call_served s h e p st' out' d =
       served l d.does d.through (λ a k. absurd (subst (λ v. EndsWith v r.closing r.waiting) e h a k.closes k.none))

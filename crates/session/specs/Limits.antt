@@ -1,5 +1,5 @@
 -- Whether a record keeps its limits, and whether it is closed. Assumes nothing.
-use Rattle.std.specs.Prelude.{◌≡◌, Bool, true, false, List, ℕ, ◌≤◌, length}
+use Rattle.std.specs.Prelude.{◌≡◌, Option, Some, None, Bool, true, false, List, ℕ, ◌≤◌, length}
 use Rattle.stream.specs.declared.Answer.{Answer}
 use Rattle.limits.specs.Within.{Refusal}
 use Rattle.source_line.specs.declared.Source.{Source}
@@ -10,8 +10,6 @@ use Rattle.record.specs.declared.Record.{Record}
 use Rattle.record.specs.declared.Waiting.{Waiting}
 use Rattle.record.specs.declared.Closing.{Closing}
 use Rattle.record.specs.declared.Closing.TheVariants.{Open, Done, Refused}
-use Rattle.record.specs.declared.Stop.{Stop}
-use Rattle.record.specs.declared.Stop.TheVariants.{Goes, With}
 use Rattle.record.specs.View.{most_lines, ValidRecord}
 use Rattle.record.specs.Contract.{Closes}
 
@@ -26,9 +24,9 @@ pub record ArrayLengths (r : Record) : Type 0 where
   pub numbers : registers.NumberColumns r.values r.steps
 
 -- the answer of a session that is closed and for which nothing waits, or that there is none
-abbrev pub EndsWith : Stop → Closing → Waiting → Type 0
-EndsWith Goes c w = (a : Answer) → Closes c a → w.at ≡ w.end → ⊥
-EndsWith (With a) c w = Closes c a × (w.at ≡ w.end)
+abbrev pub EndsWith : Option Answer → Closing → Waiting → Type 0
+EndsWith None c w = (a : Answer) → Closes c a → w.at ≡ w.end → ⊥
+EndsWith (Some a) c w = Closes c a × (w.at ≡ w.end)
 
 -- a session that is not closed
 abbrev pub is_open : Closing → Bool

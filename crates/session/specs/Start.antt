@@ -1,5 +1,5 @@
 -- The starting record. Assumes nothing.
-use Rattle.std.specs.Prelude.{◌≡◌, refl, true, false, List, ℕ, length, replicate, ℤ, pos}
+use Rattle.std.specs.Prelude.{◌≡◌, None, refl, true, false, List, ℕ, length, replicate, ℤ, pos}
 use Rattle.std.proofs.Common.{sym, subst, arith}
 use Rattle.std.proofs.lemmas.List.{length-replicate}
 use Rattle.measure.specs.Counts.{cells_across, rows_down}
@@ -10,7 +10,6 @@ use Rattle.rules.specs.Pages.{pages}
 use Rattle.limits.specs.Within.{Within, ten_within}
 use Rattle.settings.specs.declared.lengths.Setting.{Setting}
 use Rattle.settings.specs.declared.layout.Layout.{Layout}
-use Rattle.settings.specs.declared.layout.Total.TheVariants as total
 use Rattle.settings.specs.Layout.Layouts.{layout_of, LayoutInvariant}
 use Rattle.traps.specs.Table.Table.{empty_table}
 use Rattle.input_stack.specs.Stack.Frames.{no_frames, frames_to}
@@ -31,7 +30,7 @@ steady_setting n = record { now = cells_across n; former = cells_across n }
 
 -- "Start: ll 65, in 0, po 0, pl 66, filling and adjusting on"
 abbrev pub first_layout : Layout
-first_layout = record { line = steady_setting 65; indent = steady_setting 0; offset = steady_setting 0; page = rows_down 66; total = total.Nothing; filling = true; adjusting = true; centred = 0 }
+first_layout = record { line = steady_setting 65; indent = steady_setting 0; offset = steady_setting 0; page = rows_down 66; total = None; filling = true; adjusting = true; centred = 0 }
 
 -- no page, no collected line, no trap, nothing on the stack, no text and no register
 abbrev pub first_status : Status

@@ -12,13 +12,13 @@ ghost use Rattle.record.specs.declared.Record.{Record};
 
 use measure::{Cells, Rows};
 use page::position::Page;
-use record::{Closing, Ran, Record, RecordCore, Reply, Stop, Waiting};
+use record::{Closing, Ran, Record, RecordCore, Reply, Waiting};
 use rules::Name;
 use rules::arrays::{
     ByteColumn, LINE_SIZE, LengthColumn, LineBytes, NumberColumn, ROW_SIZE, RowBytes, STACK_SIZE,
     STACK_WORDS, StackBytes, StackEnds, TABLE_SIZE,
 };
-use settings::layout::{Layout, Total};
+use settings::layout::Layout;
 use settings::lengths::Setting;
 use source_line::Source;
 use state::{Opening, Status};
@@ -41,7 +41,7 @@ fn first_layout() -> Layout
         indent: none,
         offset: none,
         page: Rows(66),
-        total: Total::Nothing,
+        total: None,
         filling: true,
         adjusting: true,
         centred: 0,
@@ -111,15 +111,11 @@ fn recorded(
 ) -> Record
     ensures { result ≡ record_of place gathered cells row arena ends text_firsts text_seconds kinds lengths firsts seconds values steps }
 {
-    let status = place.status;
-    let source = place.source;
-    let waiting = place.waiting;
-    let closing = place.closing;
     Record {
-        status,
-        source,
-        waiting,
-        closing,
+        status: place.status,
+        source: place.source,
+        waiting: place.waiting,
+        closing: place.closing,
         gathered,
         cells,
         row,
@@ -158,18 +154,14 @@ pub fn start() -> Record
     )
 }
 
-// The answer of a session that is closed, if nothing waits any more.
-fn ended(closing: Closing, waiting: Waiting) -> Stop
+// The answer of a session, if it is closed and nothing waits any more.
+fn ended(closing: Closing, waiting: Waiting) -> Option<Answer>
     ensures { EndsWith result closing waiting }
 {
     if waiting.at != waiting.end {
-        return Stop::Goes;
+        return None;
     }
-    match closing {
-        Closing::Open => Stop::Goes,
-        Closing::Done => Stop::With(Answer::Done),
-        Closing::Refused(n, line) => Stop::With(Answer::Refused(n, line)),
-    }
+    record::closed(closing)
 }
 
 // "12: past 1,000,000 source lines"
@@ -177,9 +169,8 @@ fn last_line(closing: Closing) -> u32
     ensures { result ≡ most_lines closing }
 {
     match closing {
-        Closing::Open => 1000000,
-        Closing::Done => 1000001,
-        Closing::Refused(n, line) => 1000001,
+        Closing::Open => 1_000_000,
+        Closing::Done | Closing::Refused(..) => 1_000_001,
     }
 }
 
@@ -187,11 +178,7 @@ fn last_line(closing: Closing) -> u32
 fn is_open(closing: Closing) -> bool
     ensures { result ≡ is_open closing }
 {
-    match closing {
-        Closing::Open => true,
-        Closing::Done => false,
-        Closing::Refused(n, line) => false,
-    }
+    matches!(closing, Closing::Open)
 }
 
 // "first refusal (2 to 12)": a closing refusal is one of these, at the source line.
@@ -199,17 +186,8 @@ fn is_answered(closing: Closing, line: u32) -> bool
     ensures { AnsweredJudged result closing line }
 {
     match closing {
-        Closing::Open => true,
-        Closing::Done => true,
-        Closing::Refused(n, at) => {
-            if n < 2 {
-                return false;
-            }
-            if n > 12 {
-                return false;
-            }
-            at == line
-        }
+        Closing::Open | Closing::Done => true,
+        Closing::Refused(number, at) => (2..=12).contains(&number) && at == line,
     }
 }
 
@@ -217,22 +195,12 @@ fn is_answered(closing: Closing, line: u32) -> bool
 fn is_placed(source: Source, waiting: Waiting, closing: Closing) -> bool
     ensures { CoreJudged result source waiting closing }
 {
-    if source.length > LINE_SIZE {
-        return false;
-    }
-    if source.line > last_line(closing) {
-        return false;
-    }
-    if source.stored > 10000 {
-        return false;
-    }
-    if waiting.at > waiting.end {
-        return false;
-    }
-    if waiting.end > ROW_SIZE {
-        return false;
-    }
-    is_answered(closing, source.line)
+    source.length <= LINE_SIZE
+        && source.line <= last_line(closing)
+        && source.stored <= 10_000
+        && waiting.at <= waiting.end
+        && waiting.end <= ROW_SIZE
+        && is_answered(closing, source.line)
 }
 
 // Whether the parts of a record and a store keep their limits.
@@ -256,15 +224,11 @@ pub fn is_valid(
     requires { let q : Record = record_of place gathered.now cells.now row.now arena.now ends.now text_firsts.now text_seconds.now kinds.now lengths.now firsts.now seconds.now values.now steps.now in ArrayLengths q }
     ensures { let q : Record = record_of place gathered.now cells.now row.now arena.now ends.now text_firsts.now text_seconds.now kinds.now lengths.now firsts.now seconds.now values.now steps.now in ValidJudged result q store.now }
 {
-    let status = place.status;
-    let source = place.source;
-    let waiting = place.waiting;
-    let closing = place.closing;
-    if !is_placed(source, waiting, closing) {
+    if !is_placed(place.source, place.waiting, place.closing) {
         return false;
     }
     if !record_checks::soundness::is_sound(
-        status,
+        place.status,
         store.len(),
         ends,
         text_firsts,
@@ -276,11 +240,11 @@ pub fn is_valid(
         return false;
     }
     record_checks::state_limits::is_within(
-        status,
-        is_open(closing),
+        place.status,
+        is_open(place.closing),
         ends,
         gathered,
-        source.length,
+        place.source.length,
         text_firsts,
         text_seconds,
         values,
@@ -312,17 +276,14 @@ pub fn serve(
     requires { let q : Record = record_of place gathered.old cells.old row.old arena.old ends.old text_firsts.old text_seconds.old kinds.old lengths.old firsts.old seconds.old values.old steps.old in ValidRecord q store.old }
     ensures { let q : Record = record_of place gathered.old cells.old row.old arena.old ends.old text_firsts.old text_seconds.old kinds.old lengths.old firsts.old seconds.old values.old steps.old in CallContract q store.old block.now last out.old (reply_from result (record_of result.place gathered.new cells.new row.new arena.new ends.new text_firsts.new text_seconds.new kinds.new lengths.new firsts.new seconds.new values.new steps.new)) store.new out.new }
 {
-    let closing = place.closing;
-    let waiting = place.waiting;
-    let stop = ended(closing, waiting);
-    match stop {
-        Stop::With(answer) => Ran {
+    match ended(place.closing, place.waiting) {
+        Some(answer) => Ran {
             answer,
             place,
             taken: 0,
             written: 0,
         },
-        Stop::Goes => call_loop::run(
+        None => call_loop::run(
             block,
             last,
             place,
@@ -419,10 +380,12 @@ pub fn call_parts(
 pub fn call(session: Record, store: &mut [u8], block: &[u8], last: bool, out: &mut [u8]) -> Reply
     ensures { CallContract session store.old block.now last out.old result store.new out.new }
 {
-    let status = session.status;
-    let source = session.source;
-    let waiting = session.waiting;
-    let closing = session.closing;
+    let start = RecordCore {
+        status: session.status,
+        source: session.source,
+        waiting: session.waiting,
+        closing: session.closing,
+    };
     let mut gathered = session.gathered;
     let mut cells = session.cells;
     let mut row = session.row;
@@ -436,12 +399,6 @@ pub fn call(session: Record, store: &mut [u8], block: &[u8], last: bool, out: &m
     let mut seconds = session.seconds;
     let mut values = session.values;
     let mut steps = session.steps;
-    let start = RecordCore {
-        status,
-        source,
-        waiting,
-        closing,
-    };
     let ran = call_parts(
         block,
         last,
@@ -462,14 +419,12 @@ pub fn call(session: Record, store: &mut [u8], block: &[u8], last: bool, out: &m
         &mut values,
         &mut steps,
     );
-    let place = ran.place;
-    let answer = ran.answer;
     Reply {
-        answer,
+        answer: ran.answer,
         taken: ran.taken,
         written: ran.written,
         next: recorded(
-            place,
+            ran.place,
             gathered,
             cells,
             row,

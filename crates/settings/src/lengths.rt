@@ -3,127 +3,77 @@ ghost use Rattle.std.specs.Prelude.{◌≡◌};
 ghost use Rattle.measure.specs.Pitches.{Sized};
 ghost use Rattle.measure.specs.Counts.{across_of, down_of};
 ghost use Rattle.rules.specs.Numbers.{signed};
+ghost use Rattle.rules.specs.Results.{judged, judged_by};
 ghost use Rattle.rules.specs.Settings.{in_range, page_range, changed as changed_of};
-ghost use Rattle.settings.specs.Lengths.Views.{count_is, setting_of, new_setting_is, range_of, setting_in, new_rows_is, page_length_in, new_total_is, total_in};
-ghost use Rattle.rules.specs.Refusals.{value};
+ghost use Rattle.settings.specs.Lengths.Views.{setting_of, range_of, setting_in, page_length_in, total_in};
 
 use measure::{Cells, Pitch, Rows};
-use number::scales::{MaybeCells, MaybeRows};
+use rules::Refusal;
 
 // A setting, and the value before the last setting.
-#[derive(Clone, Copy)]
+#[derive(Clone, Copy, Debug, PartialEq, Eq)]
 pub struct Setting {
     pub now: Cells,
     pub former: Cells,
 }
 
 // The lengths that are set in cells, each with the value before the last setting: ll, in and po.
-#[derive(Clone, Copy)]
+#[derive(Clone, Copy, Debug, PartialEq, Eq)]
 pub enum Length {
     Line,
     Indent,
     Offset,
 }
 
-// A new setting, or why there is none: the number is malformed, or the value is out of range.
-#[derive(Clone, Copy)]
-pub enum NewSetting {
-    Is(Setting),
-    Malformed,
-    OutOfRange,
-}
-
-// A new page length, or why there is none.
-#[derive(Clone, Copy)]
-pub enum NewRows {
-    Is(Rows),
-    Malformed,
-    OutOfRange,
-}
-
-// A new ti total, or why there is none.
-#[derive(Clone, Copy)]
-pub enum NewTotal {
-    Is(Cells),
-    Malformed,
-    OutOfRange,
-}
-
-// A count within a range, or a value outside it.
-#[derive(Clone, Copy)]
-pub enum Count {
-    Is(u16),
-    Out,
-}
-
 // "7: value out of range"
-fn count_within(value: i64, low: u16, high: u16) -> Count
-    ensures { count_is result ≡ in_range low high value }
+fn count_within(value: i64, low: u16, high: u16) -> Result<u16, Refusal>
+    ensures { judged result ≡ in_range low high value }
 {
-    if value < 0 {
-        return Count::Out;
+    if !(i64::from(low)..=i64::from(high)).contains(&value) {
+        return Err(Refusal::OutOfRange);
     }
-    let n = value as u64;
-    if n < low as u64 {
-        return Count::Out;
-    }
-    if (high as u64) < n {
-        return Count::Out;
-    }
-    Count::Is(n as u16)
+    Ok(value as u16)
 }
 
 // "a leading sign marks a change to the old value by the whole expression"
-fn changed(signed: bool, old: u32, value: i32) -> i64
-    ensures { result ≡ changed_of signed old value }
+fn changed(argument: &[u8], old: u32, value: i32) -> i64
+    ensures { result ≡ changed_of (signed argument.now) old value }
 {
-    if signed {
-        return old as i64 + value as i64;
+    if number::scales::signed(argument) {
+        return i64::from(old) + i64::from(value);
     }
-    value as i64
-}
-
-// A count from the value of an argument and the old count.
-fn count_from(argument: &[u8], value: i32, old: u32, low: u16, high: u16) -> Count
-    ensures { count_is result ≡ in_range low high (changed_of (signed argument.now) old value) }
-{
-    count_within(
-        changed(number::scales::signed(argument), old, value),
-        low,
-        high,
-    )
+    i64::from(value)
 }
 
 // ll, in and po with an argument or without.
-fn set(old: Setting, argument: &[u8], pitch: Pitch, low: u16, high: u16) -> NewSetting
+fn set(old: Setting, argument: &[u8], pitch: Pitch, low: u16, high: u16) -> Result<Setting, Refusal>
     requires { Sized pitch }
-    ensures { new_setting_is result ≡ setting_in pitch (in_range low high) (setting_of old) argument.now }
+    ensures { judged_by setting_of result ≡ setting_in pitch (in_range low high) (setting_of old) argument.now }
 {
-    let now = old.now;
-    let former = old.former;
-    if argument.len() == 0 {
-        return NewSetting::Is(Setting {
-            now: former,
-            former: now,
+    if argument.is_empty() {
+        return Ok(Setting {
+            now: old.former,
+            former: old.now,
         });
     }
-    let before = measure::across(now);
-    match number::scales::cells(argument, pitch) {
-        MaybeCells::Are(cells) => match count_from(argument, cells.0, before, low, high) {
-            Count::Is(n) => NewSetting::Is(Setting {
-                now: measure::cells_across(n),
-                former: now,
-            }),
-            Count::Out => NewSetting::OutOfRange,
-        },
-        MaybeCells::Bad => NewSetting::Malformed,
-    }
+    let cells = number::scales::cells(argument, pitch)?;
+    let value = changed(argument, measure::across(old.now), cells.0);
+    let count = count_within(value, low, high)?;
+    Ok(Setting {
+        now: measure::cells_across(count),
+        former: old.now,
+    })
 }
 
 // One of the three lengths: "ll 1 to 240 cells, in .. 0 to 239, po 0 to 120".
-pub fn set_length(which: Length, old: Setting, argument: &[u8], pitch: Pitch) -> NewSetting
+pub fn set_length(
+    which: Length,
+    old: Setting,
+    argument: &[u8],
+    pitch: Pitch,
+) -> Result<Setting, Refusal>
     requires { Sized pitch }
-    ensures { new_setting_is result ≡ setting_in pitch (range_of which) (setting_of old) argument.now }
+    ensures { judged_by setting_of result ≡ setting_in pitch (range_of which) (setting_of old) argument.now }
 {
     match which {
         Length::Line => set(old, argument, pitch, 1, 240),
@@ -133,64 +83,41 @@ pub fn set_length(which: Length, old: Setting, argument: &[u8], pitch: Pitch) ->
 }
 
 // "pl 1 to 500 rows and above the rows already used on the page"
-fn count_above(value: i64, used: u32) -> Count
-    ensures { count_is result ≡ page_range used value }
+fn count_above(value: i64, used: u32) -> Result<u16, Refusal>
+    ensures { judged result ≡ page_range used value }
 {
+    // before the range is tested: a row more may not fit a u16
     if 500 <= used {
-        return Count::Out;
+        return Err(Refusal::OutOfRange);
     }
     count_within(value, (used + 1) as u16, 500)
 }
 
 // A page length, above the rows used.
-pub fn page_count(value: i64, used: Rows) -> Count
-    ensures { count_is result ≡ page_range (down_of used) value }
+pub fn page_count(value: i64, used: Rows) -> Result<u16, Refusal>
+    ensures { judged result ≡ page_range (down_of used) value }
 {
     count_above(value, measure::down(used))
 }
 
-// A page length from the value of an argument and the old one.
-fn page_within(argument: &[u8], value: i32, used: u32, old: u32) -> Count
-    ensures { count_is result ≡ page_range used (changed_of (signed argument.now) old value) }
-{
-    count_above(changed(number::scales::signed(argument), old, value), used)
-}
-
 // pl, with an argument.
-pub fn page_length(used: Rows, old: Rows, argument: &[u8], pitch: Pitch) -> NewRows
+pub fn page_length(used: Rows, old: Rows, argument: &[u8], pitch: Pitch) -> Result<Rows, Refusal>
     requires { Sized pitch }
-    ensures { new_rows_is result ≡ page_length_in pitch (down_of used) (down_of old) argument.now }
+    ensures { judged_by down_of result ≡ page_length_in pitch (down_of used) (down_of old) argument.now }
 {
-    match number::scales::rows(argument, pitch) {
-        MaybeRows::Are(rows) => match page_within(
-            argument,
-            rows.0,
-            measure::down(used),
-            measure::down(old),
-        ) {
-            Count::Is(n) => NewRows::Is(measure::rows_down(n)),
-            Count::Out => NewRows::OutOfRange,
-        },
-        MaybeRows::Bad => NewRows::Malformed,
-    }
+    let rows = number::scales::rows(argument, pitch)?;
+    let value = changed(argument, measure::down(old), rows.0);
+    let count = page_count(value, used)?;
+    Ok(measure::rows_down(count))
 }
 
 // ti, with an argument: "for ti the old value is the indent at that moment, an unsigned ti is the total itself"
-pub fn indent_total(argument: &[u8], indent: Cells, pitch: Pitch) -> NewTotal
+pub fn indent_total(argument: &[u8], indent: Cells, pitch: Pitch) -> Result<Cells, Refusal>
     requires { Sized pitch }
-    ensures { new_total_is result ≡ total_in pitch (across_of indent) argument.now }
+    ensures { judged_by across_of result ≡ total_in pitch (across_of indent) argument.now }
 {
-    match number::scales::cells(argument, pitch) {
-        MaybeCells::Are(cells) => match count_from(
-            argument,
-            cells.0,
-            measure::across(indent),
-            0,
-            239,
-        ) {
-            Count::Is(n) => NewTotal::Is(measure::cells_across(n)),
-            Count::Out => NewTotal::OutOfRange,
-        },
-        MaybeCells::Bad => NewTotal::Malformed,
-    }
+    let cells = number::scales::cells(argument, pitch)?;
+    let value = changed(argument, measure::across(indent), cells.0);
+    let count = count_within(value, 0, 239)?;
+    Ok(measure::cells_across(count))
 }

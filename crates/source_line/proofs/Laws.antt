@@ -1,19 +1,21 @@
 -- A line that is gathered, a byte at a time, and bytes that are copied. Assumes nothing.
 use mathlib.Core.Path.{◌≡◌, refl, sym, ap, ◌∙◌, subst}
-use mathlib.Core.Bool.{true, false, ◌&&◌}
+use mathlib.Core.Bool.{true, false}
 use mathlib.Core.List.{List, [], ◌∷◌, ◌++◌}
 use Prim.Native.Nat.{ℕ, zero, suc, ◌+◌, ◌-◌, ◌<◌, ◌≤◌}
 use native.Mathlib.Numerals.{add-one}
 use native.Mathlib.Omega.{arith}
 use lib.Dec.{leb, eqb}
 use lib.ListN.{length, take, drop, get_or, set, length-drop, drop_of_length-le}
-use lib.Seq.{drop-cons, take-suc-set, length-take-le, get_or-drop, paste, paste-suc}
+use lib.Seq.{drop-cons, take-suc-set, length-take-le}
 use borrow.Author.Tests.{eq-eqb, ne_eqb, le-leb, lt-leb}
+use Rattle.rules.specs.declared.Refusal.{Refusal}
+use Rattle.rules.specs.declared.Refusal.TheVariants.{BadByte, LongLine, LongDocument}
 use Rattle.source_line.specs.declared.Source.{Source}
 use Rattle.source_line.specs.declared.Reach.{Reach}
 use Rattle.source_line.specs.declared.Why.{Why}
 use Rattle.source_line.specs.declared.Why.TheVariants.{More, Ended, Refused}
-use Rattle.source_line.specs.Gathering.{with_source, Takes, reached, line_step, line_from, reached_by, ReachedTo, begun_line, begun_stored, begun_source, gathered_to, most_lines_by, Gathers, GatheredTo, are_plain, is_inside}
+use Rattle.source_line.specs.Gathering.{with_source, Takes, reached, line_step, line_from, reached_by, ReachedTo, begun_line, begun_stored, begun_source, gathered_to, most_lines_by, Gathers, GatheredTo, is_plain}
 use Rattle.source_line.specs.GatheringLaws.{line_far, line_some, line_takes, past_takes}
 
 -- the block is used up
@@ -26,7 +28,7 @@ module _ (block : List ℕ) (i : ℕ) (g : List ℕ) (here : i < length block) w
   b = get_or block i 0
 
   line_next : line_from i (drop i block) g
-      ≡ line_step (eqb b 10) (leb 512 (length g)) (leb 32 b && leb b 126) (i + 1) g (line_from (i + 1) (drop (i + 1) block) (g ++ b ∷ []))
+      ≡ line_step (eqb b 10) (leb 512 (length g)) (is_plain b) (i + 1) g (line_from (i + 1) (drop (i + 1) block) (g ++ b ∷ []))
   unfolding line_from
   line_next = rw (drop-cons block i 0 here, add-one i)
 
@@ -34,65 +36,18 @@ module _ (block : List ℕ) (i : ℕ) (g : List ℕ) (here : i < length block) w
   line_ends e = line_next ∙ rw (eq-eqb b 10 e)
 
   module _ (other : b ≡ 10 → ⊥) where
-    pub line_long : 512 ≤ length g → line_from i (drop i block) g ≡ reached (i + 1) g (Refused 3)
+    pub line_long : 512 ≤ length g → line_from i (drop i block) g ≡ reached (i + 1) g (Refused LongLine)
     line_long h = line_next ∙ rw (ne_eqb b 10 other, le-leb 512 (length g) h)
 
-    pub line_low : length g < 512 → b < 32 → line_from i (drop i block) g ≡ reached (i + 1) g (Refused 2)
-    line_low h k = line_next ∙ rw (ne_eqb b 10 other, lt-leb 512 (length g) h, lt-leb 32 b k)
+    pub line_bad : length g < 512 → is_plain b ≡ false → line_from i (drop i block) g ≡ reached (i + 1) g (Refused BadByte)
+    line_bad h k = line_next ∙ rw (ne_eqb b 10 other, lt-leb 512 (length g) h, k)
 
-    pub line_high : length g < 512 → 32 ≤ b → 126 < b → line_from i (drop i block) g ≡ reached (i + 1) g (Refused 2)
-    line_high h j k = line_next ∙ rw (ne_eqb b 10 other, lt-leb 512 (length g) h, le-leb 32 b j, lt-leb b 126 k)
-
-    pub line_keeps : length g < 512 → 32 ≤ b → b ≤ 126 → line_from i (drop i block) g ≡ line_from (i + 1) (drop (i + 1) block) (g ++ b ∷ [])
-    line_keeps h j k = line_next ∙ rw (ne_eqb b 10 other, lt-leb 512 (length g) h, le-leb 32 b j, le-leb b 126 k)
+    pub line_keeps : length g < 512 → is_plain b ≡ true → line_from i (drop i block) g ≡ line_from (i + 1) (drop (i + 1) block) (g ++ b ∷ [])
+    line_keeps h k = line_next ∙ rw (ne_eqb b 10 other, lt-leb 512 (length g) h, k)
 
 -- one more byte in the array is one more byte of the line
 pub line_put : (line : List ℕ) (n b : ℕ) → n < length line → take n line ++ b ∷ [] ≡ take (n + 1) (set line n b)
 line_put line n b h = sym (rw (add-one n) (take-suc-set line n b h))
-
--- the line of the next byte, by whether this is its first
-pub begun_first : (n : ℕ) (l r : ℕ) → n ≡ 0 → (begun_line n l ≡ l + 1) × (begun_stored n r ≡ 0)
-begun_first zero l r e = (sym (add-one l), refl)
-begun_first (suc n) l r e = absurd (omega arith)
-
-pub begun_later : (n : ℕ) (l r : ℕ) → (n ≡ 0 → ⊥) → (begun_line n l ≡ l) × (begun_stored n r ≡ r)
-begun_later zero l r e = absurd (e refl)
-begun_later (suc n) l r e = (refl, refl)
-
--- the bytes of a block from a place on may stand in a line if this one may, and those behind it
-pub plain_end : (block : List ℕ) (i : ℕ) → length block ≤ i → are_plain (drop i block) ≡ true
-unfolding are_plain
-plain_end block i h = rw (drop_of_length-le block h)
-
-module _ (block : List ℕ) (i : ℕ) (here : i < length block) where
-  plain_next : are_plain (drop i block) ≡ (leb 32 (get_or block i 0) && (leb (get_or block i 0) 126 && are_plain (drop (i + 1) block)))
-  unfolding are_plain
-  plain_next = rw (drop-cons block i 0 here, add-one i)
-
-  pub plain_low : get_or block i 0 < 32 → are_plain (drop i block) ≡ false
-  plain_low h = plain_next ∙ rw (lt-leb 32 (get_or block i 0) h)
-
-  pub plain_high : 32 ≤ get_or block i 0 → 126 < get_or block i 0 → are_plain (drop i block) ≡ false
-  plain_high h k = plain_next ∙ rw (le-leb 32 (get_or block i 0) h, lt-leb (get_or block i 0) 126 k)
-
-  pub plain_on : 32 ≤ get_or block i 0 → get_or block i 0 ≤ 126 → are_plain (drop i block) ≡ are_plain (drop (i + 1) block)
-  plain_on h k = plain_next ∙ rw (le-leb 32 (get_or block i 0) h, le-leb (get_or block i 0) 126 k)
-
--- a block and the line that it goes on with
-pub inside_none : (bs : List ℕ) (n : ℕ) → n ≡ 0 → is_inside bs n ≡ false
-inside_none bs n e = ap (is_inside bs) e
-
-pub inside_long : (bs : List ℕ) (n : ℕ) → (n ≡ 0 → ⊥) → 512 < n + length bs → is_inside bs n ≡ false
-inside_long bs n o h = rw (le-leb 1 n (omega (arith, o)), lt-leb (n + length bs) 512 h)
-
-pub inside_fits : (bs : List ℕ) (n : ℕ) → (n ≡ 0 → ⊥) → n + length bs ≤ 512 → is_inside bs n ≡ are_plain bs
-inside_fits bs n o h = rw (le-leb 1 n (omega (arith, o)), le-leb (n + length bs) 512 h)
-
--- one more byte is copied
-pub copy_step : (d : List ℕ) (at : ℕ) (row : List ℕ) (from j : ℕ) → at + j < length d → from + j < length row
-    → set (paste d at (drop from row) j) (at + j) (get_or row (from + j) 0) ≡ paste d at (drop from row) (j + 1)
-copy_step d at row from j h k =
-    rw (← get_or-drop from row j 0, add-one j) (paste-suc d at (drop from row) j 0 h (rw (length-drop from row) (omega arith)))
 
 -- what is gathered lies behind the place where that began
 pub reach_behind : (block : List ℕ) (from : ℕ) (line : List ℕ) (start : ℕ) (r : Reach) (line' : List ℕ) → ReachedTo block from line start r line' → from ≤ r.to
@@ -105,7 +60,7 @@ low_last More l h = h
 low_last Ended l h = h
 low_last (Refused n) l h = omega arith
 
-refused_more : (k : ℕ) → Refused k ≡ More → ⊥
+refused_more : (k : Refusal) → Refused k ≡ More → ⊥
 refused_more k e = let z : ◌≡◌ {A = ℕ} 0 1 = cc (e) in omega arith
 
 module _ (block : List ℕ) (from : ℕ) (line : List ℕ) (s : Source) (fits : Gathers block from line s) where
@@ -130,7 +85,7 @@ module _ (block : List ℕ) (from : ℕ) (line : List ℕ) (s : Source) (fits : 
       go (suc n) = omega (arith, fits.numbered)
 
   -- the line is past the last
-  pub gathered_past : (b : Source) → b ≡ begun_source s → 1000000 < b.line → GatheredTo block from line s (record { taken = 1; source = b; why = Refused 12 }) line
+  pub gathered_past : (b : Source) → b ≡ begun_source s → 1000000 < b.line → GatheredTo block from line s (record { taken = 1; source = b; why = Refused LongDocument }) line
   gathered_past b e h =
       let n : begun_line s.length s.line ≡ b.line = sym (ap (λ v. v.line) e) in
       let d : take 1 (drop from block) ≡ get_or block from 0 ∷ [] = ap (take 1) (drop-cons block from 0 fits.some) in
@@ -139,7 +94,7 @@ module _ (block : List ℕ) (from : ℕ) (line : List ℕ) (s : Source) (fits : 
         is = λ x o. rw d (rw sized at (past_takes x o (get_or block from 0) g s.line s.stored (rw sized (omega arith))));
         some = omega arith;
         within = omega (arith, fits.some);
-        all = λ q. absurd (refused_more 12 q);
+        all = λ q. absurd (refused_more LongDocument q);
         long = fits.long;
         short = fits.short;
         numbered = most;

@@ -1,8 +1,7 @@
 -- What a call does with the bytes that are gathered at once, and with those that are written at once. Assumes nothing.
-use Rattle.std.specs.Prelude.{◌≡◌, Bool, List, [], ◌∷◌, ◌++◌, ℕ, zero, suc, ◌+◌, ◌-◌, ◌*◌, ◌≤◌, length, take, drop}
+use Rattle.std.specs.Prelude.{◌≡◌, Bool, List, [], ◌∷◌, ◌++◌, ℕ, zero, suc, ◌+◌, ◌-◌, ◌*◌, ◌≤◌, length, take, drop, None}
 use Rattle.std.proofs.Common.{sym, ◌∙◌, subst, arith}
 use Rattle.std.proofs.Math.Path.{ap}
-use Rattle.std.proofs.Math.Option.{none}
 use Rattle.stream.specs.Machine.{Machine, Outcome, writing, taking, asks, call_from, Below}
 use Rattle.stream.proofs.Laws.{call_takes}
 use Rattle.rules.specs.Printers.{Printer}
@@ -21,7 +20,7 @@ module _ (p : Printer) where
   pub step_asks : (s : State) → Asks s → step p s ≡ asks (λ b. take_byte b s) (read_end s)
   unfolding step
   step_asks s a =
-      ap (λ v. step_from p v s.input.stack s) a.closing ∙ ap (λ v. step_from p none v s) a.stack ∙ ap (λ v. idle p v s.tables.opened s) a.ended
+      ap (λ v. step_from p v s.input.stack s) a.closing ∙ ap (λ v. step_from p None v s) a.stack ∙ ap (λ v. idle p v s.tables.opened s) a.ended
 
   below : (s : State) → Good s → Asks s → Below (formatter p) Good (asks (λ b. take_byte b s) (read_end s)) (load s)
   below s g a = subst (λ v. Below (formatter p) Good v (load s)) (step_asks s a) (falls p s g)

@@ -1,9 +1,11 @@
 -- The bytes of a source line, taken one after another as the rules say. Assumes nothing.
-use Rattle.std.specs.Prelude.{◌≡◌, Bool, true, false, ◌&&◌, List, [], ◌∷◌, ◌++◌, ℕ, zero, suc, ◌+◌, ◌<◌, ◌≤◌, leb, eqb, length, take, drop}
-use Rattle.std.proofs.Math.Option.{none}
+use Rattle.std.specs.Prelude.{◌≡◌, Bool, true, false, ◌&&◌, List, [], ◌∷◌, ◌++◌, ℕ, zero, suc, ◌+◌, ◌<◌, ◌≤◌, leb, eqb, length, take, drop, None}
+use Rattle.std.specs.List.{list_all}
 use Rattle.rules.specs.State.{State, Item, fresh, refuse}
 use Rattle.rules.specs.StateSetters.{input, with_input}
 use Rattle.rules.specs.Session.{take_byte}
+use Rattle.rules.specs.Results.{refusal_number}
+use Rattle.rules.specs.declared.Refusal.TheVariants.{BadByte, LongLine}
 use Rattle.source_line.specs.declared.Source.{Source}
 use Rattle.source_line.specs.declared.Gathered.{Gathered}
 use Rattle.source_line.specs.declared.Reach.{Reach}
@@ -16,7 +18,7 @@ with_source g l r k x = with_input (input g l false r k) x
 
 -- the state asks for a byte
 pub record Asks (s : State) : Type 0 where
-  pub closing : s.closing ≡ none
+  pub closing : s.closing ≡ None
   pub ended : s.input.ended ≡ false
   pub stack : s.input.stack ≡ []
 
@@ -46,17 +48,21 @@ pub record Reached : Type 0 where
 abbrev pub reached : ℕ → List ℕ → Why → Reached
 reached i g w = record { to = i; gathered = g; why = w }
 
+-- a byte that may stand in a source line
+abbrev pub is_plain : ℕ → Bool
+is_plain b = leb 32 b && leb b 126
+
 -- what one byte of a line, up to the place i, leads to
 abbrev pub line_step : (newline long good : Bool) → ℕ → List ℕ → Reached → Reached
 line_step true l a i g on = reached i g Ended
-line_step false true a i g on = reached i g (Refused 3)
-line_step false false false i g on = reached i g (Refused 2)
+line_step false true a i g on = reached i g (Refused LongLine)
+line_step false false false i g on = reached i g (Refused BadByte)
 line_step false false true i g on = on
 
 -- the bytes from the place i on are taken for a line that has the bytes g, whose number is allowed
 unfoldable pub line_from : ℕ → (bytes : List ℕ) → (g : List ℕ) → Reached
 line_from i [] g = reached i g More
-line_from i (b ∷ bs) g = line_step (eqb b 10) (leb 512 (length g)) (leb 32 b && leb b 126) (i + 1) g (line_from (i + 1) bs (g ++ b ∷ []))
+line_from i (b ∷ bs) g = line_step (eqb b 10) (leb 512 (length g)) (is_plain b) (i + 1) g (line_from (i + 1) bs (g ++ b ∷ []))
 
 -- the code's answer, with the array of the line
 abbrev pub reached_by : Reach → List ℕ → Reached
@@ -78,7 +84,7 @@ pub record ReachedTo (block : List ℕ) (from : ℕ) (line : List ℕ) (start : 
 abbrev pub gathered_to : Why → (gathered : List ℕ) → (line stored : ℕ) → State → State
 gathered_to More g l r x = with_source g l r [] x
 gathered_to Ended g l r x = with_source [] l r (fresh g ∷ []) x
-gathered_to (Refused n) g l r x = refuse n (with_source g l r [] x)
+gathered_to (Refused n) g l r x = refuse (refusal_number n) (with_source g l r [] x)
 
 -- "12: past 1,000,000 source lines"
 abbrev pub most_lines_by : Why → ℕ
@@ -96,7 +102,7 @@ pub record Gathers (block : List ℕ) (from : ℕ) (line : List ℕ) (s : Source
 
 -- The bytes of the block from a place on are taken as the rules say, until a line ends, a byte is refused or none is left.
 pub record GatheredTo (block : List ℕ) (from : ℕ) (line : List ℕ) (s : Source) (r : Gathered) (line' : List ℕ) : Type 0 where
-  pub is : (x : State) → x.closing ≡ none
+  pub is : (x : State) → x.closing ≡ None
       → Takes (with_source (take s.length line) s.line s.stored [] x) (take r.taken (drop from block))
       (gathered_to r.why (take r.source.length line') r.source.line r.source.stored x)
   pub some : 0 < r.taken
@@ -110,8 +116,7 @@ pub record GatheredTo (block : List ℕ) (from : ℕ) (line : List ℕ) (s : Sou
 
 -- bytes that may stand in a source line
 unfoldable pub are_plain : (bytes : List ℕ) → Bool
-are_plain [] = true
-are_plain (b ∷ bs) = leb 32 b && (leb b 126 && are_plain bs)
+are_plain bs = list_all is_plain bs
 
 -- a line that has so many bytes, and one at least, takes these and goes on
 abbrev pub is_inside : (bytes : List ℕ) → (start : ℕ) → Bool

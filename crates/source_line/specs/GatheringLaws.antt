@@ -1,8 +1,7 @@
 -- The bytes of a line are taken as the rules say. Assumes nothing.
-use Rattle.std.specs.Prelude.{◌≡◌, Bool, true, false, ◌&&◌, ℕ, suc, ◌+◌, ◌-◌, ◌<◌, ◌≤◌, eqb, take}
+use Rattle.std.specs.Prelude.{◌≡◌, Bool, true, false, ◌&&◌, ℕ, suc, ◌+◌, ◌-◌, ◌<◌, ◌≤◌, eqb, take, None}
 use Rattle.std.proofs.Math.Path.{refl}
 use Rattle.std.proofs.Common.{sym, ap, ◌∙◌, subst, arith, eqb-true, leb-true, leb-false}
-use Rattle.std.proofs.Math.Option.{none}
 use mathlib.Core.List.{List, [], ◌∷◌, ◌++◌, append_assoc, append-nil}
 use Rattle.std.proofs.Math.Dec.{leb}
 use Rattle.std.proofs.Math.ListN.{length, length-append}
@@ -11,8 +10,10 @@ use Rattle.std.proofs.lemmas.Bool.{eqb-false}
 use Rattle.rules.specs.State.{State, fresh, refuse}
 use Rattle.rules.specs.Session.{take_byte, with_begun, gather}
 use Rattle.rules.specs.Laws.Session.{begun_later, take_past, take_newline, take_long, take_bad, take_keeps}
+use Rattle.rules.specs.declared.Refusal.{Refusal}
+use Rattle.rules.specs.declared.Refusal.TheVariants.{BadByte, LongLine, LongDocument}
 use Rattle.source_line.specs.declared.Why.TheVariants.{More, Ended, Refused}
-use Rattle.source_line.specs.Gathering.{with_source, Asks, Takes, begun_line, begun_stored, Reached, reached, line_step, line_from, gathered_to, are_plain, is_inside}
+use Rattle.source_line.specs.Gathering.{with_source, Asks, Takes, begun_line, begun_stored, Reached, reached, line_step, line_from, gathered_to, is_plain, are_plain, is_inside}
 
 -- a line begins with its first byte
 pub begun_source_lem : (g : List ℕ) (l r : ℕ) (x : State)
@@ -29,13 +30,13 @@ pub record Far (i n : ℕ) (r : Reached) : Type 0 where
 ended_more : Ended ≡ More → ⊥
 ended_more e = let z : ◌≡◌ {A = ℕ} 0 1 = cc (e) in omega arith
 
-refused_more : (k : ℕ) → Refused k ≡ More → ⊥
+refused_more : (k : Refusal) → Refused k ≡ More → ⊥
 refused_more k e = let z : ◌≡◌ {A = ℕ} 0 1 = cc (e) in omega arith
 
 far_by : (a l o : Bool) (i n : ℕ) (g : List ℕ) (on : Reached) → Far (i + 1) n on → Far i (suc n) (line_step a l o (i + 1) g on)
 far_by true l o i n g on f = record { behind = omega arith; within = omega arith; all = λ e. absurd (ended_more e) }
-far_by false true o i n g on f = record { behind = omega arith; within = omega arith; all = λ e. absurd (refused_more 3 e) }
-far_by false false false i n g on f = record { behind = omega arith; within = omega arith; all = λ e. absurd (refused_more 2 e) }
+far_by false true o i n g on f = record { behind = omega arith; within = omega arith; all = λ e. absurd (refused_more LongLine e) }
+far_by false false false i n g on f = record { behind = omega arith; within = omega arith; all = λ e. absurd (refused_more BadByte e) }
 far_by false false true i n g on f =
     record { behind = omega (arith, f.behind); within = omega (arith, f.within); all = λ e. omega (arith, f.all e) }
 
@@ -63,13 +64,16 @@ both_true true true e = (refl, refl)
 both_true true false e = let z : ◌≡◌ {A = ℕ} 0 1 = cc (e) in absurd (omega arith)
 both_true false b e = let z : ◌≡◌ {A = ℕ} 0 1 = cc (e) in absurd (omega arith)
 
+good_byte : (b : ℕ) → (leb 32 b && leb b 126) ≡ true → (32 ≤ b) × (b ≤ 126)
+good_byte b e = let w = both_true (leb 32 b) (leb b 126) e in (leb-true 32 b w.0, leb-true b 126 w.1)
+
 -- bytes that may stand in a line
 plain_first : (b : ℕ) (bs : List ℕ) → are_plain (b ∷ bs) ≡ true → (32 ≤ b) × (b ≤ 126) × (are_plain bs ≡ true)
 unfolding are_plain
 plain_first b bs e =
-    let w = both_true (leb 32 b) (leb b 126 && are_plain bs) e in
-    let v = both_true (leb b 126) (are_plain bs) w.1 in
-    (leb-true 32 b w.0, leb-true b 126 v.0, v.1)
+    let w = both_true (is_plain b) (are_plain bs) e in
+    let v = good_byte b w.0 in
+    (v.0, v.1, w.1)
 
 -- what the test of a block says
 pub record BlockInside (bs : List ℕ) (n : ℕ) : Type 0 where
@@ -83,10 +87,7 @@ inside_is bs n e =
     let v = both_true (leb (n + length bs) 512) (are_plain bs) w.1 in
     record { some = omega (arith, leb-true 1 n w.0); fits = leb-true (n + length bs) 512 v.0; plain = v.1 }
 
-good_byte : (b : ℕ) → (leb 32 b && leb b 126) ≡ true → (32 ≤ b) × (b ≤ 126)
-good_byte b e = let w = both_true (leb 32 b) (leb b 126) e in (leb-true 32 b w.0, leb-true b 126 w.1)
-
-module _ (x : State) (unclosed : x.closing ≡ none) where
+module _ (x : State) (unclosed : x.closing ≡ None) where
   -- the state that a line leads to
   abbrev pub towards : Reached → (line stored : ℕ) → State
   towards o l r = gathered_to o.why o.gathered l r x
@@ -113,10 +114,10 @@ module _ (x : State) (unclosed : x.closing ≡ none) where
         one (towards (reached (i + 1) g Ended) l r)
         (ap (gather [] (fresh g ∷ [])) (sym begun) ∙ sym (take_newline s allowed) ∙ ap (λ v. take_byte v s) (sym (eqb-true b 10 p)))
     byte_takes false true o p q t on h k =
-        one (towards (reached (i + 1) g (Refused 3)) l r)
+        one (towards (reached (i + 1) g (Refused LongLine)) l r)
         (ap (refuse 3) (sym begun) ∙ sym (take_long b s allowed (eqb-false b 10 p) (leb-true 512 (length g) q)))
     byte_takes false false false p q t on h k =
-        one (towards (reached (i + 1) g (Refused 2)) l r)
+        one (towards (reached (i + 1) g (Refused BadByte)) l r)
         (ap (refuse 2) (sym begun) ∙ sym (take_bad b s allowed (eqb-false b 10 p) (leb-false 512 (length g) q) t))
     byte_takes false false true p q t on h k =
         let n : on.to - i ≡ suc (on.to - (i + 1)) = omega arith in
@@ -169,7 +170,7 @@ module _ (x : State) (unclosed : x.closing ≡ none) where
 
   -- "12: past 1,000,000 source lines"
   pub past_takes : (b : ℕ) (g : List ℕ) (l r : ℕ) → 1000000 < begun_line (length g) l
-      → Takes (with_source g l r [] x) (b ∷ []) (gathered_to (Refused 12) g (begun_line (length g) l) (begun_stored (length g) r) x)
+      → Takes (with_source g l r [] x) (b ∷ []) (gathered_to (Refused LongDocument) g (begun_line (length g) l) (begun_stored (length g) r) x)
   past_takes b g l r h =
       let e = begun_source_lem g l r x in
       let k : (with_begun (with_source g l r [] x)).input.line ≡ begun_line (length g) l = ap (λ v. v.input.line) e in

@@ -1,15 +1,16 @@
 #![tactic(auto)]
 
 // The two ends of a session: the bytes of a source line are gathered, and the bytes of a row that wait are written.
-ghost use Rattle.std.specs.Prelude.{◌≡◌, ◌≤◌, min, length};
+ghost use Rattle.std.specs.Prelude.{◌≡◌, ◌≤◌, length};
 ghost use Rattle.std.proofs.Math.Seq.{paste};
-ghost use Rattle.source_line.specs.Gathering.{begun_source, Reaches, ReachedTo, Gathers, GatheredTo, are_plain, is_inside, Appends};
+ghost use Rattle.source_line.specs.Gathering.{begun_source, Reaches, ReachedTo, Gathers, GatheredTo, is_plain, are_plain, is_inside, Appends};
 ghost use Rattle.source_line.specs.Writing.{Writes, WrittenTo};
 
+use rules::Refusal;
 use rules::arrays::{LINE_SIZE, LineBytes, RowBytes};
 
 // The source lines begun, the bytes of the line being taken, whether the end was read, and the stored lines read for this source line.
-#[derive(Clone, Copy)]
+#[derive(Clone, Copy, Debug, PartialEq, Eq)]
 pub struct Source {
     pub line: u32,
     pub length: usize,
@@ -17,19 +18,19 @@ pub struct Source {
     pub stored: u16,
 }
 
-// Why no more bytes are taken.
-#[derive(Clone, Copy)]
+// Why no more bytes are taken. No Result: a refusal too has its place, its line and what is gathered.
+#[derive(Clone, Copy, Debug, PartialEq, Eq)]
 pub enum Why {
     // the block is used up
     More,
     // a newline was taken
     Ended,
     // a byte was refused
-    Refused(u8),
+    Refused(Refusal),
 }
 
 // How many bytes were taken, the source after them, and why no more.
-#[derive(Clone, Copy)]
+#[derive(Clone, Copy, Debug, PartialEq, Eq)]
 pub struct Gathered {
     pub taken: usize,
     pub source: Source,
@@ -37,7 +38,7 @@ pub struct Gathered {
 }
 
 // The place in the block behind the bytes taken, the length of the line, and why no more.
-#[derive(Clone, Copy)]
+#[derive(Clone, Copy, Debug, PartialEq, Eq)]
 struct Reach {
     to: usize,
     length: usize,
@@ -60,50 +61,40 @@ fn begin(source: Source) -> Source
     source
 }
 
+// Whether a byte may stand in a source line.
+fn is_plain(byte: u8) -> bool
+    ensures { result ≡ is_plain byte }
+{
+    matches!(byte, 32..=126)
+}
+
 // The bytes of a block up to the end of a line go behind those that the line has.
 fn gather_line(block: &[u8], from: usize, line: &mut LineBytes, start: usize) -> Reach
     requires { Reaches block.now from line.old start }
     ensures { ReachedTo block.now from line.old start result line.new }
 {
-    let mut to = from;
-    let mut n = start;
-    while to < block.len() {
-        let byte = block[to];
-        to += 1;
-        if byte == 10 {
-            return Reach {
-                to,
-                length: n,
-                why: Why::Ended,
-            };
+    let mut length = start;
+    for at in from..block.len() {
+        let byte = block[at];
+        let to = at + 1;
+        if byte == b'\n' {
+            let why = Why::Ended;
+            return Reach { to, length, why };
         }
-        if n >= LINE_SIZE {
-            return Reach {
-                to,
-                length: n,
-                why: Why::Refused(3),
-            };
+        if length >= LINE_SIZE {
+            let why = Why::Refused(Refusal::LongLine);
+            return Reach { to, length, why };
         }
-        if byte < 32 {
-            return Reach {
-                to,
-                length: n,
-                why: Why::Refused(2),
-            };
+        if !is_plain(byte) {
+            let why = Why::Refused(Refusal::BadByte);
+            return Reach { to, length, why };
         }
-        if byte > 126 {
-            return Reach {
-                to,
-                length: n,
-                why: Why::Refused(2),
-            };
-        }
-        line[n] = byte;
-        n += 1;
+        line[length] = byte;
+        length += 1;
     }
     Reach {
-        to,
-        length: n,
+        to: block.len(),
+        length,
         why: Why::More,
     }
 }
@@ -118,56 +109,35 @@ pub fn gather(block: &[u8], from: usize, line: &mut LineBytes, source: Source) -
         return Gathered {
             taken: 1,
             source: begun,
-            why: Why::Refused(12),
+            why: Why::Refused(Refusal::LongDocument),
         };
     }
     let reach = gather_line(block, from, line, begun.length);
-    let why = reach.why;
-    let after = Source {
-        line: begun.line,
-        length: reach.length,
-        ended: begun.ended,
-        stored: begun.stored,
-    };
     Gathered {
         taken: reach.to - from,
-        source: after,
-        why,
+        source: Source {
+            line: begun.line,
+            length: reach.length,
+            ended: begun.ended,
+            stored: begun.stored,
+        },
+        why: reach.why,
     }
 }
 
 // Whether all bytes of a block may stand in a source line.
+#[tactic(auto, unfolding(crate::specs::Gathering::are_plain))]
 fn are_plain(block: &[u8]) -> bool
     ensures { result ≡ are_plain block.now }
 {
-    let mut i: usize = 0;
-    while i < block.len() {
-        let byte = block[i];
-        if byte < 32 {
-            return false;
-        }
-        if byte > 126 {
-            return false;
-        }
-        i += 1;
-    }
-    true
+    block.iter().all(|byte| is_plain(*byte))
 }
 
 // Whether a line that has so many bytes takes a whole block and goes on: the block neither begins a line nor ends one.
 pub fn is_inside(block: &[u8], start: usize) -> bool
     ensures { result ≡ is_inside block.now start }
 {
-    if start == 0 {
-        return false;
-    }
-    if start > LINE_SIZE {
-        return false;
-    }
-    if block.len() > LINE_SIZE - start {
-        return false;
-    }
-    are_plain(block)
+    start > 0 && start <= LINE_SIZE && block.len() <= LINE_SIZE - start && are_plain(block)
 }
 
 // A block goes behind the bytes that a line has.
@@ -175,21 +145,7 @@ pub fn append(block: &[u8], line: &mut LineBytes, start: usize)
     requires { Appends block.now line.old start }
     ensures { line.new ≡ paste line.old start block.now (length block.now) }
 {
-    let mut j: usize = 0;
-    while j < block.len() {
-        let byte = block[j];
-        line[start + j] = byte;
-        j += 1;
-    }
-}
-
-fn lesser(n: usize, m: usize) -> usize
-    ensures { result ≡ min n m }
-{
-    if n < m {
-        return n;
-    }
-    m
+    line[start..start + block.len()].copy_from_slice(block);
 }
 
 // As many of the waiting bytes as fit are written; how many those are.
@@ -197,12 +153,7 @@ pub fn write(row: &RowBytes, at: usize, end: usize, out: &mut [u8], from: usize)
     requires { Writes row.now at end out.old from }
     ensures { WrittenTo row.now at end out.old from result out.new }
 {
-    let n = lesser(end - at, out.len() - from);
-    let mut j: usize = 0;
-    while j < n {
-        let byte = row[at + j];
-        out[from + j] = byte;
-        j += 1;
-    }
+    let n = (end - at).min(out.len() - from);
+    out[from..from + n].copy_from_slice(&row[at..at + n]);
     n
 }

@@ -1,6 +1,5 @@
 -- The whole state as the code holds it, and what it means that a piece of work on it is done as the rules say. Assumes nothing.
-use Rattle.std.specs.Prelude.{◌≡◌, refl, Bool, true, false, List, ℕ, ◌*◌, ◌≤◌, length, take, ℤ, pos}
-use Rattle.std.proofs.Math.Option.{Option, none, some}
+use Rattle.std.specs.Prelude.{◌≡◌, refl, Bool, true, false, List, ℕ, ◌*◌, ◌≤◌, length, take, ℤ, pos, Option, None, Some}
 use Rattle.stream.specs.Machine.{works}
 use Rattle.rules.specs.declared.Register.{Register}
 use Rattle.rules.specs.Texts.{Text}
@@ -68,8 +67,8 @@ abbrev pub texts_in : Texts → List Text
 texts_in t = texts_of t.store t.firsts t.seconds t.kinds t.lengths t.count
 
 abbrev pub opened_if : (there : Bool) → Opening → Texts → Option Definition
-opened_if true o t = some (record { name = o.name; body = body_of t.store t.lengths t.count o.length })
-opened_if false o t = none
+opened_if true o t = Some (record { name = o.name; body = body_of t.store t.lengths t.count o.length })
+opened_if false o t = None
 
 abbrev pub registers_in : Registers → List Register
 registers_in r = table_of r.firsts r.seconds r.values r.steps r.count

@@ -1,8 +1,10 @@
 -- Work on a page state or on a table, in the whole state. Assumes nothing.
-use Rattle.std.specs.Prelude.{◌≡◌, refl, Bool, true, false, List, [], ℕ, zero, suc, ◌≤◌, length, ℤ}
+use Rattle.std.specs.Prelude.{◌≡◌, refl, Bool, true, false, List, [], ℕ, ◌≤◌, length, ℤ, Option, None, Some, Result, Ok, Err, IfOk}
 use Rattle.std.proofs.Common.{sym, ap, ◌∙◌, subst, arith}
 use Rattle.stream.specs.Machine.{works}
-use Rattle.rules.specs.Refusals.{Judged}
+use Rattle.rules.specs.declared.Refusal.{Refusal}
+use Rattle.rules.specs.Refusals.{Judged, bad}
+use Rattle.rules.specs.Results.{refusal_number}
 use Rattle.rules.specs.declared.Name.{Name}
 use Rattle.rules.specs.Texts.{Text}
 use Rattle.rules.specs.State.{State}
@@ -12,20 +14,14 @@ use Rattle.rules.specs.Acts.{settles, on_name, open_text}
 use Rattle.texts.specs.Table.Table.{texts_of, TextsInvariant}
 use Rattle.input_stack.specs.declared.stack.Stack.{Stack}
 use Rattle.traps.specs.declared.table.Planted.{Planted}
-use Rattle.traps.specs.Table.Table.{planted_of}
+use Rattle.traps.specs.Table.Table.{TrapsInvariant, planted_of}
 use Rattle.page.specs.declared.springs.Way.{Way}
 use Rattle.page.specs.declared.springs.Way.TheVariants.{On, Done, Refused}
 use Rattle.page.specs.Springs.Calls.{close_by}
 use Rattle.page.proofs.springs.Stacks.{fits_few}
 use Rattle.composition.specs.PageRows.PageState.{PageState, PageRefines}
-use Rattle.requests.specs.declared.nr.Assigned.{Assigned}
-use Rattle.requests.specs.declared.nr.Assigned.TheVariants as assigned
-use Rattle.requests.specs.declared.wh.Plants.{Plants}
-use Rattle.requests.specs.declared.definitions.Changed.{Changed}
-use Rattle.requests.specs.declared.definitions.Changed.TheVariants as changed
-use Rattle.requests.specs.Nr.Registers.{AssignRefines}
-use Rattle.requests.specs.Nr.Registers as in_registers
-use Rattle.requests.specs.Wh.Traps.{plants_by, PlantRefines}
+use Rattle.requests.specs.Nr.Registers.{register_count_after, AssignRefines}
+use Rattle.requests.specs.Wh.Traps.{PlantRefines}
 use Rattle.rules.specs.Names.{Named, one, too_long, name_of}
 use Rattle.rules.specs.Names as names
 use Rattle.requests.specs.Definitions.Texts.{over_stack, ChangeRefines, OpensAs, opened_as, opens_text, alone}
@@ -72,42 +68,47 @@ page_refines rule q w written d' row' s v = record {
 }
 
 -- how an answer of a table leads on
-abbrev pub way_of : (refused : ℕ) → Way
-way_of zero = On
-way_of (suc k) = Refused (suc k)
+abbrev pub way_of : {A : Type 0} → Result A Refusal → Way
+way_of (Ok a) = On
+way_of (Err e) = Refused e
 
 -- nr
-abbrev pub assigned_way : Assigned → Way
-assigned_way (assigned.Count n) = On
-assigned_way (assigned.Refused k) = Refused k
-
-pub assign_refines : (act : State → Judged State) (q : WholeState) (r : Assigned) (fs' ss' : List ℕ) (vs' ts' : List ℤ) (row : List ℕ) → StateInvariant q → q.page_state.stack.depth ≤ 16 → length row ≡ 872
+pub assign_refines : (act : State → Judged State) (q : WholeState) (r : Result ℕ Refusal) (fs' ss' : List ℕ) (vs' ts' : List ℤ) (row : List ℕ) → StateInvariant q → q.page_state.stack.depth ≤ 16 → length row ≡ 872
     → AssignRefines q.registers.firsts q.registers.seconds q.registers.values q.registers.steps q.registers.count act r fs' ss' vs' ts'
-    → StateRefines (λ s. settles (act s) s) q (assigned_way r) 0 (whole_state q.page_state q.planted q.texts q.opening (register_columns fs' ss' vs' ts' (in_registers.count_assigned r q.registers.count))) row
+    → StateRefines (λ s. settles (act s) s) q (way_of r) 0 (whole_state q.page_state q.planted q.texts q.opening (register_columns fs' ss' vs' ts' (register_count_after r q.registers.count))) row
 assign_refines act q r fs' ss' vs' ts' row s d l a = record {
   is = λ x. go r a x;
   sound = record { page_state = s.page_state; lies = s.lies; store = s.store; good = s.good; opens = s.opens; table = a.table };
   fits = fits_few q.page_state.stack q.page_state.ends d;
   few = omega arith;
   long = l;
-  kept = same_store (assigned_way r) q.texts.store;
+  kept = same_store (way_of r) q.texts.store;
 }
   where
-    go : (r : Assigned) → AssignRefines q.registers.firsts q.registers.seconds q.registers.values q.registers.steps q.registers.count act r fs' ss' vs' ts' → (x : State)
-        → works [] (close_by (assigned_way r) (state_in (whole_state q.page_state q.planted q.texts q.opening (register_columns fs' ss' vs' ts' (in_registers.count_assigned r q.registers.count))) x)) ≡ settles (act (state_in q x)) (state_in q x)
-    go (assigned.Count n) a x = ap (λ (j : Judged State). settles j (state_in q x)) (a.is (state_in q x))
-    go (assigned.Refused k) a x =
+    go : (r : Result ℕ Refusal) → AssignRefines q.registers.firsts q.registers.seconds q.registers.values q.registers.steps q.registers.count act r fs' ss' vs' ts' → (x : State)
+        → works [] (close_by (way_of r) (state_in (whole_state q.page_state q.planted q.texts q.opening (register_columns fs' ss' vs' ts' (register_count_after r q.registers.count))) x)) ≡ settles (act (state_in q x)) (state_in q x)
+    go (Ok n) a x = ap (λ (j : Judged State). settles j (state_in q x)) (a.is (state_in q x))
+    go (Err k) a x =
         let e = a.kept in
         rw (e.0, e.1, e.2, e.3) (ap (λ (j : Judged State). settles j (state_in q x)) (a.is (state_in q x)))
 
+-- the table after wh
+abbrev pub planted_after : Result Planted Refusal → Planted → Planted
+planted_after (Ok p) q = p
+planted_after (Err e) q = q
+
+planted_within : (r : Result Planted Refusal) (q : Planted) → IfOk r TrapsInvariant → TrapsInvariant q → TrapsInvariant (planted_after r q)
+planted_within (Ok p) q h k = h
+planted_within (Err e) q h k = k
+
 -- wh
-pub plant_refines : (act : State → Judged State) (q : WholeState) (r : Plants) (row : List ℕ) → StateInvariant q → q.page_state.stack.depth ≤ 16 → length row ≡ 872
+pub plant_refines : (act : State → Judged State) (q : WholeState) (r : Result Planted Refusal) (row : List ℕ) → StateInvariant q → q.page_state.stack.depth ≤ 16 → length row ≡ 872
     → PlantRefines q.planted act r
-    → StateRefines (λ s. settles (act s) s) q (way_of r.refused) 0 (whole_state q.page_state r.planted q.texts q.opening q.registers) row
+    → StateRefines (λ s. settles (act s) s) q (way_of r) 0 (whole_state q.page_state (planted_after r q.planted) q.texts q.opening q.registers) row
 plant_refines act q r row s d l a = record {
-  is = λ x. go r.refused refl x;
+  is = λ x. go r a x;
   sound = record {
-    page_state = record { limits = s.page_state.limits; above = s.page_state.above; numbered = s.page_state.numbered; few = a.within; line = s.page_state.line; indent = s.page_state.indent; next = s.page_state.next; columns = s.page_state.columns };
+    page_state = record { limits = s.page_state.limits; above = s.page_state.above; numbered = s.page_state.numbered; few = planted_within r q.planted a.within s.page_state.few; line = s.page_state.line; indent = s.page_state.indent; next = s.page_state.next; columns = s.page_state.columns };
     lies = s.lies;
     store = s.store;
     good = s.good;
@@ -117,33 +118,19 @@ plant_refines act q r row s d l a = record {
   fits = fits_few q.page_state.stack q.page_state.ends d;
   few = omega arith;
   long = l;
-  kept = same_store (way_of r.refused) q.texts.store;
+  kept = same_store (way_of r) q.texts.store;
 }
   where
-    after : Planted → State → State
-    after p x = state_in (whole_state q.page_state p q.texts q.opening q.registers) x
-
-    go : (k : ℕ) → r.refused ≡ k → (x : State) → works [] (close_by (way_of r.refused) (after r.planted x)) ≡ settles (act (state_in q x)) (state_in q x)
-    go zero e x =
-        ap (λ (k : ℕ). works [] (close_by (way_of k) (after r.planted x))) e
-        ∙ sym (ap (λ (k : ℕ). settles (plants_by k r.planted (state_in q x)) (state_in q x)) e)
-        ∙ ap (λ (j : Judged State). settles j (state_in q x)) (a.is (state_in q x))
-    go (suc k) e x =
-        ap (λ (p : Planted). works [] (close_by (way_of r.refused) (after p x))) (a.kept (omega arith))
-        ∙ ap (λ (k : ℕ). works [] (close_by (way_of k) (state_in q x))) e
-        ∙ sym (ap (λ (k : ℕ). settles (plants_by k r.planted (state_in q x)) (state_in q x)) e)
-        ∙ ap (λ (j : Judged State). settles j (state_in q x)) (a.is (state_in q x))
+    go : (r : Result Planted Refusal) → PlantRefines q.planted act r → (x : State)
+        → works [] (close_by (way_of r) (state_in (whole_state q.page_state (planted_after r q.planted) q.texts q.opening q.registers) x)) ≡ settles (act (state_in q x)) (state_in q x)
+    go (Ok p) a x = ap (λ (j : Judged State). settles j (state_in q x)) (a.is (state_in q x))
+    go (Err e) a x = ap (λ (j : Judged State). settles j (state_in q x)) (a.is (state_in q x))
 
 -- ds and rm
-abbrev pub changed_way : Changed → Way
-changed_way (changed.Count n) = On
-changed_way changed.Same = On
-changed_way (changed.Refused k) = Refused k
-
-kept_store : (r : Changed) (st fs ss ks ls st' fs' ss' ks' ls' : List ℕ) → in-texts.KeptTexts r st fs ss ks ls st' fs' ss' ks' ls' → KeptStore (changed_way r) st st'
-kept_store (changed.Count n) st fs ss ks ls st' fs' ss' ks' ls' e = tt
-kept_store changed.Same st fs ss ks ls st' fs' ss' ks' ls' e = tt
-kept_store (changed.Refused k) st fs ss ks ls st' fs' ss' ks' ls' e = e.0
+kept_store : (r : Result (Option ℕ) Refusal) (st fs ss ks ls st' fs' ss' ks' ls' : List ℕ) → in-texts.KeptTexts r st fs ss ks ls st' fs' ss' ks' ls' → KeptStore (way_of r) st st'
+kept_store (Ok (Some n)) st fs ss ks ls st' fs' ss' ks' ls' e = tt
+kept_store (Ok None) st fs ss ks ls st' fs' ss' ks' ls' e = tt
+kept_store (Err k) st fs ss ks ls st' fs' ss' ks' ls' e = e.0
 
 module _ (q : WholeState) (x : State) (st' fs' ss' ks' ls' : List ℕ) where
   -- the whole with other texts, and another open definition
@@ -168,21 +155,21 @@ module _ (q : WholeState) (x : State) (st' fs' ss' ks' ls' : List ℕ) where
       ap (λ (b : Bool). changed_to b q.opening (text_columns st' fs' ss' ks' ls' n) n) e ∙ sym (ap (λ (b : Bool). changed_to b q.opening q.texts n) e)
 
 module _ (act : State → Judged State) (q : WholeState) (st' fs' ss' ks' ls' row : List ℕ) (s : StateInvariant q) (d : q.page_state.stack.depth ≤ 16) (l : length row ≡ 872) (c : q.opening.there ≡ false) where
-  abbrev Changes : (State → State) → Changed → Type 0
+  abbrev Changes : (State → State) → Result (Option ℕ) Refusal → Type 0
   Changes done r = ChangeRefines q.texts.store q.texts.firsts q.texts.seconds q.texts.kinds q.texts.lengths q.texts.count q.page_state.stack q.page_state.ends done act r st' fs' ss' ks' ls'
 
-  changes_is : (r : Changed) → Changes alone r → (x : State)
-      → works [] (close_by (changed_way r) (state_in (with_text_columns q x st' fs' ss' ks' ls' q.opening (in-texts.count_changed r q.texts.count)) x)) ≡ settles (act (state_in q x)) (state_in q x)
-  changes_is (changed.Count n) a x =
+  changes_is : (r : Result (Option ℕ) Refusal) → Changes alone r → (x : State)
+      → works [] (close_by (way_of r) (state_in (with_text_columns q x st' fs' ss' ks' ls' q.opening (in-texts.count_changed r q.texts.count)) x)) ≡ settles (act (state_in q x)) (state_in q x)
+  changes_is (Ok (Some n)) a x =
       ap (works []) (still_closed q x st' fs' ss' ks' ls' n c) ∙ ap (λ (j : Judged State). settles j (state_in q x)) (a.is q.page_state.arena (state_in q x))
-  changes_is changed.Same a x =
+  changes_is (Ok None) a x =
       ap (works []) (still_closed q x st' fs' ss' ks' ls' q.texts.count c) ∙ ap (λ (j : Judged State). settles j (state_in q x)) (a.is q.page_state.arena (state_in q x))
-  changes_is (changed.Refused k) a x =
+  changes_is (Err k) a x =
       let e = a.kept in
       rw (e.0, e.1, e.2, e.3, e.4) (ap (λ (j : Judged State). settles j (state_in q x)) (a.is q.page_state.arena (state_in q x)))
 
-  pub change_refines : (r : Changed) → Changes alone r
-      → StateRefines (λ v. settles (act v) v) q (changed_way r) 0 (whole_state q.page_state q.planted (text_columns st' fs' ss' ks' ls' (in-texts.count_changed r q.texts.count)) q.opening q.registers) row
+  pub change_refines : (r : Result (Option ℕ) Refusal) → Changes alone r
+      → StateRefines (λ v. settles (act v) v) q (way_of r) 0 (whole_state q.page_state q.planted (text_columns st' fs' ss' ks' ls' (in-texts.count_changed r q.texts.count)) q.opening q.registers) row
   change_refines r a = record {
     is = changes_is r a;
     sound = record {
@@ -199,40 +186,42 @@ module _ (act : State → Judged State) (q : WholeState) (st' fs' ss' ks' ls' ro
     kept = kept_store r q.texts.store q.texts.firsts q.texts.seconds q.texts.kinds q.texts.lengths st' fs' ss' ks' ls' a.kept;
   }
 
--- de: the open definition after it, of what its name is
-abbrev pub OpeningIs : Named → Changed → (o o' : Opening) → Type 0
-OpeningIs names.no_name (changed.Count n) o o' = ⊥
-OpeningIs names.no_name changed.Same o o' = o' ≡ o
-OpeningIs names.no_name (changed.Refused k) o o' = o' ≡ o
-OpeningIs too_long (changed.Count n) o o' = ⊥
-OpeningIs too_long changed.Same o o' = o' ≡ o
-OpeningIs too_long (changed.Refused k) o o' = o' ≡ o
-OpeningIs (one m) (changed.Count n) o o' = o' ≡ record { there = true; name = m; length = 0 }
-OpeningIs (one m) changed.Same o o' = o' ≡ o
-OpeningIs (one m) (changed.Refused k) o o' = o' ≡ o
+-- de: how many texts there are after it
+abbrev pub texts_opened : Result (Option Opened) Refusal → Result (Option ℕ) Refusal
+texts_opened (Ok (Some o)) = Ok (Some o.texts)
+texts_opened (Ok None) = Ok None
+texts_opened (Err e) = Err e
 
-same_opening : (m : Named) (o o' : Opening) → OpeningIs m changed.Same o o' → o' ≡ o
-same_opening names.no_name o o' e = e
-same_opening too_long o o' e = e
-same_opening (one m) o o' e = e
+-- the open definition after it; where nothing is done and where it is refused, that is the one before
+abbrev pub opening_after : Result (Option Opened) Refusal → Opening → Opening
+opening_after (Ok (Some o)) p = o.opening
+opening_after (Ok None) p = p
+opening_after (Err e) p = p
 
-refused_opening : (m : Named) (k : ℕ) (o o' : Opening) → OpeningIs m (changed.Refused k) o o' → o' ≡ o
-refused_opening names.no_name k o o' e = e
-refused_opening too_long k o o' e = e
-refused_opening (one m) k o o' e = e
+-- the definition that is opened is of what the name is, and has no bytes
+abbrev pub OpeningIs : Named → Result (Option Opened) Refusal → Type 0
+OpeningIs names.no_name (Ok (Some o)) = ⊥
+OpeningIs names.no_name (Ok None) = Unit
+OpeningIs names.no_name (Err e) = Unit
+OpeningIs too_long (Ok (Some o)) = ⊥
+OpeningIs too_long (Ok None) = Unit
+OpeningIs too_long (Err e) = Unit
+OpeningIs (one m) (Ok (Some o)) = o.opening ≡ record { there = true; name = m; length = 0 }
+OpeningIs (one m) (Ok None) = Unit
+OpeningIs (one m) (Err e) = Unit
 
 module _ (act : State → Judged State) (q : WholeState) (st' fs' ss' ks' ls' row : List ℕ) (s : StateInvariant q) (d : q.page_state.stack.depth ≤ 16) (l : length row ≡ 872) (c : q.opening.there ≡ false) (m : Named) where
-  abbrev OpensWith : Changed → Type 0
+  abbrev OpensWith : Result (Option ℕ) Refusal → Type 0
   OpensWith r = OpensAs q.texts.store q.texts.firsts q.texts.seconds q.texts.kinds q.texts.lengths q.texts.count q.page_state.stack q.page_state.ends m act r st' fs' ss' ks' ls'
 
-  abbrev opened_whole : Changed → Opening → WholeState
+  abbrev opened_whole : Result (Option ℕ) Refusal → Opening → WholeState
   opened_whole r o = whole_state q.page_state q.planted (text_columns st' fs' ss' ks' ls' (in-texts.count_changed r q.texts.count)) o q.registers
 
   -- a refusal or nothing to do leaves all as it was
-  opened_same : (r : Changed) (o' : Opening) → o' ≡ q.opening
-      → ((x : State) → works [] (close_by (changed_way r) (state_in (opened_whole r q.opening) x)) ≡ settles (act (state_in q x)) (state_in q x))
-      → OpensWith r → StateRefines (λ v. settles (act v) v) q (changed_way r) 0 (opened_whole r o') row
-  opened_same r o' e is a = subst (λ (o : Opening). StateRefines (λ v. settles (act v) v) q (changed_way r) 0 (opened_whole r o) row) (sym e) (record {
+  opened_same : (r : Result (Option ℕ) Refusal)
+      → ((x : State) → works [] (close_by (way_of r) (state_in (opened_whole r q.opening) x)) ≡ settles (act (state_in q x)) (state_in q x))
+      → OpensWith r → StateRefines (λ v. settles (act v) v) q (way_of r) 0 (opened_whole r q.opening) row
+  opened_same r is a = record {
     is = is;
     sound = record {
       page_state = s.page_state;
@@ -246,12 +235,12 @@ module _ (act : State → Judged State) (q : WholeState) (st' fs' ss' ks' ls' ro
     few = omega arith;
     long = l;
     kept = kept_store r q.texts.store q.texts.firsts q.texts.seconds q.texts.kinds q.texts.lengths st' fs' ss' ks' ls' a.changes.kept;
-  })
+  }
 
   -- de, whose name has one or two bytes and was not refused
-  opened_new : (o' : Opening) (n : ℕ) (k : Name) → m ≡ one k → o' ≡ record { there = true; name = k; length = 0 } → OpensWith (changed.Count n)
-      → StateRefines (λ v. settles (act v) v) q On 0 (opened_whole (changed.Count n) o') row
-  opened_new o' n k e f a = subst (λ (o : Opening). StateRefines (λ v. settles (act v) v) q On 0 (opened_whole (changed.Count n) o) row) (sym f) (record {
+  opened_new : (o' : Opening) (n : ℕ) (k : Name) → m ≡ one k → o' ≡ record { there = true; name = k; length = 0 } → OpensWith (Ok (Some n))
+      → StateRefines (λ v. settles (act v) v) q On 0 (opened_whole (Ok (Some n)) o') row
+  opened_new o' n k e f a = subst (λ (o : Opening). StateRefines (λ v. settles (act v) v) q On 0 (opened_whole (Ok (Some n)) o) row) (sym f) (record {
     is = λ x.
         sym (ap (λ (h : Named). goes (opened_as h (over_stack q.page_state.stack q.page_state.arena q.page_state.ends (texts_of st' fs' ss' ks' ls' n) (state_in q x)))) e)
         ∙ ap (λ (j : Judged State). settles j (state_in q x)) (a.changes.is q.page_state.arena (state_in q x));
@@ -270,40 +259,25 @@ module _ (act : State → Judged State) (q : WholeState) (st' fs' ss' ks' ls' ro
   })
 
   -- de
-  pub open_refines : (r : Changed) (o' : Opening) → OpensWith r → OpeningIs m r q.opening o' → StateRefines (λ v. settles (act v) v) q (changed_way r) 0 (opened_whole r o') row
-  open_refines (changed.Count n) o' a f = go m refl f
+  pub open_refines : (r : Result (Option Opened) Refusal) → OpensWith (texts_opened r) → OpeningIs m r
+      → StateRefines (λ v. settles (act v) v) q (way_of r) 0 (opened_whole (texts_opened r) (opening_after r q.opening)) row
+  open_refines (Ok (Some o)) a f = go m refl f
     where
-      go : (h : Named) → m ≡ h → OpeningIs h (changed.Count n) q.opening o' → StateRefines (λ v. settles (act v) v) q On 0 (opened_whole (changed.Count n) o') row
+      go : (h : Named) → m ≡ h → OpeningIs h (Ok (Some o)) → StateRefines (λ v. settles (act v) v) q On 0 (opened_whole (Ok (Some o.texts)) o.opening) row
       go names.no_name e g = absurd g
       go too_long e g = absurd g
-      go (one k) e g = opened_new o' n k e g a
-  open_refines changed.Same o' a f =
-      opened_same changed.Same o' (same_opening m q.opening o' f)
+      go (one k) e g = opened_new o.opening o.texts k e g a
+  open_refines (Ok None) a f =
+      opened_same (Ok None)
       (λ x. ap (works []) (still_closed q x st' fs' ss' ks' ls' q.texts.count c) ∙ ap (λ (j : Judged State). settles j (state_in q x)) (a.changes.is q.page_state.arena (state_in q x))) a
-  open_refines (changed.Refused k) o' a f =
-      opened_same (changed.Refused k) o' (refused_opening m k q.opening o' f)
+  open_refines (Err k) a f =
+      opened_same (Err k)
       (λ x. let e = a.changes.kept in
       rw (e.0, e.1, e.2, e.3, e.4) (ap (λ (j : Judged State). settles j (state_in q x)) (a.changes.is q.page_state.arena (state_in q x)))) a
 
--- the definition of a name is open, unless it was refused
-abbrev pub opened_with : Changed → Name → Opening → Opened
-opened_with (changed.Count n) k o = record { changed = changed.Count n; opening = record { there = true; name = k; length = 0 } }
-opened_with changed.Same k o = record { changed = changed.Same; opening = o }
-opened_with (changed.Refused n) k o = record { changed = changed.Refused n; opening = o }
-
-pub opening_with : (r : Changed) (k : Name) (o : Opening) → OpeningIs (one k) (opened_with r k o).changed o (opened_with r k o).opening
-opening_with (changed.Count n) k o = refl
-opening_with changed.Same k o = refl
-opening_with (changed.Refused n) k o = refl
-
-pub changed_with : (r : Changed) (k : Name) (o : Opening) → (opened_with r k o).changed ≡ r
-changed_with (changed.Count n) k o = refl
-changed_with changed.Same k o = refl
-changed_with (changed.Refused n) k o = refl
-
 -- de without a name does nothing, and one of a name too long is refused
 module _ (st fs ss ks ls : List ℕ) (n : ℕ) (k : Stack) (ps l : List ℕ) (h : TextsInvariant st fs ss ks ls n) where
-  pub opens_nothing : name_of l ≡ names.no_name → OpensAs st fs ss ks ls n k ps (name_of l) (opens_text l) changed.Same st fs ss ks ls
+  pub opens_nothing : name_of l ≡ names.no_name → OpensAs st fs ss ks ls n k ps (name_of l) (opens_text l) (Ok None) st fs ss ks ls
   opens_nothing e = record {
     changes = record {
       is = λ bs x. let v = over_stack k bs ps (texts_of st fs ss ks ls n) x in sym (ap (λ (m : Named). on_name m v (open_text v)) e);
@@ -315,10 +289,10 @@ module _ (st fs ss ks ls : List ℕ) (n : ℕ) (k : Stack) (ps l : List ℕ) (h 
     opens = tt;
   }
 
-  pub opens_long : name_of l ≡ too_long → OpensAs st fs ss ks ls n k ps (name_of l) (opens_text l) (changed.Refused 7) st fs ss ks ls
-  opens_long e = record {
+  pub opens_long : (r : Refusal) → refusal_number r ≡ 7 → name_of l ≡ too_long → OpensAs st fs ss ks ls n k ps (name_of l) (opens_text l) (Err r) st fs ss ks ls
+  opens_long r z e = record {
     changes = record {
-      is = λ bs x. let v = over_stack k bs ps (texts_of st fs ss ks ls n) x in sym (ap (λ (m : Named). on_name m v (open_text v)) e);
+      is = λ bs x. let v = over_stack k bs ps (texts_of st fs ss ks ls n) x in ap bad z ∙ sym (ap (λ (m : Named). on_name m v (open_text v)) e);
       good = λ bs g. g;
       lies = h;
       long = refl;

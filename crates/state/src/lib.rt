@@ -8,13 +8,13 @@ use composition::page_rows::{Collected, PageOutcome};
 use input_stack::stack::Stack;
 use page::position::Page;
 use page::springs::Way;
-use requests::definitions::Changed;
 use rules::Name;
 use settings::layout::Layout;
 use traps::table::Planted;
 
 // An open definition: its name, and how many bytes of its body lie behind the texts.
-#[derive(Clone, Copy)]
+// No Option: the record for C holds all three, and gives them back where none is open too.
+#[derive(Clone, Copy, Debug, PartialEq, Eq)]
 pub struct Opening {
     pub there: bool,
     pub name: Name,
@@ -42,10 +42,10 @@ pub struct WorkOutcome {
     pub status: Status,
 }
 
-// What de leads to: the answer of the texts, and the definition that is open then.
-#[derive(Clone, Copy)]
+// What de leads to: how many texts there are then, and the definition that is open.
+#[derive(Clone, Copy, Debug, PartialEq, Eq)]
 pub struct Opened {
-    pub changed: Changed,
+    pub texts: usize,
     pub opening: Opening,
 }
 
@@ -64,27 +64,16 @@ pub fn stay(way: Way, status: Status) -> WorkOutcome
 pub fn moved(outcome: PageOutcome, status: Status) -> WorkOutcome
     ensures { result ≡ moved_to outcome status }
 {
-    let layout = outcome.layout;
-    let page = outcome.page;
-    let collected = outcome.collected;
-    let planted = status.planted;
-    let stack = outcome.stack;
-    let opening = status.opening;
-    let after = Status {
-        layout,
-        page,
-        collected,
-        planted,
-        stack,
-        texts: status.texts,
-        opening,
-        registers: status.registers,
-    };
-    let way = outcome.way;
     WorkOutcome {
-        way,
+        way: outcome.way,
         written: outcome.written,
-        status: after,
+        status: Status {
+            layout: outcome.layout,
+            page: outcome.page,
+            collected: outcome.collected,
+            stack: outcome.stack,
+            ..status
+        },
     }
 }
 
@@ -92,21 +81,9 @@ pub fn moved(outcome: PageOutcome, status: Status) -> WorkOutcome
 pub fn with_registers(status: Status, registers: usize) -> Status
     ensures { result ≡ with_register_count registers status }
 {
-    let layout = status.layout;
-    let page = status.page;
-    let collected = status.collected;
-    let planted = status.planted;
-    let stack = status.stack;
-    let opening = status.opening;
     Status {
-        layout,
-        page,
-        collected,
-        planted,
-        stack,
-        texts: status.texts,
-        opening,
         registers,
+        ..status
     }
 }
 
@@ -114,41 +91,17 @@ pub fn with_registers(status: Status, registers: usize) -> Status
 pub fn with_planted(status: Status, planted: Planted) -> Status
     ensures { result ≡ with_planted planted status }
 {
-    let layout = status.layout;
-    let page = status.page;
-    let collected = status.collected;
-    let stack = status.stack;
-    let opening = status.opening;
-    Status {
-        layout,
-        page,
-        collected,
-        planted,
-        stack,
-        texts: status.texts,
-        opening,
-        registers: status.registers,
-    }
+    Status { planted, ..status }
 }
 
 // So many texts, and this open definition.
 pub fn with_texts(status: Status, texts: usize, opening: Opening) -> Status
     ensures { result ≡ with_text_count texts opening status }
 {
-    let layout = status.layout;
-    let page = status.page;
-    let collected = status.collected;
-    let planted = status.planted;
-    let stack = status.stack;
     Status {
-        layout,
-        page,
-        collected,
-        planted,
-        stack,
         texts,
         opening,
-        registers: status.registers,
+        ..status
     }
 }
 
@@ -156,19 +109,5 @@ pub fn with_texts(status: Status, texts: usize, opening: Opening) -> Status
 pub fn with_stack(status: Status, stack: Stack) -> Status
     ensures { result ≡ with_status_stack stack status }
 {
-    let layout = status.layout;
-    let page = status.page;
-    let collected = status.collected;
-    let planted = status.planted;
-    let opening = status.opening;
-    Status {
-        layout,
-        page,
-        collected,
-        planted,
-        stack,
-        texts: status.texts,
-        opening,
-        registers: status.registers,
-    }
+    Status { stack, ..status }
 }

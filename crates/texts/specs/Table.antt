@@ -3,3 +3,4 @@ pub mod Places
 pub mod Changes
 pub mod KeptLaws
 pub mod Checks
+pub mod Lent

@@ -1,34 +1,37 @@
 // Strings and macros are defined, in the place of what had their name.
 ghost use Rattle.std.specs.Prelude.{◌≡◌, ◌+◌, ◌<◌, ◌≤◌, ◌-◌, ltb, length, take};
 ghost use Rattle.std.proofs.Math.Seq.{paste};
-ghost use Rattle.texts.specs.Table.Table.{total_length, TextsInvariant};
-ghost use Rattle.texts.specs.Table.Changes.{Entered, Appended, DefinedTo, Opens, OpenedTo, KeptTo, ClosedTo};
+ghost use Rattle.texts.specs.Table.Table.{code_of, total_length};
+ghost use Rattle.texts.specs.Table.Changes.{Entered};
+ghost use Rattle.texts.specs.Table.Lent.{AppendedIn, DefinedIn, OpenedIn, OpensIn, KeptIn, ClosedIn};
 
-use super::table::{KeptLine, TextCount, TextPlace};
-use rules::Name;
+use super::columns::Texts;
 use rules::arrays::{ByteColumn, LengthColumn, TABLE_SIZE};
+use rules::{Kind, Name, Refusal};
 
 // `text` is written at a place.
 pub fn copy_in(store: &mut [u8], at: usize, text: &[u8])
     requires { at + length text.now ≤ length store.old }
     ensures { store.new ≡ paste store.old at text.now (length text.now) }
 {
-    let mut j: usize = 0;
-    while j < text.len() {
-        let byte = text[j];
-        store[at + j] = byte;
-        j += 1;
-    }
+    store[at..at + text.len()].copy_from_slice(text);
 }
 
 // Whether so many bytes more do not fit behind those that are used.
 fn too_long(room: usize, used: usize, more: usize) -> bool
     ensures { result ≡ ltb room (used + more) }
 {
-    if room < used {
-        return true;
+    room < used || room - used < more
+}
+
+// The code of a kind in the column that callers lend.
+fn code_of(kind: Kind) -> u8
+    ensures { result ≡ code_of kind }
+{
+    match kind {
+        Kind::Macro => 0,
+        Kind::String => 1,
     }
-    room - used < more
 }
 
 // Writes a row of the table.
@@ -39,195 +42,118 @@ fn enter(
     lengths: &mut LengthColumn,
     count: usize,
     name: Name,
-    code: u8,
+    kind: Kind,
     size: u16,
 )
     requires { count < 64 }
-    ensures { Entered firsts.old seconds.old kinds.old lengths.old count name code size firsts.new seconds.new kinds.new lengths.new }
+    ensures { Entered firsts.old seconds.old kinds.old lengths.old count name kind size firsts.new seconds.new kinds.new lengths.new }
 {
     firsts[count] = name.first;
     seconds[count] = name.second;
-    kinds[count] = code;
+    kinds[count] = code_of(kind);
     lengths[count] = size;
 }
 
 // Puts a text behind the last.
-fn append(
-    store: &mut [u8],
-    firsts: &mut ByteColumn,
-    seconds: &mut ByteColumn,
-    kinds: &mut ByteColumn,
-    lengths: &mut LengthColumn,
-    count: usize,
-    name: Name,
-    code: u8,
-    text: &[u8],
-) -> usize
-    requires { (TextsInvariant store.old firsts.old seconds.old kinds.old lengths.old count) × (count < 64) × (total_length (take count lengths.old) + length text.now ≤ length store.old) × (length text.now ≤ 8192) }
-    ensures { Appended store.old firsts.old seconds.old kinds.old lengths.old count name code text.now result store.new firsts.new seconds.new kinds.new lengths.new }
+fn append(texts: &mut Texts, name: Name, kind: Kind, text: &[u8])
+    requires { (texts.old.count < 64) × (total_length (take texts.old.count texts.old.lengths.now) + length text.now ≤ length texts.old.store.now) × (length text.now ≤ 8192) }
+    ensures { AppendedIn texts.old name kind text.now texts.new }
 {
-    let at = super::table::start_of(&*lengths, count);
-    copy_in(store, at, text);
+    let at = super::table::start_of(&*texts.lengths, texts.count);
+    copy_in(&mut *texts.store, at, text);
     let size = text.len() as u16;
     enter(
-        &mut *firsts,
-        &mut *seconds,
-        &mut *kinds,
-        &mut *lengths,
-        count,
+        &mut *texts.firsts,
+        &mut *texts.seconds,
+        &mut *texts.kinds,
+        &mut *texts.lengths,
+        texts.count,
         name,
-        code,
+        kind,
         size,
     );
-    count + 1
+    texts.count += 1;
 }
 
 // Defines a string in the place of what had its name; one that is refused changes nothing.
-pub fn define_string(
-    store: &mut [u8],
-    firsts: &mut ByteColumn,
-    seconds: &mut ByteColumn,
-    kinds: &mut ByteColumn,
-    lengths: &mut LengthColumn,
-    count: usize,
-    name: Name,
-    text: &[u8],
-) -> TextCount
-    requires { TextsInvariant store.old firsts.old seconds.old kinds.old lengths.old count }
-    ensures { DefinedTo store.old firsts.old seconds.old kinds.old lengths.old count name text.now result store.new firsts.new seconds.new kinds.new lengths.new }
+pub fn define_string(texts: &mut Texts, name: Name, text: &[u8]) -> Result<(), Refusal>
+    ensures { DefinedIn texts.old name text.now result texts.new }
 {
-    let live = super::table::start_of(&*lengths, count);
-    let room = super::table::room_of(store.len());
-    match super::table::find(&*firsts, &*seconds, count, name) {
-        TextPlace::At(i) => {
-            let old = lengths[i] as usize;
+    let live = super::table::start_of(&*texts.lengths, texts.count);
+    let room = super::table::room_of(texts.store.len());
+    match super::table::find(&*texts.firsts, &*texts.seconds, texts.count, name) {
+        Some(i) => {
+            let lengths = &*texts.lengths;
+            let old = usize::from(lengths[i]);
             if too_long(room, live - old, text.len()) {
-                return TextCount::Full;
+                return Err(Refusal::FullTable);
             }
-            super::removal::take_out(
-                store,
-                &mut *firsts,
-                &mut *seconds,
-                &mut *kinds,
-                &mut *lengths,
-                count,
-                i,
-            );
-            TextCount::Set(append(
-                store,
-                &mut *firsts,
-                &mut *seconds,
-                &mut *kinds,
-                &mut *lengths,
-                count - 1,
-                name,
-                1,
-                text,
-            ))
+            super::removal::take_out(texts, i);
+            append(texts, name, Kind::String, text);
+            Ok(())
         }
-        TextPlace::Not => {
-            if TABLE_SIZE <= count {
-                return TextCount::Full;
+        None => {
+            if TABLE_SIZE <= texts.count {
+                return Err(Refusal::FullTable);
             }
             if too_long(room, live, text.len()) {
-                return TextCount::Full;
+                return Err(Refusal::FullTable);
             }
-            TextCount::Set(append(
-                store,
-                &mut *firsts,
-                &mut *seconds,
-                &mut *kinds,
-                &mut *lengths,
-                count,
-                name,
-                1,
-                text,
-            ))
+            append(texts, name, Kind::String, text);
+            Ok(())
         }
     }
 }
 
 // Opens a macro: "the old text counts as gone when the new definition starts"; one that is refused changes nothing.
-pub fn open_macro(
-    store: &mut [u8],
-    firsts: &mut ByteColumn,
-    seconds: &mut ByteColumn,
-    kinds: &mut ByteColumn,
-    lengths: &mut LengthColumn,
-    count: usize,
-    name: Name,
-) -> TextCount
-    requires { TextsInvariant store.old firsts.old seconds.old kinds.old lengths.old count }
-    ensures { OpenedTo store.old firsts.old seconds.old kinds.old lengths.old count name result store.new firsts.new seconds.new kinds.new lengths.new }
+pub fn open_macro(texts: &mut Texts, name: Name) -> Result<(), Refusal>
+    ensures { OpenedIn texts.old name result texts.new }
 {
-    match super::table::find(&*firsts, &*seconds, count, name) {
-        TextPlace::At(i) => {
-            super::removal::take_out(
-                store,
-                &mut *firsts,
-                &mut *seconds,
-                &mut *kinds,
-                &mut *lengths,
-                count,
-                i,
-            );
-            TextCount::Set(count - 1)
+    match super::table::find(&*texts.firsts, &*texts.seconds, texts.count, name) {
+        Some(i) => {
+            super::removal::take_out(texts, i);
+            Ok(())
         }
-        TextPlace::Not => {
-            if count < TABLE_SIZE {
-                return TextCount::Set(count);
+        None => {
+            if texts.count < TABLE_SIZE {
+                return Ok(());
             }
-            TextCount::Full
+            Err(Refusal::FullTable)
         }
     }
 }
 
 // Puts a line and its newline behind the body of an open macro; one that is refused changes nothing.
-pub fn keep_line(
-    store: &mut [u8],
-    lengths: &LengthColumn,
-    count: usize,
-    opened: usize,
-    line: &[u8],
-) -> KeptLine
-    requires { Opens store.old lengths.now count opened }
-    ensures { KeptTo store.old lengths.now count opened line.now result store.new }
+pub fn keep_line(texts: &mut Texts, opened: usize, line: &[u8]) -> Result<usize, Refusal>
+    requires { OpensIn texts.old opened }
+    ensures { KeptIn texts.old opened line.now result texts.new }
 {
-    let at = super::table::start_of(lengths, count) + opened;
-    let room = super::table::room_of(store.len());
+    let at = super::table::start_of(&*texts.lengths, texts.count) + opened;
+    let room = super::table::room_of(texts.store.len());
     let more = line.len() + 1;
     if too_long(room, at, more) {
-        return KeptLine::Full;
+        return Err(Refusal::FullTable);
     }
-    copy_in(store, at, line);
-    store[at + line.len()] = b'\n';
-    KeptLine::Longer(opened + more)
+    copy_in(&mut *texts.store, at, line);
+    texts.store[at + line.len()] = b'\n';
+    Ok(opened + more)
 }
 
 // "A macro exists once closed"
-pub fn close_macro(
-    store: &[u8],
-    firsts: &mut ByteColumn,
-    seconds: &mut ByteColumn,
-    kinds: &mut ByteColumn,
-    lengths: &mut LengthColumn,
-    count: usize,
-    opened: usize,
-    name: Name,
-) -> usize
-    requires { (TextsInvariant store.now firsts.old seconds.old kinds.old lengths.old count) × Opens store.now lengths.old count opened }
-    ensures { ClosedTo store.now firsts.old seconds.old kinds.old lengths.old count opened name result firsts.new seconds.new kinds.new lengths.new }
+pub fn close_macro(texts: &mut Texts, opened: usize, name: Name)
+    requires { OpensIn texts.old opened }
+    ensures { ClosedIn texts.old opened name texts.new }
 {
     let size = opened as u16;
     enter(
-        &mut *firsts,
-        &mut *seconds,
-        &mut *kinds,
-        &mut *lengths,
-        count,
+        &mut *texts.firsts,
+        &mut *texts.seconds,
+        &mut *texts.kinds,
+        &mut *texts.lengths,
+        texts.count,
         name,
-        0,
+        Kind::Macro,
         size,
     );
-    count + 1
+    texts.count += 1;
 }

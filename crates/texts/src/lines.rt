@@ -4,14 +4,14 @@ ghost use Rattle.rules.specs.Lines.{is_closing};
 ghost use Rattle.texts.specs.Lines.Lines.{first_line, next_line, TopInside, is_pair};
 
 // A part of the store, from a place up to another.
-#[derive(Clone, Copy)]
+#[derive(Clone, Copy, Debug, PartialEq, Eq)]
 pub struct StorePart {
     pub at: usize,
     pub end: usize,
 }
 
 // Where the next line comes from.
-#[derive(Clone, Copy)]
+#[derive(Clone, Copy, Debug, PartialEq, Eq)]
 pub enum Top {
     // so many gathered bytes of the source
     Source(usize),
@@ -25,22 +25,16 @@ pub enum Top {
 pub fn line_end(text: &[u8]) -> usize
     ensures { (result ≡ length (first_line text.now)) × (result ≤ length text.now) }
 {
-    let mut i = 0;
-    while i < text.len() {
-        if text[i] == b'\n' {
-            return i;
-        }
-        i += 1;
-    }
-    i
+    text.iter()
+        .position(|byte| *byte == b'\n')
+        .unwrap_or(text.len())
 }
 
 // The line reader: the bytes before the first newline.
 pub fn first_line(text: &[u8]) -> &[u8]
     ensures { result.now ≡ first_line text.now }
 {
-    let end = line_end(text);
-    &text[0..end]
+    &text[..line_end(text)]
 }
 
 // A macro's body, in the middle of the store, is handed to the line reader.
@@ -57,13 +51,9 @@ pub fn next_line<'a>(source: &'a [u8], store: &'a [u8], top: Top) -> &'a [u8]
     ensures { result.now ≡ next_line source.now store.now top }
 {
     match top {
-        Top::Source(count) => &source[0..count],
+        Top::Source(count) => &source[..count],
         Top::Lines(part) => body_line(store, part.at, part.end),
-        Top::Whole(part) => {
-            let at = part.at;
-            let end = part.end;
-            &store[at..end]
-        }
+        Top::Whole(part) => &store[part.at..part.end],
     }
 }
 
@@ -71,12 +61,7 @@ pub fn next_line<'a>(source: &'a [u8], store: &'a [u8], top: Top) -> &'a [u8]
 pub fn is_pair(line: &[u8], pair: &[u8; 2]) -> bool
     ensures { result ≡ is_pair line.now (get_or pair.now 0 0) (get_or pair.now 1 0) }
 {
-    if line.len() == 2 {
-        if line[0] == pair[0] {
-            return line[1] == pair[1];
-        }
-    }
-    false
+    line == pair.as_slice()
 }
 
 // "A definition closes at a line that is exactly two periods. It is compared raw."

@@ -29,29 +29,29 @@ shape_of-store-then-waiting c = c.loop-waiting.invariant.valid.formed.sound.stor
 pub returns-then-waiting : goal.returns-then-waiting
 returns-then-waiting c = let e = c.ran.ensures in rw (e.0, e.1, e.2, e.3) (ends_full (first (goal.at.returns-then-waiting c).Start) c.args.store.now c.args.block.now c.args.last c.args.out.now (here (goal.at.returns-then-waiting c).At-loop-waiting) c.loop-waiting.store c.loop-waiting.taken c.loop-waiting.written c.loop-waiting.out c.loop-waiting.invariant c.write_out-wrote.result _ c.write_out-wrote.ensures c.if-waiting.true)
 
-pub shape_of-out-in-With : goal.shape_of-out-in-With
-shape_of-out-in-With c = same_out (first (goal.at.shape_of-out-in-With c).Start) c.args.store.now c.args.block.now c.args.last c.args.out.now (here (goal.at.shape_of-out-in-With c).At-loop-waiting) c.loop-waiting.store c.loop-waiting.taken c.loop-waiting.written c.loop-waiting.out c.loop-waiting.invariant c.write_out-wrote.result _ c.write_out-wrote.ensures
+pub shape_of-out-in-Some : goal.shape_of-out-in-Some
+shape_of-out-in-Some c = same_out (first (goal.at.shape_of-out-in-Some c).Start) c.args.store.now c.args.block.now c.args.last c.args.out.now (here (goal.at.shape_of-out-in-Some c).At-loop-waiting) c.loop-waiting.store c.loop-waiting.taken c.loop-waiting.written c.loop-waiting.out c.loop-waiting.invariant c.write_out-wrote.result _ c.write_out-wrote.ensures
 
-pub shape_of-store-in-With : goal.shape_of-store-in-With
-shape_of-store-in-With c = c.loop-waiting.invariant.valid.formed.sound.store ∙ sym c.requires.formed.sound.store
+pub shape_of-store-in-Some : goal.shape_of-store-in-Some
+shape_of-store-in-Some c = c.loop-waiting.invariant.valid.formed.sound.store ∙ sym c.requires.formed.sound.store
 
-pub returns-in-With : goal.returns-in-With
-returns-in-With c = let e = c.ran-in-With.ensures in rw (e.0, e.1, e.2, e.3) (ends_closed (first (goal.at.returns-in-With c).Start) c.args.store.now c.args.block.now c.args.last c.args.out.now (here (goal.at.returns-in-With c).At-loop-waiting) c.loop-waiting.store c.loop-waiting.taken c.loop-waiting.written c.loop-waiting.out c.loop-waiting.invariant c.write_out-wrote.result _ c.write_out-wrote.ensures c.if-waiting.false _ (subst (λ v. ClosedIs v c.loop-waiting.closing) c.in-With.is c.closed-ended.ensures))
+pub returns-in-Some : goal.returns-in-Some
+returns-in-Some c = let e = c.ran-in-Some.ensures in rw (e.0, e.1, e.2, e.3) (ends_closed (first (goal.at.returns-in-Some c).Start) c.args.store.now c.args.block.now c.args.last c.args.out.now (here (goal.at.returns-in-Some c).At-loop-waiting) c.loop-waiting.store c.loop-waiting.taken c.loop-waiting.written c.loop-waiting.out c.loop-waiting.invariant c.write_out-wrote.result _ c.write_out-wrote.ensures c.if-waiting.false _ (subst (λ v. ClosedIs v c.loop-waiting.closing) c.in-Some.is c.closed.ensures))
 
 pub take_turn-turned-requires : goal.take_turn-turned-requires
-take_turn-turned-requires c = turns_on (first (goal.at.take_turn-turned-requires c).Start) c.args.store.now c.args.block.now c.args.last c.args.out.now (here (goal.at.take_turn-turned-requires c).At-loop-waiting) c.loop-waiting.store c.loop-waiting.taken c.loop-waiting.written c.loop-waiting.out c.loop-waiting.invariant c.write_out-wrote.result _ c.write_out-wrote.ensures c.if-waiting.false (subst (λ v. ClosedIs v c.loop-waiting.closing) c.in_default.is c.closed-ended.ensures)
+take_turn-turned-requires c = turns_on (first (goal.at.take_turn-turned-requires c).Start) c.args.store.now c.args.block.now c.args.last c.args.out.now (here (goal.at.take_turn-turned-requires c).At-loop-waiting) c.loop-waiting.store c.loop-waiting.taken c.loop-waiting.written c.loop-waiting.out c.loop-waiting.invariant c.write_out-wrote.result _ c.write_out-wrote.ensures c.if-waiting.false (subst (λ v. ClosedIs v c.loop-waiting.closing) c.in_default.is c.closed.ensures)
 
-pub shape_of-out-in-With-stop : goal.shape_of-out-in-With-stop
-shape_of-out-in-With-stop c = same_out (first (goal.at.shape_of-out-in-With-stop c).Start) c.args.store.now c.args.block.now c.args.last c.args.out.now (here (goal.at.shape_of-out-in-With-stop c).At-loop-waiting) c.loop-waiting.store c.loop-waiting.taken c.loop-waiting.written c.loop-waiting.out c.loop-waiting.invariant c.write_out-wrote.result _ c.write_out-wrote.ensures
+pub shape_of-out-in-Some-stop : goal.shape_of-out-in-Some-stop
+shape_of-out-in-Some-stop c = same_out (first (goal.at.shape_of-out-in-Some-stop c).Start) c.args.store.now c.args.block.now c.args.last c.args.out.now (here (goal.at.shape_of-out-in-Some-stop c).At-loop-waiting) c.loop-waiting.store c.loop-waiting.taken c.loop-waiting.written c.loop-waiting.out c.loop-waiting.invariant c.write_out-wrote.result _ c.write_out-wrote.ensures
 
-pub shape_of-store-in-With-stop : goal.shape_of-store-in-With-stop
-shape_of-store-in-With-stop c = (ends_with (first (goal.at.shape_of-store-in-With-stop c).Start) c.args.store.now c.args.block.now c.args.last c.args.out.now (here (goal.at.shape_of-store-in-With-stop c).At-loop-waiting) c.loop-waiting.store c.loop-waiting.taken c.loop-waiting.written c.loop-waiting.out c.loop-waiting.invariant c.write_out-wrote.result _ c.write_out-wrote.ensures c.if-waiting.false (subst (λ v. ClosedIs v c.loop-waiting.closing) c.in_default.is c.closed-ended.ensures) c.take_turn-turned.result.stop (record_of (core_in c.take_turn-turned.result) _ _ _ _ _ _ _ _ _ _ _ _ _) _ c.take_turn-turned.result.taken c.take_turn-turned.ensures _ c.in-With-stop.is).does.valid.formed.sound.store ∙ sym c.requires.formed.sound.store
+pub shape_of-store-in-Some-stop : goal.shape_of-store-in-Some-stop
+shape_of-store-in-Some-stop c = (ends_with (first (goal.at.shape_of-store-in-Some-stop c).Start) c.args.store.now c.args.block.now c.args.last c.args.out.now (here (goal.at.shape_of-store-in-Some-stop c).At-loop-waiting) c.loop-waiting.store c.loop-waiting.taken c.loop-waiting.written c.loop-waiting.out c.loop-waiting.invariant c.write_out-wrote.result _ c.write_out-wrote.ensures c.if-waiting.false (subst (λ v. ClosedIs v c.loop-waiting.closing) c.in_default.is c.closed.ensures) c.take_turn-turned.result.stop (record_of (core_in c.take_turn-turned.result) _ _ _ _ _ _ _ _ _ _ _ _ _) _ c.take_turn-turned.result.taken c.take_turn-turned.ensures _ c.in-Some-stop.is).does.valid.formed.sound.store ∙ sym c.requires.formed.sound.store
 
-pub returns-in-With-stop : goal.returns-in-With-stop
-returns-in-With-stop c = let e = c.ran-in-With-stop.ensures in rw (e.0, e.1, e.2, e.3) (ends_with (first (goal.at.returns-in-With-stop c).Start) c.args.store.now c.args.block.now c.args.last c.args.out.now (here (goal.at.returns-in-With-stop c).At-loop-waiting) c.loop-waiting.store c.loop-waiting.taken c.loop-waiting.written c.loop-waiting.out c.loop-waiting.invariant c.write_out-wrote.result _ c.write_out-wrote.ensures c.if-waiting.false (subst (λ v. ClosedIs v c.loop-waiting.closing) c.in_default.is c.closed-ended.ensures) c.take_turn-turned.result.stop (record_of (core_in c.take_turn-turned.result) _ _ _ _ _ _ _ _ _ _ _ _ _) _ c.take_turn-turned.result.taken c.take_turn-turned.ensures _ c.in-With-stop.is)
+pub returns-in-Some-stop : goal.returns-in-Some-stop
+returns-in-Some-stop c = let e = c.ran-in-Some-stop.ensures in rw (e.0, e.1, e.2, e.3) (ends_with (first (goal.at.returns-in-Some-stop c).Start) c.args.store.now c.args.block.now c.args.last c.args.out.now (here (goal.at.returns-in-Some-stop c).At-loop-waiting) c.loop-waiting.store c.loop-waiting.taken c.loop-waiting.written c.loop-waiting.out c.loop-waiting.invariant c.write_out-wrote.result _ c.write_out-wrote.ensures c.if-waiting.false (subst (λ v. ClosedIs v c.loop-waiting.closing) c.in_default.is c.closed.ensures) c.take_turn-turned.result.stop (record_of (core_in c.take_turn-turned.result) _ _ _ _ _ _ _ _ _ _ _ _ _) _ c.take_turn-turned.result.taken c.take_turn-turned.ensures _ c.in-Some-stop.is)
 
 pub loop-waiting-smaller : goal.loop-waiting-smaller
-loop-waiting-smaller c = goes_less (first (goal.at.loop-waiting-smaller c).Start) c.args.store.now c.args.block.now c.args.last c.args.out.now (here (goal.at.loop-waiting-smaller c).At-loop-waiting) c.loop-waiting.store c.loop-waiting.taken c.loop-waiting.written c.loop-waiting.out c.loop-waiting.invariant c.write_out-wrote.result _ c.write_out-wrote.ensures c.if-waiting.false (subst (λ v. ClosedIs v c.loop-waiting.closing) c.in_default.is c.closed-ended.ensures) c.take_turn-turned.result.stop (record_of (core_in c.take_turn-turned.result) _ _ _ _ _ _ _ _ _ _ _ _ _) _ c.take_turn-turned.result.taken c.take_turn-turned.ensures c.in_default-stop.is
+loop-waiting-smaller c = goes_less (first (goal.at.loop-waiting-smaller c).Start) c.args.store.now c.args.block.now c.args.last c.args.out.now (here (goal.at.loop-waiting-smaller c).At-loop-waiting) c.loop-waiting.store c.loop-waiting.taken c.loop-waiting.written c.loop-waiting.out c.loop-waiting.invariant c.write_out-wrote.result _ c.write_out-wrote.ensures c.if-waiting.false (subst (λ v. ClosedIs v c.loop-waiting.closing) c.in_default.is c.closed.ensures) c.take_turn-turned.result.stop (record_of (core_in c.take_turn-turned.result) _ _ _ _ _ _ _ _ _ _ _ _ _) _ c.take_turn-turned.result.taken c.take_turn-turned.ensures c.in_default-stop.is
 
 pub loop-waiting-preserved : goal.loop-waiting-preserved
-loop-waiting-preserved c = goes_on (first (goal.at.loop-waiting-preserved c).Start) c.args.store.now c.args.block.now c.args.last c.args.out.now (here (goal.at.loop-waiting-preserved c).At-loop-waiting) c.loop-waiting.store c.loop-waiting.taken c.loop-waiting.written c.loop-waiting.out c.loop-waiting.invariant c.write_out-wrote.result _ c.write_out-wrote.ensures c.if-waiting.false (subst (λ v. ClosedIs v c.loop-waiting.closing) c.in_default.is c.closed-ended.ensures) c.take_turn-turned.result.stop (record_of (core_in c.take_turn-turned.result) _ _ _ _ _ _ _ _ _ _ _ _ _) _ c.take_turn-turned.result.taken c.take_turn-turned.ensures c.in_default-stop.is
+loop-waiting-preserved c = goes_on (first (goal.at.loop-waiting-preserved c).Start) c.args.store.now c.args.block.now c.args.last c.args.out.now (here (goal.at.loop-waiting-preserved c).At-loop-waiting) c.loop-waiting.store c.loop-waiting.taken c.loop-waiting.written c.loop-waiting.out c.loop-waiting.invariant c.write_out-wrote.result _ c.write_out-wrote.ensures c.if-waiting.false (subst (λ v. ClosedIs v c.loop-waiting.closing) c.in_default.is c.closed.ensures) c.take_turn-turned.result.stop (record_of (core_in c.take_turn-turned.result) _ _ _ _ _ _ _ _ _ _ _ _ _) _ c.take_turn-turned.result.taken c.take_turn-turned.ensures c.in_default-stop.is

@@ -15,20 +15,12 @@ returns-then-has_work c =
     turn_stops y.result.stop y.ensures.1 a.block.now a.last (record_of (resting a.status a.source) a.gathered.now a.cells.now a.row.now a.arena.now a.ends.now a.text_firsts.now a.text_seconds.now a.kinds.now a.lengths.now a.firsts.now a.seconds.now a.values.now a.steps.now) a.store.now a.taken _ _ _ y.ensures.2
     (turn_work a.block.now a.last (record_of (resting a.status a.source) a.gathered.now a.cells.now a.row.now a.arena.now a.ends.now a.text_firsts.now a.text_seconds.now a.kinds.now a.lengths.now a.firsts.now a.seconds.now a.values.now a.steps.now) a.store.now a.taken c.requires refl _ _ (y.ensures.0 a.gathered.now c.requires.valid.formed.gathered_long))
 
-pub take_line-requires : goal.take_line-requires
-take_line-requires c =
-    let a = c.args in (is_asking a.block.now a.taken a.status a.source a.gathered.now a.cells.now a.row.now a.arena.now a.ends.now a.text_firsts.now a.text_seconds.now a.kinds.now a.lengths.now a.firsts.now a.seconds.now a.values.now a.steps.now a.store.now c.requires c.has_work.result c.has_work.ensures c.if-has_work.false, c.if-taken-block.true)
-
 pub returns-then-taken-block : goal.returns-then-taken-block
 returns-then-taken-block c =
     let a = c.args in
     let y = c.take_line in
     turn_goes y.result.stop y.ensures.1 a.block.now a.last (record_of (resting a.status a.source) a.gathered.now a.cells.now a.row.now a.arena.now a.ends.now a.text_firsts.now a.text_seconds.now a.kinds.now a.lengths.now a.firsts.now a.seconds.now a.values.now a.steps.now) a.store.now a.taken _ _ _
     (turn_take a.block.now a.last (record_of (resting a.status a.source) a.gathered.now a.cells.now a.row.now a.arena.now a.ends.now a.text_firsts.now a.text_seconds.now a.kinds.now a.lengths.now a.firsts.now a.seconds.now a.values.now a.steps.now) a.store.now a.taken c.requires refl _ _ _ y.ensures.0)
-
-pub read_end-requires : goal.read_end-requires
-read_end-requires c =
-    let a = c.args in is_asking a.block.now a.taken a.status a.source a.gathered.now a.cells.now a.row.now a.arena.now a.ends.now a.text_firsts.now a.text_seconds.now a.kinds.now a.lengths.now a.firsts.now a.seconds.now a.values.now a.steps.now a.store.now c.requires c.has_work.result c.has_work.ensures c.if-has_work.false
 
 pub returns-then-last : goal.returns-then-last
 returns-then-last c =

@@ -11,34 +11,34 @@ use Rattle.rules.specs.declared.Trap.{Trap}
 use Rattle.rules.specs.declared.Breaking.{Breaking}
 use Rattle.rules.specs.declared.LineSetting.{LineSetting}
 use Rattle.rules.specs.Printers as printers
-use Rattle.rules.specs.Refusals.{Judged, value, bad}
+use Rattle.rules.specs.Refusals.{Judged, value}
 use Rattle.rules.specs.Laws.Refusals.{Every, every_map}
 use Rattle.rules.specs.Texts.{Text}
 use Rattle.rules.specs.State.{State, Item}
-use Rattle.rules.specs.Rows.{goes, refuses, skip, start_page, break}
+use Rattle.rules.specs.Rows.{goes, skip, start_page, break}
 use Rattle.rules.specs.Acts.{on_value, spacing, act}
 use Rattle.rules.specs.ControlLines.{start_or_break, break_or_act}
 use Rattle.traps.specs.declared.table.Planted.{Planted}
 use Rattle.fill.specs.Collected.Filled.{collected_line}
 use Rattle.settings.specs.declared.layout.Printer.{Printer}
-use Rattle.settings.specs.declared.layout.NewLayout.{NewLayout}
-use Rattle.settings.specs.Layout.Layouts.{new_layout_is, LineSettingRefines}
+use Rattle.std.specs.Prelude.{Result}
+use Rattle.rules.specs.declared.Refusal.{Refusal}
+use Rattle.rules.specs.Results.{judged_by}
+use Rattle.settings.specs.declared.layout.Layout.{Layout}
+use Rattle.settings.specs.Layout.Layouts.{layout_of, LineSettingRefines}
 use Rattle.page.specs.Springs.Held.{held_of}
 use Rattle.composition.specs.PageRows.PageState.{PageState, collected_if, state_at, PageInvariant}
 use Rattle.composition.specs.BreakRequests.Acting.{space_by}
 use Rattle.composition.specs.BreakRequests.Obeying.{held_line, held_request, starts_first, obeyed, line_held, request_held}
 
 -- a new layout has the page length that it had
-pub page_above : (p : Printer) (q : LineSetting) (planted : Planted) (d : PageState) (a : List ℕ) (new : NewLayout) → PageInvariant planted d → LineSettingRefines p q d.layout a new
-    → Every (λ y. down_of d.page.used < y.page) (new_layout_is new)
+pub page_above : (p : Printer) (q : LineSetting) (planted : Planted) (d : PageState) (a : List ℕ) (new : Result Layout Refusal) → PageInvariant planted d → LineSettingRefines p q d.layout a new
+    → Every (λ y. down_of d.page.used < y.page) (judged_by layout_of new)
 page_above p q planted d a new s h = every_map h.page (λ y e. omega (arith, s.above, e))
 
--- sp of a number, and of a malformed one
+-- sp of a number
 pub spaced_by : (p : printers.Printer) (a : List ℕ) (z : ℤ) (s : State) → value z ≡ spacing p a → skip z s ≡ space_by p a s
 spaced_by p a z s e = ap (λ (j : Judged ℤ). on_value j s (λ n. skip n s)) e
-
-pub space_refused : (p : printers.Printer) (a : List ℕ) (s : State) → bad 6 ≡ spacing p a → refuses 6 s ≡ space_by p a s
-space_refused p a s e = ap (λ (j : Judged ℤ). on_value j s (λ n. skip n s)) e
 
 module _ (p : printers.Printer) (r : Breaking) (l : List ℕ) (d : PageState) (ps : List Trap) (ts : List Text) (x : State) where
   -- by whether there is a period and a line is collected

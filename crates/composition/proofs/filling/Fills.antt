@@ -1,7 +1,7 @@
 -- What placing words leads to, in the rules' terms. Assumes nothing.
-use mathlib.Core.Path.{◌≡◌, refl, sym, ap, ◌∙◌, subst}
-use mathlib.Core.Bool.{Bool, true, false, or-false}
-use mathlib.Core.Option.{Option, some}
+use Rattle.std.specs.Prelude.{Option, None, Some, Err}
+use mathlib.Core.Path.{◌≡◌, refl, sym, ap, ◌∙◌}
+use mathlib.Core.Bool.{Bool, true, false}
 use mathlib.Core.List.{List, [], ◌∷◌, ◌++◌}
 use Prim.Native.Nat.{ℕ, zero, suc, ◌≤◌, ◌<◌}
 use lib.IntN.{pos}
@@ -24,39 +24,18 @@ use Rattle.rules.specs.declared.Trap.{Trap}
 use Rattle.rules.specs.TextLines.{others_of, next_gap, filled, fill_from, fill, gap_here, stands, fills, breaks, emptyLine, text_way, counted, TextLineCase, text_line_case, as_it_stands, blank_from, text_line}
 use Rattle.fill.specs.Words.Parts.{bytes_between, Places}
 use Rattle.fill.specs.Words.Words.{is_none}
-use Rattle.fill.specs.Collected.Filled.{collected_line, placed_of, PlacedTo}
-use Rattle.fill.specs.declared.collected.Placed as declared
+use Rattle.fill.specs.Collected.Filled.{collected_line, placed_of}
 use Rattle.fill.specs.declared.collected.Overflow.{Overflow}
-use Rattle.fill.specs.declared.collected.Placed.TheVariants as placed
 use Rattle.settings.specs.declared.layout.Layout.{Layout}
 use Rattle.settings.specs.Layout.Layouts.{layout_of}
 use Rattle.page.specs.declared.position.Page.{Page}
 use Rattle.input_stack.specs.declared.stack.Stack.{Stack}
 use Rattle.composition.specs.declared.page_rows.Collected.{Collected}
-use Rattle.composition.specs.PageRows.PageState.{page_state, collected_if, collected_of, state_at, page_work}
-use Rattle.page.specs.declared.springs.Held.{Held}
-use Rattle.page.specs.declared.springs.Way.TheVariants.{On}
+use Rattle.composition.specs.PageRows.PageState.{page_state, collected_if, collected_of, state_at}
+use Rattle.input_stack.specs.declared.frames.What.{What}
 use Rattle.input_stack.specs.declared.frames.What.TheVariants as what
-use Rattle.page.specs.declared.springs.Held.TheVariants as held
 use Rattle.page.specs.Springs.Held.{held_of, Plain}
-use Rattle.composition.specs.Filling.Words.{others_held, longer_line, leading_word, WordsFilled, Follows, word_way, breaks_first, fresh_way}
-
--- no words are left, or some
-pub held_none : (ws : List Word) (g : ℕ) → is_none ws ≡ true → held.Nothing ≡ others_held ws g
-held_none [] g e = refl
-held_none (w ∷ ws) g e = let z : ◌≡◌ {A = ℕ} 0 1 = cc in absurd (omega arith)
-
-pub held_some : (ws : List Word) (g : ℕ) → is_none ws ≡ false → held.Item (what.Others g) ≡ others_held ws g
-held_some [] g e = let z : ◌≡◌ {A = ℕ} 0 1 = cc in absurd (omega arith)
-held_some (w ∷ ws) g e = refl
-
-pub gap_none : (ws : List Word) (g : ℕ) → is_none ws ≡ true → g ≡ next_gap ws g
-gap_none [] g e = refl
-gap_none (w ∷ ws) g e = let z : ◌≡◌ {A = ℕ} 0 1 = cc in absurd (omega arith)
-
-pub gap_some : (ws : List Word) (g : ℕ) → is_none ws ≡ false → 1 ≡ next_gap ws g
-gap_some [] g e = let z : ◌≡◌ {A = ℕ} 0 1 = cc in absurd (omega arith)
-gap_some (w ∷ ws) g e = refl
+use Rattle.composition.specs.Filling.Words.{others_held, leading_word, word_way, breaks_first, fresh_way}
 
 -- what is held is the other words
 pub held_others : (ts : List Text) (ws : List Word) (g : ℕ) (bytes : List ℕ) → words bytes ≡ ws → held_of ts (others_held ws g) bytes ≡ others_of ws g
@@ -87,7 +66,7 @@ unfolding bytes_between
 part_short line at to p = simp (length-take, length-drop) (omega (arith, p.few))
 
 -- the row is written, and the word that did not fit starts the next line
-module _ (ts : List Text) (ps : List Trap) (y y' : Layout) (g : Page) (c fresh : Collected) (cells cells' line : List ℕ) (k : Stack) (arena ends : List ℕ) (o : Overflow) (gap to : ℕ) (h : Held) (bytes text : List ℕ) (x : State) where
+module _ (ts : List Text) (ps : List Trap) (y y' : Layout) (g : Page) (c fresh : Collected) (cells cells' line : List ℕ) (k : Stack) (arena ends : List ℕ) (o : Overflow) (gap to : ℕ) (h : Option What) (bytes text : List ℕ) (x : State) where
   abbrev ws : List Word
   ws = words (bytes_between line o.to to)
 
@@ -98,28 +77,15 @@ module _ (ts : List Text) (ps : List Trap) (y y' : Layout) (g : Page) (c fresh :
   at v w = with_collected w (with_layout v (state_at ts ps (page_state y g c cells k arena ends) x))
 
   pub overflowed : layout_of y' ≡ begun (layout_of y) → h ≡ others_held ws gap → bytes ≡ bytes_between line o.to to
-      → collected_of fresh cells' ≡ some (with_next (next_gap ws gap) (begin (layout_of y) (word (across_of o.gap) (bytes_between line o.from o.to)))) → text ≡ full_row (layout_of y) line₁
-      → filled (placed_of (across_of c.indent) (across_of c.room) cells (across_of c.next) line to (placed.Full o)) gap (state_at ts ps (page_state y g c cells k arena ends) x)
+      → collected_of fresh cells' ≡ Some (with_next (next_gap ws gap) (begin (layout_of y) (word (across_of o.gap) (bytes_between line o.from o.to)))) → text ≡ full_row (layout_of y) line₁
+      → filled (placed_of (across_of c.indent) (across_of c.room) cells (across_of c.next) line to (Err o)) gap (state_at ts ps (page_state y g c cells k arena ends) x)
       ≡ works text (down 1 (held_of ts h bytes) (state_at ts ps (page_state y' g fresh cells' k arena ends) x))
   overflowed a b e f t =
-      let held : held_of ts h bytes ≡ others_of ws gap = ap (λ (v : Held). held_of ts v bytes) b ∙ held_others ts ws gap bytes (ap words e) in
+      let held : held_of ts h bytes ≡ others_of ws gap = ap (λ (v : Option What). held_of ts v bytes) b ∙ held_others ts ws gap bytes (ap words e) in
       sym (ap (λ (v : rule.Layout). works text (down 1 (held_of ts h bytes) (at v (collected_of fresh cells')))) a
       ∙ ap (λ (v : Option filling.Collected). works text (down 1 (held_of ts h bytes) (at (begun (layout_of y)) v))) f
-      ∙ ap (λ (v : List Item). works text (down 1 v (at (begun (layout_of y)) (some (with_next (next_gap ws gap) (begin (layout_of y) (word (across_of o.gap) (bytes_between line o.from o.to)))))))) held
-      ∙ ap (λ (v : List ℕ). works v (down 1 (others_of ws gap) (at (begun (layout_of y)) (some (with_next (next_gap ws gap) (begin (layout_of y) (word (across_of o.gap) (bytes_between line o.from o.to)))))))) t)
-
--- the words that fitted are collected
-pub collected_all : (ts : List Text) (ps : List Trap) (y : Layout) (g : Page) (c : Collected) (cells line row : List ℕ) (k : Stack) (arena ends : List ℕ) (n gap to : ℕ) (x : State)
-    → page_work ts ps On 0 (page_state y g (longer_line n gap c) cells k arena ends) row x
-    ≡ filled (placed_of (across_of c.indent) (across_of c.room) cells (across_of c.next) line to (placed.All n)) gap (state_at ts ps (page_state y g c cells k arena ends) x)
-collected_all ts ps y g c cells line row k arena ends n gap to x = refl
-
--- words that were placed
-pub filled_from : (line : List ℕ) (at to : ℕ) (ws : List Word) (entry : List ℕ) (count room gap : ℕ) (r : declared.Placed) (exit : List ℕ) → PlacedTo line at to ws entry count room r exit → Places line at to → gap ≤ 2
-    → WordsFilled line to exit room gap r
-filled_from line at to ws entry count room gap (placed.All n) exit p q h = (p.cells, h)
-filled_from line at to ws entry count room gap (placed.Full o) exit p q h =
-    let g = p.good in record { places = record { long = q.long; ordered = g.2; few = q.few }; word = g.1; collected = p.cells; small = h }
+      ∙ ap (λ (v : List Item). works text (down 1 v (at (begun (layout_of y)) (Some (with_next (next_gap ws gap) (begin (layout_of y) (word (across_of o.gap) (bytes_between line o.from o.to)))))))) held
+      ∙ ap (λ (v : List ℕ). works v (down 1 (others_of ws gap) (at (begun (layout_of y)) (Some (with_next (next_gap ws gap) (begin (layout_of y) (word (across_of o.gap) (bytes_between line o.from o.to)))))))) t)
 
 -- a line without leading spaces stands as it is
 pub follow : (n : ℕ) (ws : List Word) → leads ws ≡ false → after n (standing ws) ≡ after n ws
@@ -156,18 +122,6 @@ way_fresh true false true c e = let z : ◌≡◌ {A = ℕ} 0 1 = cc in absurd (
 way_fresh true false false c e = refl
 way_fresh false true l c e = refl
 way_fresh false false l c e = refl
-
-pub fresh_follows : (t q : Bool) (ws : List Word) → q ≡ false → breaks_first t q (leads ws) ≡ false → Follows t ws
-fresh_follows t q ws a e = go t (subst (λ (v : Bool). breaks_first t v (leads ws) ≡ false) a e)
-  where
-    go : (t : Bool) → breaks_first t false (leads ws) ≡ false → Follows t ws
-    go true h = sym (or-false (leads ws)) ∙ h
-    go false h = tt
-
--- nothing is a part
-pub part_none : (l : List ℕ) → bytes_between l 0 0 ≡ []
-unfolding bytes_between
-part_none l = refl
 
 module _ (ts : List Text) (ps : List Trap) (y : Layout) (g : Page) (c : Collected) (cells : List ℕ) (k : Stack) (arena ends : List ℕ) (gap : ℕ) (x : State) where
   abbrev here : State
@@ -227,13 +181,13 @@ module _ (ts : List Text) (ps : List Trap) (y : Layout) (g : Page) (c : Collecte
 
   -- a text line that is written as it stands
   pub line_stands : (y' : Layout) (ws : List Word) (l printedText bytes : List ℕ) → layout_of y' ≡ counted (layout_of y) → printedText ≡ standing_row (layout_of y) ws
-      → text_way stands ws l here ≡ works printedText (down 1 (held_of ts held.Nothing bytes) (state_at ts ps (page_state y' g c cells k arena ends) x))
+      → text_way stands ws l here ≡ works printedText (down 1 (held_of ts None bytes) (state_at ts ps (page_state y' g c cells k arena ends) x))
   line_stands y' ws l printedText bytes a t =
       sym (ap (λ (v : rule.Layout). works printedText (down 1 [] (with_layout v here))) a ∙ ap (λ (v : List ℕ). works v (down 1 [] (with_layout (counted (layout_of y)) here))) t)
 
   -- "A line that .. has no bytes or only spaces acts as sp 1"
   pub blank_breaks : (bytes : List ℕ) → c.there ≡ true → bytes ≡ [] → blank_from here.collected here
-      ≡ break (collected_line (across_of c.indent) (across_of c.room) cells c.length (across_of c.next)) (held_of ts (held.Item (what.Acts Sp)) bytes) here
+      ≡ break (collected_line (across_of c.indent) (across_of c.room) cells c.length (across_of c.next)) (held_of ts (Some (what.Acts Sp)) bytes) here
   blank_breaks bytes e b =
       ap (λ (t : Bool). blank_from (collected_if t c cells) here) e
       ∙ sym (ap (λ (l : List ℕ). break (collected_line (across_of c.indent) (across_of c.room) cells c.length (across_of c.next)) (acts Sp l ∷ []) here) b)
@@ -242,7 +196,7 @@ module _ (ts : List Text) (ps : List Trap) (y : Layout) (g : Page) (c : Collecte
   blank_skips e = ap (λ (t : Bool). blank_from (collected_if t c cells) here) e
 
   -- a text line starts the first page
-  pub text_starts : (l bytes : List ℕ) → bytes ≡ l → g.number ≡ 0 → text_line l here ≡ goes (start_page (held_of ts (held.Item what.Text) bytes) here)
+  pub text_starts : (l bytes : List ℕ) → bytes ≡ l → g.number ≡ 0 → text_line l here ≡ goes (start_page (held_of ts (Some what.Text) bytes) here)
   unfolding text_line
   text_starts l bytes b e =
       ap (λ (n : ℕ). text_way (text_line_case n (words l) (collected_of c cells) (as_it_stands (layout_of y))) (words l) l here) e

@@ -18,7 +18,8 @@ use Rattle.fill.specs.Collected.Writing.{Written}
 use Rattle.fill.specs.Collected.Filled.{CollectedInvariant}
 use Rattle.settings.specs.declared.layout.Layout.{Layout}
 use Rattle.settings.specs.Layout.Layouts.{layout_of, LayoutInvariant}
-use Rattle.page.specs.declared.springs.Held.{Held}
+use Rattle.std.specs.Prelude.{Option}
+use Rattle.input_stack.specs.declared.frames.What.{What}
 use Rattle.page.specs.declared.springs.Landed.{Landed}
 use Rattle.page.specs.declared.springs.Way.{Way}
 use Rattle.page.specs.Springs.Held.{held_of}
@@ -35,7 +36,7 @@ written_front entry bytes exit answer w h =
 
 module _ (rule : List Text → State → Next) (fs ss : List ℕ) (k : ℕ) (planted : Planted) (d : PageState) where
   -- a row and the move down
-  module _ (y : Layout) (c : Collected) (cells : List ℕ) (h : Held) (bytes : List ℕ) (n : ℕ) (r : Landed) (arena ends : List ℕ) (m : MoveRefines (down n) d.page y.page planted h bytes d.stack d.arena d.ends fs ss k r arena ends) where
+  module _ (y : Layout) (c : Collected) (cells : List ℕ) (h : Option What) (bytes : List ℕ) (n : ℕ) (r : Landed) (arena ends : List ℕ) (m : MoveRefines (down n) d.page y.page planted h bytes d.stack d.arena d.ends fs ss k r arena ends) where
     pub moves_on : (text row : List ℕ) (written : ℕ) → take written row ≡ text → written ≤ 872 → length row ≡ 872
         → ((ts : List Text) (x : State) → rule ts (state_at ts (planted_of planted) d x)
         ≡ works text (down n (held_of ts h bytes) (state_at ts (planted_of planted) (page_state y d.page c cells d.stack d.arena d.ends) x)))

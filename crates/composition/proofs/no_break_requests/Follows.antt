@@ -24,19 +24,18 @@ use Rattle.traps.specs.declared.table.Planted.{Planted}
 use Rattle.traps.specs.Table.Table.{planted_of}
 use Rattle.settings.specs.declared.layout.Printer.{Printer}
 use Rattle.settings.specs.declared.layout.Layout.{Layout}
-use Rattle.line_syntax.specs.declared.conditions.ConditionResult as settings
+use Rattle.std.specs.Prelude.{Some, Result}
+use Rattle.rules.specs.declared.Refusal.{Refusal}
+use Rattle.rules.specs.Results.{judged}
 use Rattle.settings.specs.Lengths.Views.{printer}
-use Rattle.line_syntax.specs.Conditions.Conditions.{condition_is}
 use Rattle.settings.specs.Layout.Layouts.{printer_of}
 use Rattle.input_stack.specs.declared.frames.What.{What}
 use Rattle.input_stack.specs.declared.stack.Stack.{Stack}
-use Rattle.input_stack.specs.Stack.Frames.{StackInvariant}
 use Rattle.input_stack.specs.Stack.Items.{item_by, stack_of}
 use Rattle.page.specs.declared.position.Page.{Page}
-use Rattle.page.specs.declared.springs.Held.TheVariants as held
 use Rattle.page.specs.declared.springs.Way.TheVariants.{On}
 use Rattle.page.specs.Springs.Held.{no_ends, PlainItem, HeldTo}
-use Rattle.page.proofs.springs.Stacks.{fits_few, over_items, over_good, over_fits}
+use Rattle.page.proofs.springs.Stacks.{over_items, over_good, over_fits}
 use Rattle.composition.specs.declared.page_rows.Collected.{Collected}
 use Rattle.composition.specs.PageRows.PageState.{page_state, state_at, PageInvariant, PageRefines}
 use Rattle.composition.specs.NoBreakRequests.Following.{followed, Followed}
@@ -62,9 +61,9 @@ module _ (p : Printer) (page : ℕ) where
   holds_same (b ∷ l) = if_same (eqb b (byte "!")) b l
 
 -- a condition that is there is judged
-judged : (p : printers.Printer) (l rest : List ℕ) (s : State) → 0 < length l → if_line p l rest s ≡ (holds p s.page.number l >>= λ v. value (follows v rest s))
-judged p [] rest s h = absurd (omega arith)
-judged p (b ∷ l) rest s h = refl
+if_judged : (p : printers.Printer) (l rest : List ℕ) (s : State) → 0 < length l → if_line p l rest s ≡ (holds p s.page.number l >>= λ v. value (follows v rest s))
+if_judged p [] rest s h = absurd (omega arith)
+if_judged p (b ∷ l) rest s h = refl
 
 module _ (p : Printer) (line : List ℕ) (r : ConditionPart) (h : ConditionAt line 0 r) (s : State) where
   if_is : settles (if_line (printer_of p) (take (r.to - r.from) (drop r.from line)) (drop r.rest line) s) s ≡ settles (decide (printer_of p) line s) s
@@ -78,39 +77,31 @@ module _ (p : Printer) (line : List ℕ) (r : ConditionPart) (h : ConditionAt li
       sym (ap (λ (n : ℕ). settles (if_line (printer_of p) (take n (drop r.from line)) (drop r.rest line) s) s) z) ∙ if_is
 
   -- else the condition says whether the rest follows
-  pub if_holds : (v : settings.ConditionResult) → condition_is v ≡ holds (printer p.pitch 0) s.page.number (take (r.to - r.from) (drop r.from line)) → r.from < r.to
-      → settles (condition_is v >>= λ t. value (follows t (drop r.rest line) s)) s ≡ settles (decide (printer_of p) line s) s
+  pub if_holds : (v : Result Bool Refusal) → judged v ≡ holds (printer p.pitch 0) s.page.number (take (r.to - r.from) (drop r.from line)) → r.from < r.to
+      → settles (judged v >>= λ t. value (follows t (drop r.rest line) s)) s ≡ settles (decide (printer_of p) line s) s
   if_holds v e d =
       let l = take (r.to - r.from) (drop r.from line) in let rest = drop r.rest line in
       let k : r.to - r.from ≤ length (drop r.from line) = omega (arith, length-drop r.from line, h.onward, h.inside) in
       ap (λ (j : Judged Bool). settles (j >>= λ t. value (follows t rest s)) s) (e ∙ holds_same p s.page.number l)
-      ∙ sym (ap (λ (j : Judged State). settles j s) (judged (printer_of p) l rest s (omega (arith, length-take-le (r.to - r.from) (drop r.from line) k))))
+      ∙ sym (ap (λ (j : Judged State). settles j s) (if_judged (printer_of p) l rest s (omega (arith, length-take-le (r.to - r.from) (drop r.from line) k))))
       ∙ if_is
-
-followed_none_items : (l : List ℕ) (k : List Item) → length l ≡ 0 → k ≡ followed l k
-followed_none_items [] k e = refl
-followed_none_items (b ∷ l) k e = absurd (omega arith)
 
 followed_some : (l : List ℕ) (k : List Item) → 0 < length l → again (line_of l) ∷ k ≡ followed l k
 followed_some [] k h = absurd (omega arith)
 followed_some (b ∷ l) k h = refl
 
 module _ (rest : List ℕ) (s : Stack) (arena ends : List ℕ) (d : s.depth ≤ 16) where
-  -- nothing follows
-  pub followed_none : length rest ≡ 0 → StackInvariant s arena ends → Followed rest s arena ends s arena ends
-  followed_none e k = record { is = λ ts. followed_none_items rest (stack_of ts s arena ends) e; good = λ ts g. g; columns = k; fits = fits_few s ends d }
-
   -- a line follows
-  pub followed_line : (w : What) (bytes : List ℕ) (r : Stack) (arena' ends' : List ℕ) → HeldTo (held.Item w) bytes s arena ends r arena' ends' → PlainItem w → 0 < length rest
+  pub followed_line : (w : What) (bytes : List ℕ) (r : Stack) (arena' ends' : List ℕ) → HeldTo (Some w) bytes s arena ends r arena' ends' → PlainItem w → 0 < length rest
       → ((ts : List Text) → item_by ts w bytes no_ends ≡ again (line_of rest)) → Followed rest s arena ends r arena' ends'
   followed_line w bytes r arena' ends' t e h law = record {
     is = λ ts.
-        over_items (held.Item w) bytes s arena ends r arena' ends' t ts
+        over_items (Some w) bytes s arena ends r arena' ends' t ts
         ∙ ap (λ (i : Item). i ∷ stack_of ts s arena ends) (law ts)
         ∙ followed_some rest (stack_of ts s arena ends) h;
-    good = λ ts g. over_good (held.Item w) bytes s arena ends r arena' ends' t ts e g;
+    good = λ ts g. over_good (Some w) bytes s arena ends r arena' ends' t ts e g;
     columns = t.columns;
-    fits = over_fits (held.Item w) bytes s arena ends r arena' ends' t e d;
+    fits = over_fits (Some w) bytes s arena ends r arena' ends' t e d;
   }
 
 follows_is : (rest : List ℕ) (s : State) → goes (with_stack (followed rest s.input.stack) s) ≡ goes (follows true rest s)

@@ -1,7 +1,7 @@
 -- Pieces of work on a page, in the rules' terms. Assumes nothing.
+use Rattle.std.specs.Prelude.{Option, None}
 use mathlib.Core.Path.{◌≡◌, refl, sym, ap, ◌∙◌}
 use mathlib.Core.Bool.{Bool, true, false}
-use mathlib.Core.Option.{none}
 use mathlib.Core.List.{List, []}
 use Prim.Native.Nat.{ℕ, zero, suc, ◌+◌, ◌≤◌, ◌<◌}
 use native.Mathlib.Omega.{arith}
@@ -27,7 +27,7 @@ use Rattle.fill.proofs.collected.Writing.{written_take}
 use Rattle.page.specs.declared.position.Page.{Page}
 use Rattle.page.specs.Position.Landing.{page_of, rows_to_trap, blanks_of}
 use Rattle.page.specs.Position.LandingLaws.{spaced, space_lands}
-use Rattle.page.specs.declared.springs.Held.{Held}
+use Rattle.input_stack.specs.declared.frames.What.{What}
 use Rattle.page.specs.declared.springs.Landed.{Landed}
 use Rattle.page.specs.declared.springs.Way.{Way}
 use Rattle.page.specs.declared.springs.Way.TheVariants.{Done}
@@ -59,7 +59,7 @@ cleared planted d s = record {
 
 module _ (fs ss : List ℕ) (n : ℕ) (planted : Planted) (d : PageState) (rule : List Text → State → Next) where
   -- a text is written, and a move is made with this line collected
-  pub moves : (text : List ℕ) (move : List Item → State → State) (c : Collected) (h : Held) (bytes : List ℕ) (l : Landed) (arena' ends' row row' : List ℕ) (w : ℕ)
+  pub moves : (text : List ℕ) (move : List Item → State → State) (c : Collected) (h : Option What) (bytes : List ℕ) (l : Landed) (arena' ends' row row' : List ℕ) (w : ℕ)
       → MoveRefines move d.page d.layout.page planted h bytes d.stack d.arena d.ends fs ss n l arena' ends'
       → Written row 0 text row' w → w ≤ 872 → length row ≡ 872 → PageInvariant planted (with_line c d)
       → ((ts : List Text) (x : State) → works text (move (held_of ts h bytes) (state_at ts (planted_of planted) (with_line c d) x)) ≡ rule ts (state_at ts (planted_of planted) d x))
@@ -138,7 +138,7 @@ left_held : (ts : List Text) (t : Bool) (p : ℕ) (bytes : List ℕ) → held_of
 left_held ts true p bytes = refl
 left_held ts false p bytes = refl
 
-end_below : (r : ℕ) (s : State) → 0 < r → eject_last s ≡ end_from none r s
+end_below : (r : ℕ) (s : State) → 0 < r → eject_last s ≡ end_from None r s
 end_below zero s h = absurd (omega arith)
 end_below (suc r) s h = refl
 
@@ -175,7 +175,7 @@ module _ (d : PageState) (ps : List Trap) (ts : List Text) (x : State) where
   end_is t e = sym (ap (λ (v : Bool). end_from (collected_if v d.collected d.cells) (down_of d.page.used) (state_at ts ps (on_page (last_of d.page) d) x)) e)
 
   pub end_done : d.collected.there ≡ false → down_of d.page.used ≡ 0 → goes (close_by Done (state_at ts ps (on_page (last_of d.page) d) x)) ≡ begin_end (state_at ts ps d x)
-  end_done e f = sym (ap (λ (r : ℕ). end_from none r (state_at ts ps (on_page (last_of d.page) d) x)) f) ∙ end_is false e
+  end_done e f = sym (ap (λ (r : ℕ). end_from None r (state_at ts ps (on_page (last_of d.page) d) x)) f) ∙ end_is false e
 
   pub end_ejects : d.collected.there ≡ false → 0 < down_of d.page.used → eject_last (state_at ts ps (on_page (last_of d.page) d) x) ≡ begin_end (state_at ts ps d x)
   end_ejects e h = end_below (down_of d.page.used) (state_at ts ps (on_page (last_of d.page) d) x) h ∙ end_is false e

@@ -1,5 +1,6 @@
 -- What is held where a breaking request starts the first page or breaks. Assumes nothing.
-use Rattle.std.specs.Prelude.{◌≡◌, refl, Bool, true, false, ◌&&◌, List, ℕ, eqb}
+use Rattle.std.specs.Prelude.{◌≡◌, refl, Bool, true, false, ◌&&◌, List, ℕ, eqb, Option}
+use Rattle.std.specs.Bool.{then_some}
 use Rattle.rules.specs.Printers.{Printer}
 use Rattle.rules.specs.declared.Name.{Name}
 use Rattle.rules.specs.declared.Breaking.{Breaking}
@@ -11,21 +12,18 @@ use Rattle.rules.specs.Rows.{Next, held_if}
 use Rattle.rules.specs.ControlLines.{means_request, held_after, held_first, start_or_break, obey}
 use Rattle.input_stack.specs.declared.frames.What.{What}
 use Rattle.input_stack.specs.declared.frames.What.TheVariants as what
-use Rattle.page.specs.declared.springs.Held.{Held}
-use Rattle.page.specs.declared.springs.Held.TheVariants as held
 use Rattle.page.specs.Springs.Held.{held_of, Plain}
 
 -- an item, if work is left
-abbrev pub item_if : (left : Bool) → What → Held
-item_if true w = held.Item w
-item_if false w = held.Nothing
+abbrev pub item_if : (left : Bool) → What → Option What
+item_if t w = then_some t w
 
 -- "that line, as expanded, is dealt with after the top macro"
-abbrev pub held_line : (period : Bool) → Breaking → Name → Held
+abbrev pub held_line : (period : Bool) → Breaking → Name → Option What
 held_line q r n = item_if (traits r).again (what.Control q n)
 
 -- "If that break springs a trap, the request acts after its macro is read"
-abbrev pub held_request : Breaking → Held
+abbrev pub held_request : Breaking → Option What
 held_request r = item_if (traits r).acts (what.Acts r)
 
 -- the first page starts at this request

@@ -1,5 +1,5 @@
 -- What the words of a text line lead to, as the code holds it. Assumes nothing.
-use Rattle.std.specs.Prelude.{◌≡◌, Bool, true, false, ◌||◌, List, [], ◌∷◌, ◌++◌, ℕ, ◌≤◌, ◌<◌, replicate}
+use Rattle.std.specs.Prelude.{◌≡◌, Bool, true, false, ◌||◌, List, [], ◌∷◌, ◌++◌, ℕ, ◌≤◌, ◌<◌, replicate, Option, None, Some, Result, Ok, Err}
 use Rattle.measure.specs.Counts.{cells_across}
 use Rattle.rules.specs.Bytes.{fixed_blank}
 use Rattle.rules.specs.Filling.{Word, word, leads}
@@ -9,22 +9,19 @@ use Rattle.fill.specs.Words.Parts.{Places}
 use Rattle.fill.specs.Collected.Filled.{CollectedInvariant}
 use Rattle.fill.specs.declared.collected.Overflow.{Overflow}
 use Rattle.fill.specs.declared.words.WordAt.{WordAt}
-use Rattle.fill.specs.declared.collected.Placed.{Placed}
-use Rattle.fill.specs.declared.collected.Placed.TheVariants.{All, Full}
 use Rattle.settings.specs.declared.layout.Layout.{Layout}
+use Rattle.input_stack.specs.declared.frames.What.{What}
 use Rattle.input_stack.specs.declared.frames.What.TheVariants.{Others}
 use Rattle.input_stack.specs.declared.stack.Stack.{Stack}
 use Rattle.page.specs.declared.position.Page.{Page}
-use Rattle.page.specs.declared.springs.Held.{Held}
-use Rattle.page.specs.declared.springs.Held.TheVariants.{Nothing, Item}
 use Rattle.page.specs.declared.springs.Way.TheVariants.{On}
 use Rattle.composition.specs.declared.page_rows.Collected.{Collected}
 use Rattle.composition.specs.declared.page_rows.PageOutcome.{PageOutcome}
 
 -- the words that are left are held
-abbrev pub others_held : List Word → (gap : ℕ) → Held
-others_held [] g = Nothing
-others_held (w ∷ ws) g = Item (Others g)
+abbrev pub others_held : List Word → (gap : ℕ) → Option What
+others_held [] g = None
+others_held (w ∷ ws) g = Some (Others g)
 
 -- the gap to what comes next
 abbrev pub gap_behind : List Word → (gap : ℕ) → ℕ
@@ -50,9 +47,9 @@ pub record Overflows (line : List ℕ) (to : ℕ) (cells : List ℕ) (room gap :
   pub small : gap ≤ 2
 
 -- words were placed in so many cells
-abbrev pub WordsFilled : (line : List ℕ) → (to : ℕ) → (cells : List ℕ) → (room gap : ℕ) → Placed → Type 0
-WordsFilled line to cells room gap (All n) = CollectedInvariant cells n room × (gap ≤ 2)
-WordsFilled line to cells room gap (Full o) = Overflows line to cells room gap o
+abbrev pub WordsFilled : (line : List ℕ) → (to : ℕ) → (cells : List ℕ) → (room gap : ℕ) → Result ℕ Overflow → Type 0
+WordsFilled line to cells room gap (Ok n) = CollectedInvariant cells n room × (gap ≤ 2)
+WordsFilled line to cells room gap (Err o) = Overflows line to cells room gap o
 
 -- a word of the line that is to start a collected line
 pub record WordStarts (line : List ℕ) (to lead gap : ℕ) (w : WordAt) : Type 0 where

@@ -1,9 +1,10 @@
 -- The parts of the state that work on a page changes, as the code holds them, and what it means that a piece of work is done as the rules say. Assumes nothing.
-use Rattle.std.specs.Prelude.{◌≡◌, Bool, true, false, List, ℕ, ◌≤◌, ◌<◌, length, take}
-use Rattle.std.proofs.Math.Option.{Option, none, some}
+use Rattle.std.specs.Prelude.{◌≡◌, Bool, true, false, List, ℕ, ◌≤◌, ◌<◌, length, take, Option, None, Some, Result, Ok, Err}
+use Rattle.std.specs.Bool.{then_some}
 use Rattle.measure.specs.declared.Cells.{Cells}
 use Rattle.measure.specs.Counts.{across_of, down_of, cells_across}
 use Rattle.stream.specs.Machine.{works}
+use Rattle.rules.specs.declared.Refusal.{Refusal}
 use Rattle.rules.specs.declared.Trap.{Trap}
 use Rattle.rules.specs.Filling as rule
 use Rattle.rules.specs.Texts.{Text}
@@ -17,9 +18,8 @@ use Rattle.traps.specs.Table.Table.{planted_of}
 use Rattle.traps.specs.Table.Table as traps
 use Rattle.fill.specs.Collected.Filled.{collected_line, CollectedInvariant}
 use Rattle.settings.specs.declared.layout.Layout.{Layout}
-use Rattle.settings.specs.declared.layout.NewLayout.{NewLayout}
-use Rattle.settings.specs.declared.layout.NewLayout.TheVariants as new-layout
 use Rattle.settings.specs.Layout.Layouts.{layout_of, LayoutInvariant}
+use Rattle.input_stack.specs.declared.frames.What.{What}
 use Rattle.input_stack.specs.declared.frames.What.TheVariants as what
 use Rattle.input_stack.specs.declared.stack.Stack.{Stack}
 use Rattle.input_stack.specs.Stack.Frames.{StackInvariant}
@@ -29,8 +29,6 @@ use Rattle.page.specs.Position.Landing.{page_of}
 use Rattle.page.specs.declared.springs.Way.{Way}
 use Rattle.page.specs.declared.springs.Way.TheVariants.{On, Refused}
 use Rattle.page.specs.declared.springs.Landed.{Landed}
-use Rattle.page.specs.declared.springs.Held.{Held}
-use Rattle.page.specs.declared.springs.Held.TheVariants as held
 use Rattle.page.specs.Springs.Held.{StackFits}
 use Rattle.page.specs.Springs.Calls.{close_by, KeepsGood}
 use Rattle.composition.specs.declared.page_rows.Collected.{Collected}
@@ -45,19 +43,17 @@ abbrev pub page_stayed : Way → Layout → Page → Collected → Stack → Pag
 page_stayed w y g c s = record { way = w; layout = y; page = g; collected = c; stack = s; written = 0 }
 
 -- a new layout, or "6: number malformed" and "7: value out of range"
-abbrev pub settled_by : NewLayout → Layout → Page → Collected → Stack → PageOutcome
-settled_by (new-layout.Is z) y g c s = page_stayed On z g c s
-settled_by new-layout.Malformed y g c s = page_stayed (Refused 6) y g c s
-settled_by new-layout.OutOfRange y g c s = page_stayed (Refused 7) y g c s
+abbrev pub settled_by : Result Layout Refusal → Layout → Page → Collected → Stack → PageOutcome
+settled_by (Ok z) y g c s = page_stayed On z g c s
+settled_by (Err r) y g c s = page_stayed (Refused r) y g c s
 
 -- what is written, and where the move down after it leads
 abbrev pub outcome_of : Layout → Collected → Landed → (written : ℕ) → PageOutcome
 outcome_of y c l n = record { way = l.way; layout = y; page = l.page; collected = c; stack = l.stack; written = n }
 
 -- a bp goes on where blank rows end within its page
-abbrev pub left_if : (within : Bool) → (page : ℕ) → Held
-left_if true p = held.Item (what.Ejects p)
-left_if false p = held.Nothing
+abbrev pub left_if : (within : Bool) → (page : ℕ) → Option What
+left_if t p = then_some t (what.Ejects p)
 
 -- what work on a page changes: settings, the page, the collected line with its cells, and the stack with its arrays
 pub record PageState : Type 0 where
@@ -75,8 +71,8 @@ page_state y g c cs s bs ps = record { layout = y; page = g; collected = c; cell
 
 -- the collected line, if there is one
 abbrev pub collected_if : (there : Bool) → Collected → (cells : List ℕ) → Option rule.Collected
-collected_if true c cs = some (collected_line (across_of c.indent) (across_of c.room) cs c.length (across_of c.next))
-collected_if false c cs = none
+collected_if true c cs = Some (collected_line (across_of c.indent) (across_of c.room) cs c.length (across_of c.next))
+collected_if false c cs = None
 
 abbrev pub collected_of : Collected → (cells : List ℕ) → Option rule.Collected
 collected_of c cs = collected_if c.there c cs

@@ -1,6 +1,7 @@
 -- Words that join a collected line one by one. Assumes nothing.
 use mathlib.Core.Path.{◌≡◌, refl, sym, ap, ◌∙◌}
 use mathlib.Core.Bool.{true}
+use Rattle.std.specs.Prelude.{Result, Ok, Err}
 use mathlib.Core.List.{List, [], ◌∷◌, ◌++◌}
 use Prim.Native.Nat.{ℕ, zero, suc, ◌+◌, ◌-◌, ◌≤◌, ◌<◌}
 use native.Mathlib.Omega.{arith}
@@ -17,8 +18,7 @@ use Rattle.fill.specs.Words.Words.{spaces, run_length, WordEndIs}
 use Rattle.fill.specs.Collected.Writing.{Written}
 use Rattle.fill.specs.Collected.Filled.{collected_line, CollectedInvariant, GoodPlaced, PlacedTo}
 use Rattle.fill.specs.declared.words.WordEnd.{WordEnd}
-use Rattle.fill.specs.declared.collected.Placed.{Placed}
-use Rattle.fill.specs.declared.collected.Placed.TheVariants.{All, Full}
+use Rattle.fill.specs.declared.collected.Overflow.{Overflow}
 use Rattle.fill.proofs.words.Parts.{part_none, part_length, part_drop, part_take}
 use Rattle.fill.proofs.words.Words.{Starts, rest_is, rest_starts, spaces_front, spaces_few, run_few, run_some, gap_word}
 use Rattle.fill.proofs.collected.Writing.{sets_append, take_sets, drop_sets}
@@ -79,7 +79,7 @@ module _ (line : List ℕ) (at to gap : ℕ) (entry : List ℕ) (count room : �
 
   module _ (cells : List ℕ) (from before n : ℕ) (q : Placing line at to gap entry count room cells from before n) where
     -- all words are placed
-    pub placed_all : to ≤ from → PlacedTo line at to (after gap (words (bytes_between line at to))) entry count room (All n) cells
+    pub placed_all : to ≤ from → PlacedTo line at to (after gap (words (bytes_between line at to))) entry count room (Ok n) cells
     unfolding words rules.place
     placed_all h = record {
       is = λ i k. sym (q.is i k ∙ ap (λ (x : List ℕ). rules.place (collected_line i room cells n k) (after before (words x))) (part_none line from to h));
@@ -121,7 +121,7 @@ module _ (line : List ℕ) (at to gap : ℕ) (entry : List ℕ) (count room : �
 
       -- the word does not fit
       pub placed_full : room < n + before + across_of w.width
-          → PlacedTo line at to (after gap (words (bytes_between line at to))) entry count room (Full (record { length = n; gap = cells_across before; from = from; to = w.to; width = w.width })) cells
+          → PlacedTo line at to (after gap (words (bytes_between line at to))) entry count room (Err (record { length = n; gap = cells_across before; from = from; to = w.to; width = w.width })) cells
       placed_full f = record {
         is = λ i j. sym (next_is i j ∙ place_stops (collected_line i room cells n j) (word before (bytes_between line from w.to)) (words (bytes_between line w.to to))
             (lt-leb (length (take n cells) + before + width (bytes_between line from w.to)) room (omega (arith, count_is_lem, word_width))));
@@ -158,11 +158,11 @@ module _ (line : List ℕ) (at to gap : ℕ) (entry : List ℕ) (count room : �
           further x y a b e = sym (drop-drop b a x) ∙ ap (drop b) e ∙ drop-drop b a y
 
 -- the same words, read from further in front
-good_before : (line : List ℕ) (at from to : ℕ) (r : Placed) → at ≤ from → GoodPlaced line from to r → GoodPlaced line at to r
-good_before line at from to (All n) h g = tt
-good_before line at from to (Full o) h g = (omega (arith, g.0), g.1, g.2, g.3, g.4)
+good_before : (line : List ℕ) (at from to : ℕ) (r : Result ℕ Overflow) → at ≤ from → GoodPlaced line from to r → GoodPlaced line at to r
+good_before line at from to (Ok n) h g = tt
+good_before line at from to (Err o) h g = (omega (arith, g.0), g.1, g.2, g.3, g.4)
 
-pub placed_others : (line : List ℕ) (at to from : ℕ) (entry : List ℕ) (count room : ℕ) (r : Placed) (exit : List ℕ) → at ≤ from → from ≡ at + spaces (bytes_between line at to)
+pub placed_others : (line : List ℕ) (at to from : ℕ) (entry : List ℕ) (count room : ℕ) (r : Result ℕ Overflow) (exit : List ℕ) → at ≤ from → from ≡ at + spaces (bytes_between line at to)
     → PlacedTo line from to (after (from - at) (words (bytes_between line from to))) entry count room r exit → PlacedTo line at to (words (bytes_between line at to)) entry count room r exit
 placed_others line at to from entry count room r exit h f p = record {
   is = λ i k. p.is i k ∙ ap (rules.place (collected_line i room entry count k)) (sym (words_skip line at to from f));

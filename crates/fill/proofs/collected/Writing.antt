@@ -7,15 +7,16 @@ use native.Mathlib.Nat.{add-zero}
 use native.Mathlib.Numerals.{add-one}
 use native.Mathlib.Omega.{arith}
 use lib.Dec.{eqb}
-use lib.ListN.{length, get_or, take, drop, set, replicate, length-append, length-replicate, take-append-drop}
-use lib.Seq.{sets, sets-eq, take_at, drop_at, length-take-le}
+use lib.ListN.{length, get_or, take, drop, set, replicate, length-append, length-replicate, length-set, take-append-drop, drop_of_length-le}
+use Rattle.std.proofs.lemmas.List.{take_all}
+use lib.Seq.{drop-cons, paste, sets, sets-eq, take_at, drop_at, length-take-le}
 use borrow.Author.Tests.{eq-eqb, ne_eqb}
 use Rattle.rules.specs.Bytes.{space, mark, fixed_blank}
 use Rattle.rules.specs.Filling.{printed, printed_byte, width, count_if, gap_cells}
 use Rattle.rules.proofs.Laws.Filling.{printed_append}
 use Rattle.fill.specs.Words.Parts.{bytes_between}
 use Rattle.fill.specs.Collected.Writing.{shown_if, Written}
-use Rattle.fill.proofs.words.Parts.{part_none, part_cons, part_length}
+use Rattle.fill.proofs.words.Parts.{part_length}
 
 -- two runs of bytes, one behind the other
 pub sets_append : (a b l : List ℕ) (i : ℕ) → sets l i (a ++ b) ≡ sets (sets l i a) (i + length a) b
@@ -38,15 +39,9 @@ module _ (b l : List ℕ) (at : ℕ) (h : at + length b ≤ length l) where
       ap (drop (at + length b)) (sets-eq b l at h)
       ∙ drop_at (take at l ++ b) (drop (at + length b) l) (at + length b) (omega (arith, length-append (take at l) b))
 
--- one byte more of a run; none
-module _ (l : List ℕ) (i end b : ℕ) where
-  pub run_more : i < end → sets l i (replicate (end - i) b) ≡ sets (set l i b) (i + 1) (replicate (end - (i + 1)) b)
-  run_more h =
-      let z : end - i ≡ suc (end - (i + 1)) = omega arith in
-      rw (z, add-one i)
-
-  pub run_end : end ≤ i → sets l i (replicate (end - i) b) ≡ l
-  run_end h = let z : end - i ≡ 0 = omega arith in rw z
+-- bytes put over a part
+pub paste_sets : (d s : List ℕ) (at n : ℕ) → n ≡ length s → at + n ≤ length d → paste d at s n ≡ sets d at s
+paste_sets d s at n e h = rw (e, take_all (length s) s (omega arith)) (sym (sets-eq s d at (omega (arith, e, h))))
 
 -- a byte that is no mark, as printed
 printed_shown : (t : Bool) (b : ℕ) (bs : List ℕ) → printed_byte false t b bs ≡ shown_if t b ∷ bs
@@ -54,35 +49,47 @@ printed_shown true b bs = refl
 printed_shown false b bs = refl
 
 -- a mark; another byte; the end
-module _ (l : List ℕ) (i to : ℕ) (k : to ≤ length l) where
-  pub printed_mark : i < to → get_or l i 0 ≡ 2 → printed (bytes_between l i to) ≡ printed (bytes_between l (i + 1) to)
+module _ (l : List ℕ) (i : ℕ) where
+  printed_mark : i < length l → get_or l i 0 ≡ 2 → printed (drop i l) ≡ printed (drop (i + 1) l)
   unfolding printed
-  printed_mark h e = rw (part_cons l i to h k, eq-eqb (get_or l i 0) 2 e)
+  printed_mark h e = rw (drop-cons l i 0 h, eq-eqb (get_or l i 0) 2 e, add-one i)
 
-  pub printed_byte_lem : i < to → (get_or l i 0 ≡ 2 → ⊥)
-      → printed (bytes_between l i to) ≡ shown_if (eqb (get_or l i 0) fixed_blank) (get_or l i 0) ∷ printed (bytes_between l (i + 1) to)
+  printed_other : i < length l → (get_or l i 0 ≡ 2 → ⊥)
+      → printed (drop i l) ≡ shown_if (eqb (get_or l i 0) fixed_blank) (get_or l i 0) ∷ printed (drop (i + 1) l)
   unfolding printed
-  printed_byte_lem h e =
-      rw (part_cons l i to h k, ne_eqb (get_or l i 0) 2 e) (printed_shown (eqb (get_or l i 0) fixed_blank) (get_or l i 0) (printed (bytes_between l (i + 1) to)))
+  printed_other h e =
+      rw (drop-cons l i 0 h, ne_eqb (get_or l i 0) 2 e, add-one i) (printed_shown (eqb (get_or l i 0) fixed_blank) (get_or l i 0) (printed (drop (suc i) l)))
 
-  pub printed_end : to ≤ i → printed (bytes_between l i to) ≡ []
+  printed_end : length l ≤ i → printed (drop i l) ≡ []
   unfolding printed
-  printed_end h = rw (part_none l i to h)
+  printed_end h = rw (drop_of_length-le l {i = i} h)
 
--- the place behind what is written
-module _ (l b : List ℕ) (n i to : ℕ) (k : to ≤ length l) where
-  pub write_mark : i < to → get_or l i 0 ≡ 2 → sets b n (printed (bytes_between l i to)) ≡ sets b n (printed (bytes_between l (i + 1) to))
-  write_mark h e = ap (sets b n) (printed_mark l i to k h e)
+-- what is still to be put from a byte on
+pub record Putting (part entry : List ℕ) (at : ℕ) (buffer : List ℕ) (i n : ℕ) : Type 0 where
+  pub long : length buffer ≡ length entry
+  pub is : sets entry at (printed part) ≡ sets buffer n (printed (drop i part))
+  pub end : at + length (printed part) ≡ n + length (printed (drop i part))
 
-  pub write_byte : i < to → (get_or l i 0 ≡ 2 → ⊥)
-      → sets b n (printed (bytes_between l i to)) ≡ sets (set b n (shown_if (eqb (get_or l i 0) fixed_blank) (get_or l i 0))) (n + 1) (printed (bytes_between l (i + 1) to))
-  write_byte h e = ap (sets b n) (printed_byte_lem l i to k h e) ∙ rw (add-one n)
+module _ (part entry : List ℕ) (at : ℕ) (buffer : List ℕ) (i n : ℕ) (q : Putting part entry at buffer i n) where
+  pub put_mark : i < length part → get_or part i 0 ≡ 2 → Putting part entry at buffer (i + 1) n
+  put_mark h e =
+      let p = printed_mark part i h e in
+      record { long = q.long; is = q.is ∙ ap (sets buffer n) p; end = q.end ∙ ap (λ (l : List ℕ). n + length l) p }
 
-  pub count_mark : i < to → get_or l i 0 ≡ 2 → length (printed (bytes_between l i to)) ≡ length (printed (bytes_between l (i + 1) to))
-  count_mark h e = ap length (printed_mark l i to k h e)
+  module _ (h : i < length part) (e : get_or part i 0 ≡ 2 → ⊥) where
+    -- there is a place for the byte
+    pub put_room : at + length (printed part) ≤ length entry → n < length buffer
+    put_room r = omega (arith, q.end, q.long, ap length (printed_other part i h e))
 
-  pub count_byte : i < to → (get_or l i 0 ≡ 2 → ⊥) → length (printed (bytes_between l i to)) ≡ suc (length (printed (bytes_between l (i + 1) to)))
-  count_byte h e = ap length (printed_byte_lem l i to k h e)
+    pub put_byte : Putting part entry at (set buffer n (shown_if (eqb (get_or part i 0) fixed_blank) (get_or part i 0))) (i + 1) (n + 1)
+    put_byte =
+        let p = printed_other part i h e in
+        record { long = length-set buffer n _ ∙ q.long; is = q.is ∙ ap (sets buffer n) p ∙ rw (add-one n); end = omega (arith, q.end, ap length p) }
+
+  pub put_done : length part ≤ i → Written entry at (printed part) buffer n
+  put_done h =
+      let p = printed_end part i h in
+      record { is = sym (q.is ∙ ap (sets buffer n) p); end = omega (arith, q.end, ap length p); long = q.long }
 
 -- fixed blanks are printed as spaces
 pub printed_blanks : (n : ℕ) → printed (replicate n fixed_blank) ≡ replicate n space

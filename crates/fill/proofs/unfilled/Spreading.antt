@@ -1,14 +1,15 @@
 -- Collected lines as they are spread over a row. Assumes nothing.
 use mathlib.Core.Path.{◌≡◌, refl, sym, ap, ◌∙◌}
-use mathlib.Core.Bool.{Bool, true, false, ◌||◌}
+use mathlib.Core.Bool.{Bool, true, false, cond, ◌||◌}
+use Rattle.std.specs.List.{filter}
 use mathlib.Core.List.{List, [], ◌∷◌, ◌++◌, append_assoc, append-nil}
 use Prim.Native.Nat.{ℕ, zero, suc, ◌+◌, ◌-◌, ◌/◌, ◌%◌, ◌≤◌, ◌<◌}
 use native.Mathlib.Numerals.{add-one}
 use native.Mathlib.Omega.{arith}
 use lib.Dec.{eqb}
-use lib.ListN.{length, get_or, take, replicate, length-append, length-replicate}
-use lib.Seq.{sets, length-take-le}
-use borrow.Author.Tests.{eq-eqb, ne_eqb, eqb-true}
+use lib.ListN.{length, get_or, take, drop, replicate, length-append, length-replicate, drop_of_length-le}
+use lib.Seq.{sets, length-take-le, drop-cons}
+use borrow.Author.Tests.{eqb-true}
 use Rattle.rules.specs.Bytes.{space, gap_start}
 use Rattle.rules.specs.Filling.{gaps, count_gap, spread, spread_cell, few_after, more_if, share, adjusted, trimmed}
 use Rattle.rules.proofs.Laws.Filling.{spread_none, trimmed_spaces, trimmed_ends}
@@ -16,22 +17,18 @@ use Rattle.fill.specs.Words.Parts.{bytes_between}
 use Rattle.fill.specs.Collected.Writing.{Written}
 use Rattle.fill.specs.Collected.Filled.{collected_line}
 use Rattle.fill.specs.Unfilled.Lines.{is_blank_cell}
-use Rattle.fill.proofs.words.Parts.{part_none, part_cons, part_snoc, part_zero}
+use Rattle.fill.proofs.words.Parts.{part_snoc, part_zero}
 use Rattle.fill.proofs.collected.Writing.{sets_append}
 
--- one gap more; another cell; the end
-module _ (l : List ℕ) (i to n : ℕ) (k : to ≤ length l) where
-  pub gaps_more : i < to → get_or l i 0 ≡ 4 → n + gaps (bytes_between l i to) ≡ n + 1 + gaps (bytes_between l (i + 1) to)
-  unfolding gaps
-  gaps_more h e = rw (part_cons l i to h k, eq-eqb (get_or l i 0) 4 e) (omega arith)
-
-  pub gaps_other : i < to → (get_or l i 0 ≡ 4 → ⊥) → n + gaps (bytes_between l i to) ≡ n + gaps (bytes_between l (i + 1) to)
-  unfolding gaps
-  gaps_other h e = rw (part_cons l i to h k, ne_eqb (get_or l i 0) 4 e)
-
-  pub gaps_end : to ≤ i → n ≡ n + gaps (bytes_between l i to)
-  unfolding gaps
-  gaps_end h = rw (part_none l i to h) (omega arith)
+-- the gaps, as the code counts them
+pub gaps_is : (l : List ℕ) → length (filter (λ b. eqb b 4) l) ≡ gaps l
+unfolding gaps
+gaps_is [] = refl
+gaps_is (b ∷ l) = go (eqb b gap_start) (gaps_is l)
+  where
+    go : (t : Bool) → length (filter (λ x. eqb x 4) l) ≡ gaps l → length (cond t (b ∷ filter (λ x. eqb x 4) l) (filter (λ x. eqb x 4) l)) ≡ count_gap t (gaps l)
+    go true h = omega arith
+    go false h = h
 
 -- the ways of sharing
 share_by : (e k : ℕ) (bs : List ℕ) → 0 < k → spread (e / k) (k - e % k) bs ≡ share e k bs
@@ -140,45 +137,44 @@ gap_row row at m b = rw (add-one m) (sym (ap (sets row at) (append-nil (replicat
 abbrev pub cell_at : List ℕ → (i each few : ℕ) → List ℕ
 cell_at l i each few = spread_cell (eqb (get_or l i 0) gap_start) (each + more_if few) (get_or l i 0) []
 
-spread_first : (l : List ℕ) (i to each few : ℕ) → to ≤ length l → i < to
-    → spread each few (bytes_between l i to) ≡ cell_at l i each few ++ spread each (few_after (eqb (get_or l i 0) gap_start) few) (bytes_between l (i + 1) to)
+spread_first : (l : List ℕ) (i each few : ℕ) → i < length l → spread each few (drop i l) ≡ cell_at l i each few ++ spread each (few_after (eqb (get_or l i 0) gap_start) few) (drop (i + 1) l)
 unfolding spread
-spread_first l i to each few k h =
-    rw (part_cons l i to h k)
-    (cell_first (eqb (get_or l i 0) gap_start) (each + more_if few) (get_or l i 0) (spread each (few_after (eqb (get_or l i 0) gap_start) few) (bytes_between l (i + 1) to)))
+spread_first l i each few h =
+    rw (drop-cons l i 0 h, add-one i)
+    (cell_first (eqb (get_or l i 0) gap_start) (each + more_if few) (get_or l i 0) (spread each (few_after (eqb (get_or l i 0) gap_start) few) (drop (suc i) l)))
 
 -- what is still to be spread from a place on
-pub record Spreading (cells : List ℕ) (to each few : ℕ) (entry : List ℕ) (at : ℕ) (row : List ℕ) (i n left : ℕ) : Type 0 where
-  pub high : i ≤ to
+pub record Spreading (cells : List ℕ) (each few : ℕ) (entry : List ℕ) (at : ℕ) (row : List ℕ) (i n left : ℕ) : Type 0 where
   pub long : length row ≡ length entry
-  pub is : sets entry at (spread each few (bytes_between cells 0 to)) ≡ sets row n (spread each left (bytes_between cells i to))
-  pub end : at + length (spread each few (bytes_between cells 0 to)) ≡ n + length (spread each left (bytes_between cells i to))
+  pub is : sets entry at (spread each few cells) ≡ sets row n (spread each left (drop i cells))
+  pub end : at + length (spread each few cells) ≡ n + length (spread each left (drop i cells))
 
-module _ (cells : List ℕ) (to each few : ℕ) (entry : List ℕ) (at : ℕ) (row : List ℕ) (i n left : ℕ) (k : to ≤ length cells) (q : Spreading cells to each few entry at row i n left) where
-  first_length : i < to → length (spread each left (bytes_between cells i to)) ≡ length (cell_at cells i each left) + length (spread each (few_after (eqb (get_or cells i 0) gap_start) left) (bytes_between cells (i + 1) to))
-  first_length h =
-      ap length (spread_first cells i to each left k h)
-      ∙ length-append (cell_at cells i each left) (spread each (few_after (eqb (get_or cells i 0) gap_start) left) (bytes_between cells (i + 1) to))
+module _ (cells : List ℕ) (each few : ℕ) (entry : List ℕ) (at : ℕ) (row : List ℕ) (i n left : ℕ) (q : Spreading cells each few entry at row i n left) where
+  module _ (h : i < length cells) where
+    first_is : spread each left (drop i cells) ≡ cell_at cells i each left ++ spread each (few_after (eqb (get_or cells i 0) gap_start) left) (drop (i + 1) cells)
+    first_is = spread_first cells i each left h
 
-  -- there is a place for the next cell
-  pub spreading_room : i < to → at + length (spread each few (bytes_between cells 0 to)) ≤ 872 → n + length (cell_at cells i each left) ≤ 872
-  spreading_room h r = omega (arith, first_length h, q.end)
+    first_length : length (spread each left (drop i cells)) ≡ length (cell_at cells i each left) + length (spread each (few_after (eqb (get_or cells i 0) gap_start) left) (drop (i + 1) cells))
+    first_length = ap length first_is ∙ length-append (cell_at cells i each left) (spread each (few_after (eqb (get_or cells i 0) gap_start) left) (drop (i + 1) cells))
 
-  pub spreading_next : (row2 : List ℕ) (n2 left2 : ℕ) → i < to → Written row n (cell_at cells i each left) row2 n2 → left2 ≡ few_after (eqb (get_or cells i 0) gap_start) left
-      → Spreading cells to each few entry at row2 (i + 1) n2 left2
-  spreading_next row2 n2 left2 h w e = record {
-    high = omega arith;
-    long = w.long ∙ q.long;
-    is = q.is ∙ ap (sets row n) (spread_first cells i to each left k h)
-        ∙ sets_append (cell_at cells i each left) (spread each (few_after (eqb (get_or cells i 0) gap_start) left) (bytes_between cells (i + 1) to)) row n
-        ∙ (λ x. sets (sym w.is x) (sym w.end x) (spread each (sym e x) (bytes_between cells (i + 1) to)));
-    end = rw e (omega (arith, first_length h, q.end, w.end));
-  }
+    -- there is a place for the next cell
+    pub spreading_room : at + length (spread each few cells) ≤ 872 → n + length (cell_at cells i each left) ≤ 872
+    spreading_room r = omega (arith, first_length, q.end)
 
-  pub spreading_done : to ≤ i → Written entry at (spread each few (bytes_between cells 0 to)) row n
+    pub spreading_next : (row2 : List ℕ) (n2 left2 : ℕ) → Written row n (cell_at cells i each left) row2 n2 → left2 ≡ few_after (eqb (get_or cells i 0) gap_start) left
+        → Spreading cells each few entry at row2 (i + 1) n2 left2
+    spreading_next row2 n2 left2 w e = record {
+      long = w.long ∙ q.long;
+      is = q.is ∙ ap (sets row n) first_is
+          ∙ sets_append (cell_at cells i each left) (spread each (few_after (eqb (get_or cells i 0) gap_start) left) (drop (i + 1) cells)) row n
+          ∙ (λ x. sets (sym w.is x) (sym w.end x) (spread each (sym e x) (drop (i + 1) cells)));
+      end = rw e (omega (arith, first_length, q.end, w.end));
+    }
+
+  pub spreading_done : length cells ≤ i → Written entry at (spread each few cells) row n
   unfolding spread
   spreading_done h =
-      let z : spread each left (bytes_between cells i to) ≡ [] = ap (spread each left) (part_none cells i to h) in
+      let z : spread each left (drop i cells) ≡ [] = ap (spread each left) (drop_of_length-le cells {i = i} h) in
       record { is = sym (q.is ∙ ap (sets row n) z); end = omega (arith, q.end, ap length z); long = q.long }
 
 -- the gaps that have no cell more

@@ -4,7 +4,9 @@ use mathlib.Core.List.{List, [], ◌∷◌, ◌++◌, append-nil, append_assoc}
 use Prim.Native.Nat.{ℕ, zero, suc, ◌-◌, ◌≤◌, ◌<◌}
 use native.Mathlib.Omega.{arith}
 use lib.ListN.{length, get_or, replicate}
-use borrow.Author.Tests.{ne_eqb}
+use mathlib.Core.Bool.{Bool, true, false}
+use lib.Dec.{eqb, ltb}
+use borrow.Author.Tests.{ne_eqb, eqb-false, ltb-true, ltb-false}
 use Rattle.rules.specs.Bytes.{space}
 use Rattle.rules.specs.Filling.{Word, words, trimmed, spelled, gap_after, gap_if, is_stop, last_byte}
 use Rattle.rules.proofs.Laws.Filling.{trimmed_spaces, trimmed_ends}
@@ -17,12 +19,20 @@ module _ (l : List ℕ) (at i : ℕ) (k : i ≤ length l) where
   pub trim_more : at < i → get_or l (i - 1) 0 ≡ 32 → trimmed (bytes_between l at i) ≡ trimmed (bytes_between l at (i - 1))
   trim_more h e = rw (part_snoc l at i h k, e) (trimmed_spaces (bytes_between l at (i - 1)) 1)
 
-  pub trim_stop : at < i → (get_or l (i - 1) 0 ≡ 32 → ⊥) → bytes_between l at i ≡ trimmed (bytes_between l at i)
+  trim_stop : at < i → (get_or l (i - 1) 0 ≡ 32 → ⊥) → bytes_between l at i ≡ trimmed (bytes_between l at i)
   trim_stop h e = rw (part_snoc l at i h k) (sym (trimmed_ends (bytes_between l at (i - 1)) (get_or l (i - 1) 0) (ne_eqb (get_or l (i - 1) 0) 32 e)))
 
-  pub trim_none : i ≤ at → bytes_between l at i ≡ trimmed (bytes_between l at i)
+  trim_none : i ≤ at → bytes_between l at i ≡ trimmed (bytes_between l at i)
   unfolding trimmed
   trim_none h = rw (part_none l at i h)
+
+  -- where the last byte is no space, nothing is dropped
+  pub trim_whole : (at < i → eqb (get_or l (i - 1) 0) 32 ≡ false) → bytes_between l at i ≡ trimmed (bytes_between l at i)
+  trim_whole h = go (ltb at i) refl
+    where
+      go : (t : Bool) → ltb at i ≡ t → bytes_between l at i ≡ trimmed (bytes_between l at i)
+      go true e = let b : at < i = ltb-true at i e in trim_stop b (λ x. eqb-false (get_or l (i - 1) 0) 32 (h b) x)
+      go false e = trim_none (ltb-false at i e)
 
 -- the last byte of two parts is the second's, if it has one
 last_append : (a : List ℕ) (b : ℕ) (l : List ℕ) → last_byte (a ++ b ∷ l) ≡ last_byte (b ∷ l)

@@ -1,6 +1,7 @@
 -- Laws of the readers of words. Assumes nothing.
 use mathlib.Core.Path.{◌≡◌, refl, sym, ap, ◌∙◌, subst}
-use mathlib.Core.Bool.{Bool, true, false}
+use mathlib.Core.Bool.{Bool, true, false, cond, not}
+use Rattle.std.specs.List.{prefix_len, filter}
 use mathlib.Core.List.{List, [], ◌∷◌, ◌++◌, append-nil}
 use Prim.Native.Nat.{ℕ, suc, ◌+◌, ◌-◌, ◌≤◌, ◌<◌}
 use native.Mathlib.Omega.{arith}
@@ -14,21 +15,36 @@ use Rattle.fill.specs.Words.Parts.{bytes_between}
 use Rattle.fill.specs.Words.Words.{suc_if, suc_unless, spaces, run_length, is_none}
 use Rattle.fill.proofs.words.Parts.{part_none, part_cons, part_length, part_drop, part_take}
 
--- one space more; no space; the end
+-- the readers' counts, as the code counts them
+pub spaces_is : (l : List ℕ) → prefix_len (λ b. eqb b 32) l ≡ spaces l
+unfolding spaces
+spaces_is [] = refl
+spaces_is (b ∷ l) = go (eqb b space) (spaces_is l)
+  where
+    go : (t : Bool) → prefix_len (λ x. eqb x 32) l ≡ spaces l → cond t (1 + prefix_len (λ x. eqb x 32) l) 0 ≡ suc_if t (spaces l)
+    go true h = omega arith
+    go false h = refl
+
+pub run_is : (l : List ℕ) → prefix_len (λ b. not (eqb b 32)) l ≡ run_length l
+unfolding run_length
+run_is [] = refl
+run_is (b ∷ l) = go (eqb b space) (run_is l)
+  where
+    go : (t : Bool) → prefix_len (λ x. not (eqb x 32)) l ≡ run_length l → cond (not t) (1 + prefix_len (λ x. not (eqb x 32)) l) 0 ≡ suc_unless t (run_length l)
+    go true h = refl
+    go false h = omega arith
+
+pub width_is : (l : List ℕ) → length (filter (λ b. not (eqb b 2)) l) ≡ width l
+unfolding width
+width_is [] = refl
+width_is (b ∷ l) = go (eqb b mark) (width_is l)
+  where
+    go : (t : Bool) → length (filter (λ x. not (eqb x 2)) l) ≡ width l → length (cond (not t) (b ∷ filter (λ x. not (eqb x 2)) l) (filter (λ x. not (eqb x 2)) l)) ≡ count_if t (width l)
+    go true h = h
+    go false h = omega arith
+
+-- one byte more of the run of a word, and of its width; a space; the end
 module _ (l : List ℕ) (i to : ℕ) (k : to ≤ length l) where
-  pub spaces_more : i < to → get_or l i 0 ≡ 32 → i + spaces (bytes_between l i to) ≡ i + 1 + spaces (bytes_between l (i + 1) to)
-  unfolding spaces
-  spaces_more h e = rw (part_cons l i to h k, eq-eqb (get_or l i 0) 32 e) (omega arith)
-
-  pub spaces_stop : i < to → (get_or l i 0 ≡ 32 → ⊥) → i ≡ i + spaces (bytes_between l i to)
-  unfolding spaces
-  spaces_stop h e = rw (part_cons l i to h k, ne_eqb (get_or l i 0) 32 e) (omega arith)
-
-  pub spaces_end : to ≤ i → i ≡ i + spaces (bytes_between l i to)
-  unfolding spaces
-  spaces_end h = rw (part_none l i to h) (omega arith)
-
-  -- the same for the run of a word, and its width
   pub run_more : i < to → (get_or l i 0 ≡ 32 → ⊥) → i + run_length (bytes_between l i to) ≡ i + 1 + run_length (bytes_between l (i + 1) to)
   unfolding run_length
   run_more h e = rw (part_cons l i to h k, ne_eqb (get_or l i 0) 32 e) (omega arith)
@@ -64,16 +80,6 @@ module _ (l : List ℕ) (i to w : ℕ) (k : to ≤ length l) where
   pub width_end : to ≤ i → w ≡ w + run_width (bytes_between l i to)
   unfolding run_length width
   width_end h = rw (part_none l i to h) (omega arith)
-
--- one byte more of a width; the end
-module _ (l : List ℕ) (i to w : ℕ) (k : to ≤ length l) where
-  pub width_next : i < to → w + width (bytes_between l i to) ≡ w + count_if (eqb (get_or l i 0) mark) 0 + width (bytes_between l (i + 1) to)
-  unfolding width
-  width_next h = rw (part_cons l i to h k) (omega (arith, count_if_lem (eqb (get_or l i 0) mark) (width (bytes_between l (i + 1) to))))
-
-  pub width_done : to ≤ i → w ≡ w + width (bytes_between l i to)
-  unfolding width
-  width_done h = rw (part_none l i to h) (omega arith)
 
 -- bounds
 pub spaces_few : (l : List ℕ) → spaces l ≤ length l
@@ -197,15 +203,27 @@ none_first : (l : List ℕ) → spaces l < length l → is_none (words l) ≡ fa
 none_first l h = ap is_none (words_first l h)
 
 module _ (l : List ℕ) (at to from : ℕ) (k : to ≤ length l) (o : at ≤ to) (f : from ≡ at + spaces (bytes_between l at to)) where
-  pub leads_some : from < to → ltb at from ≡ leads (words (bytes_between l at to))
+  leads_some : from < to → ltb at from ≡ leads (words (bytes_between l at to))
   leads_some h = sym (leads_first (bytes_between l at to) (omega (arith, part_length l at to k)) ∙ go (ltb at from) refl)
     where
       go : (t : Bool) → ltb at from ≡ t → leb 1 (spaces (bytes_between l at to)) ≡ t
       go true e = le-leb 1 (spaces (bytes_between l at to)) (omega (arith, ltb-true at from e))
       go false e = lt-leb 1 (spaces (bytes_between l at to)) (omega (arith, ltb-false at from e))
 
-  pub leads_none : from ≡ to → false ≡ leads (words (bytes_between l at to))
-  leads_none e = sym (ap leads (first_none l at to from k o f e))
+  pub leads_is : from ≤ to → cond (ltb at from) (ltb from to) false ≡ leads (words (bytes_between l at to))
+  leads_is h = go (ltb from to) refl
+    where
+      both : (t : Bool) → cond t true false ≡ t
+      both true = refl
+      both false = refl
+
+      none : (t : Bool) → cond t false false ≡ false
+      none true = refl
+      none false = refl
+
+      go : (t : Bool) → ltb from to ≡ t → cond (ltb at from) t false ≡ leads (words (bytes_between l at to))
+      go true e = both (ltb at from) ∙ leads_some (ltb-true from to e)
+      go false e = none (ltb at from) ∙ sym (ap leads (first_none l at to from k o f (omega (arith, ltb-false from to e))))
 
   pub none_is : from ≤ to → eqb from to ≡ is_none (words (bytes_between l at to))
   none_is h = go (eqb from to) refl

@@ -1,13 +1,11 @@
 -- What the readers of words answer, over the part of a line that is read. Assumes nothing.
-use Rattle.std.specs.Prelude.{◌≡◌, Bool, true, false, List, [], ◌∷◌, ℕ, suc, ◌+◌, ◌-◌, ◌≤◌, ◌<◌, eqb, take}
+use Rattle.std.specs.Prelude.{◌≡◌, Option, Some, None, Bool, true, false, List, [], ◌∷◌, ℕ, suc, ◌+◌, ◌-◌, ◌≤◌, ◌<◌, eqb, take}
 use Rattle.measure.specs.Counts.{across_of, cells_across}
 use Rattle.rules.specs.Bytes.{space}
 use Rattle.rules.specs.Filling.{Word, word, words, width}
 use Rattle.fill.specs.Words.Parts.{bytes_between}
 use Rattle.fill.specs.declared.words.WordEnd.{WordEnd}
 use Rattle.fill.specs.declared.words.WordAt.{WordAt}
-use Rattle.fill.specs.declared.words.NextWord.{NextWord}
-use Rattle.fill.specs.declared.words.NextWord.TheVariants.{Found, Nothing}
 
 abbrev pub suc_if : Bool → ℕ → ℕ
 suc_if true n = suc n
@@ -35,9 +33,9 @@ pub record WordEndIs (line : List ℕ) (at to : ℕ) (r : WordEnd) : Type 0 wher
   pub high : r.to ≤ to
 
 -- the words of a line by its first one and the place behind that
-abbrev pub words_from : (line : List ℕ) → (to : ℕ) → NextWord → List Word
-words_from line to (Found w) = word (across_of w.gap) (bytes_between line w.from w.to) ∷ words (bytes_between line w.to to)
-words_from line to Nothing = []
+abbrev pub words_from : (line : List ℕ) → (to : ℕ) → Option WordAt → List Word
+words_from line to (Some w) = word (across_of w.gap) (bytes_between line w.from w.to) ∷ words (bytes_between line w.to to)
+words_from line to None = []
 
 -- where a word stands, and its width
 pub record WordIs (line : List ℕ) (at to : ℕ) (w : WordAt) : Type 0 where
@@ -47,9 +45,9 @@ pub record WordIs (line : List ℕ) (at to : ℕ) (w : WordAt) : Type 0 where
   pub high : w.to ≤ to
   pub width : w.width ≡ cells_across (width (bytes_between line w.from w.to))
 
-abbrev pub GoodNext : (line : List ℕ) → (at to : ℕ) → NextWord → Type 0
-GoodNext line at to (Found w) = WordIs line at to w
-GoodNext line at to Nothing = Unit {0}
+abbrev pub GoodNext : (line : List ℕ) → (at to : ℕ) → Option WordAt → Type 0
+GoodNext line at to (Some w) = WordIs line at to w
+GoodNext line at to None = Unit {0}
 
 -- whether there are no words
 abbrev pub is_none : List Word → Bool

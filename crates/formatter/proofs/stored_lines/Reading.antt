@@ -1,27 +1,20 @@
 -- The next line of a text in the store. Assumes nothing.
-use mathlib.Core.Path.{◌≡◌, refl, sym, ap, ◌∙◌, subst}
+use Rattle.std.specs.Prelude.{None, Some}
+use mathlib.Core.Path.{◌≡◌, refl, ap, ◌∙◌}
 use mathlib.Core.List.{List, [], ◌∷◌}
 use Prim.Native.Nat.{ℕ, suc, ◌+◌, ◌-◌, ◌≤◌, ◌<◌}
 use native.Mathlib.Omega.{arith}
 use lib.ListN.{length, take, drop, length-drop}
 use lib.Seq.{length-take-le}
-use Rattle.rules.specs.declared.Kind.{Kind}
-use Rattle.rules.specs.declared.Kind.TheVariants.{Macro, String}
-use Rattle.rules.specs.declared.Name.{Name}
+use Rattle.rules.specs.declared.Kind.TheVariants.{Macro}
 use Rattle.scan.specs.Arguments.Around.{cut_at, arguments_of}
-use Rattle.texts.specs.declared.table.Spot.{Spot}
-use Rattle.texts.specs.declared.table.FoundText.{FoundText}
-use Rattle.texts.specs.declared.table.FoundText.TheVariants.{There}
-use Rattle.texts.specs.declared.lines.Top.TheVariants.{Lines, Whole}
-use Rattle.texts.specs.Table.Places.{part_of, text_found}
+use Rattle.texts.specs.declared.lines.Top.TheVariants.{Lines}
 use Rattle.texts.specs.Lines.Lines.{first_line, part_in}
 use Rattle.fill.specs.Words.Parts.{bytes_between}
 use Rattle.fill.proofs.words.Parts.{part_drop}
 use Rattle.input_stack.specs.Stack.Items.{unread_by}
-use Rattle.input_stack.specs.Stack.ItemLaws.{unread_first, unread_none, unread_string}
-use Rattle.formatter.specs.declared.stored_lines.Unread.{Unread}
-use Rattle.formatter.specs.declared.stored_lines.Unread.TheVariants.{Line, Nothing}
-use Rattle.formatter.specs.StoredLines.Works.{UnreadLineIs, UnreadIs}
+use Rattle.input_stack.specs.Stack.ItemLaws.{unread_first, unread_none}
+use Rattle.formatter.specs.StoredLines.Works.{UnreadLineIs}
 
 module _ (st : List ℕ) (at size : ℕ) (h : at + size ≤ length st) where
   abbrev bytes : List ℕ
@@ -40,7 +33,7 @@ module _ (st : List ℕ) (at size : ℕ) (h : at + size ≤ length st) where
 
   -- the next line of a macro, and the place behind its newline
   pub macro_next : (k n next : ℕ) → k < size → n ≡ length (first_line (part_in st (record { at = at + k; end = at + size }))) → next ≡ k + n + 1
-      → UnreadLineIs (Line (Lines (record { at = at + k; end = at + size })) next) st Macro bytes k
+      → UnreadLineIs (Some (Lines (record { at = at + k; end = at + size }), next)) st Macro bytes k
   macro_next k n next l e f =
       let rest = part_in st (record { at = at + k; end = at + size }) in
       let z : k + suc (length (first_line rest)) ≡ next = omega (arith, e, f) in (
@@ -51,26 +44,8 @@ module _ (st : List ℕ) (at size : ℕ) (h : at + size ≤ length st) where
       )
 
   -- nothing is left of a macro
-  pub macro_none : (k : ℕ) → size ≤ k → UnreadLineIs Nothing st Macro bytes k
+  pub macro_none : (k : ℕ) → size ≤ k → UnreadLineIs None st Macro bytes k
   macro_none k l = unread_none bytes k (omega (arith, bytes_length))
-
-  -- a string is one line
-  pub string_next : UnreadLineIs (Line (Whole (record { at = at; end = at + size })) 1) st String bytes 0
-  string_next =
-      let e : size ≡ at + size - at = omega arith in
-      (ap (λ (n : ℕ). take n (drop at st) ∷ []) e, (omega arith, h))
-
-  pub string_none : (k : ℕ) → 0 < k → UnreadLineIs Nothing st String bytes k
-  string_none k l = unread_string bytes k l
-
--- the line of a text that was looked up
-there_line : (r : Unread) (st : List ℕ) (n : Name) (s : Spot) (k : ℕ) → UnreadLineIs r st s.kind (part_of st s) k → UnreadIs r st (text_found st n (There s)) k
-there_line (Line top next) st n s k h = h
-there_line Nothing st n s k h = h
-
-pub found_line : (r : Unread) (st : List ℕ) (n : Name) (f : FoundText) (s : Spot) (d : Kind) (k : ℕ) → f ≡ There s → s.kind ≡ d → UnreadLineIs r st d (part_of st s) k → UnreadIs r st (text_found st n f) k
-found_line r st n f s d k a b h =
-    subst (λ (v : FoundText). UnreadIs r st (text_found st n v) k) (sym a) (there_line r st n s k (subst (λ (v : Kind). UnreadLineIs r st v (part_of st s) k) (sym b) h))
 
 -- a source line has no arguments
 pub no_arguments_of : (l es : List ℕ) → arguments_of l es 0 ≡ []

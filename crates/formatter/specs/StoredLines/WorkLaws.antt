@@ -1,12 +1,13 @@
 -- Each piece of work, from the item on top. Assumes nothing.
-use Rattle.std.specs.Prelude.{◌≡◌, refl, Bool, true, false, ℕ, suc, ◌≤◌, ◌<◌, ltb, length, ℤ}
+use Rattle.std.specs.Prelude.{◌≡◌, refl, Bool, true, false, ℕ, suc, ◌≤◌, ◌<◌, ltb, length, ℤ, Option, None, Result}
 use Rattle.std.proofs.Common.{sym, ◌∙◌, subst, arith, lt-ltb, le-ltb}
 use Rattle.std.proofs.Math.Path.{ap}
-use Rattle.std.proofs.Math.Option.{Option, none}
 use mathlib.Core.List.{List, [], ◌∷◌}
 use Rattle.stream.specs.Machine.{works}
 use Rattle.stream.specs.Answers.{Closing}
 use Rattle.rules.specs.declared.Name.{Name}
+use Rattle.rules.specs.declared.Refusal.{Refusal}
+use Rattle.rules.specs.declared.Refusal.TheVariants.{OpenMacro}
 use Rattle.rules.specs.Bytes.{is_there}
 use Rattle.rules.specs.Printers.{Printer}
 use Rattle.rules.specs.Texts.{Text, text_of}
@@ -17,7 +18,9 @@ use Rattle.rules.specs.Rows.{Next}
 use Rattle.rules.specs.Rows as rows
 use Rattle.rules.specs.ControlLines.{deal, deal_again}
 use Rattle.rules.specs.Session.{leave, read_line, work, idle, work_end, step_from, step}
+use Rattle.registers.specs.declared.columns.Registers.{Registers}
 use Rattle.registers.specs.Table.Columns.{RegistersInvariant}
+use Rattle.registers.specs.Table.Lent.{OnlyValues}
 use Rattle.scan.specs.Arguments.Around.{arguments_of}
 use Rattle.input_stack.specs.declared.frames.What.{What}
 use Rattle.input_stack.specs.declared.frames.What.TheVariants as what
@@ -55,26 +58,54 @@ placed p q = framed q.page_state.stack (placed_at q.page_state.stack q.page_stat
 abbrev pub valued : List ℤ → WholeState → WholeState
 valued vs q = whole_state q.page_state q.planted q.texts q.opening (register_columns q.registers.firsts q.registers.seconds vs q.registers.steps q.registers.count)
 
+-- with the registers in other columns
+abbrev pub registered : (firsts seconds : List ℕ) → (values steps : List ℤ) → (count : ℕ) → WholeState → WholeState
+registered fs ss vs us n q = whole_state q.page_state q.planted q.texts q.opening (register_columns fs ss vs us n)
+
+-- with the registers as they lie in a struct
+abbrev pub lent : Registers → (count : ℕ) → WholeState → WholeState
+lent rg n q = registered rg.firsts.now rg.seconds.now rg.values.now rg.steps.now n q
+
 there_if : (b : Bool) (o : Opening) (t : Texts) → is_there (opened_if b o t) ≡ b
 there_if true o t = refl
 there_if false o t = refl
 
--- A line that is read, and then acted on, is dealt with.
-pub read_refines : (p : Printer) (q : WholeState) (args args₀ : List (List ℕ)) (line line₀ out' : List ℕ) (vs' : List ℤ) (r : Dealt) → args₀ ≡ args → line₀ ≡ line
-    → DealRefines r p (layout_of q.page_state.layout) (page_of q.page_state.page) (texts_in q.texts) q.opening.there args₀ line₀ q.registers.firsts q.registers.seconds q.registers.values q.registers.steps q.registers.count out' vs'
-    → (w : Way) (written : ℕ) (q' : WholeState) (row' : List ℕ) → StateRefines (dealt_of p r out') (valued vs' q) w written q' row' → StateRefines (deal p args line) q w written q' row'
-read_refines p q args args₀ line line₀ out' vs' r a b e w written q' row' d = record {
-  is = λ x.
-      d.is x ∙ e.is (opened_if q.opening.there q.opening q.texts) (there_if q.opening.there q.opening q.texts) (state_in q x)
-      ∙ ap (λ (v : List (List ℕ)). deal p v line₀ (state_in q x)) a ∙ ap (λ (l : List ℕ). deal p args l (state_in q x)) b;
-  sound = d.sound;
-  fits = d.fits;
-  few = d.few;
-  long = d.long;
-  kept = d.kept;
-}
+module _ (q : WholeState) (rg rg' : Registers) {fs ss : List ℕ} {vs us : List ℤ} where
+  -- A line that is read, and then acted on, is dealt with.
+  pub read_refines : (p : Printer) (args args₀ : List (List ℕ)) (line line₀ out' : List ℕ) (r : Result Dealt Refusal) → args₀ ≡ args → line₀ ≡ line
+      → DealRefines r p (layout_of q.page_state.layout) (page_of q.page_state.page) (texts_in q.texts) q.opening.there args₀ line₀ rg rg' out'
+      → (w : Way) (written : ℕ) (q' : WholeState) (row' : List ℕ) → StateRefines (dealt_of p r out') (registered fs ss vs us rg.count q) w written q' row'
+      → fs ≡ rg'.firsts.now → ss ≡ rg'.seconds.now → vs ≡ rg'.values.now → us ≡ rg'.steps.now
+      → StateRefines (deal p args line) (lent rg rg.count q) w written q' row'
+  read_refines p args args₀ line line₀ out' r a b e w written q' row' d f g h i = record {
+    is = λ x.
+        d.is x ∙ ap (λ (l : List ℕ). dealt_of p r out' (state_in (registered l ss vs us rg.count q) x)) f
+        ∙ ap (λ (l : List ℕ). dealt_of p r out' (state_in (registered rg'.firsts.now l vs us rg.count q) x)) g
+        ∙ ap (λ (l : List ℤ). dealt_of p r out' (state_in (registered rg'.firsts.now rg'.seconds.now l us rg.count q) x)) h
+        ∙ ap (λ (l : List ℤ). dealt_of p r out' (state_in (registered rg'.firsts.now rg'.seconds.now rg'.values.now l rg.count q) x)) i
+        ∙ ap (λ (k : ℕ). dealt_of p r out' (state_in (lent rg' k q) x)) (sym e.rest.count)
+        ∙ e.is (opened_if q.opening.there q.opening q.texts) (there_if q.opening.there q.opening q.texts) (state_in q x)
+        ∙ ap (λ (v : List (List ℕ)). deal p v line₀ (state_in (lent rg rg.count q) x)) a ∙ ap (λ (l : List ℕ). deal p args l (state_in (lent rg rg.count q) x)) b;
+    sound = d.sound;
+    fits = d.fits;
+    few = d.few;
+    long = d.long;
+    kept = d.kept;
+  }
 
--- with other values, and with another stack, all stays sound
+  -- with the values of another struct, and with another stack, all stays sound
+  pub sound_registered : OnlyValues rg rg' → StateInvariant (lent rg rg.count q) → fs ≡ rg'.firsts.now → ss ≡ rg'.seconds.now → vs ≡ rg'.values.now → us ≡ rg'.steps.now
+      → StateInvariant (registered fs ss vs us rg.count q)
+  sound_registered e s f g h i = record {
+    page_state = s.page_state;
+    lies = s.lies;
+    store = s.store;
+    good = s.good;
+    opens = s.opens;
+    table = rw (f, g, h, i) (subst (λ (k : ℕ). RegistersInvariant rg'.firsts.now rg'.seconds.now rg'.values.now rg'.steps.now k) e.count rg'.sound);
+  }
+
+-- the same with other values alone
 pub sound_valued : (q : WholeState) (vs' : List ℤ) → StateInvariant q → RegistersInvariant q.registers.firsts q.registers.seconds vs' q.registers.steps q.registers.count → StateInvariant (valued vs' q)
 sound_valued q vs' s t = record { page_state = s.page_state; lies = s.lies; store = s.store; good = s.good; opens = s.opens; table = t }
 
@@ -135,23 +166,23 @@ resumed_is p ts (what.Ejects n) l es s h = refl
 same_stored : (x : State) (n : ℕ) → x.input.stored ≡ n → with_stored n x ≡ x
 same_stored x n e = ap (λ (k : ℕ). with_stored k x) (sym e)
 
-module _ (p : Printer) (q : WholeState) (x : State) (c : x.closing ≡ none) where
+module _ (p : Printer) (q : WholeState) (x : State) (c : x.closing ≡ None) where
   -- a step on the item on top
   top_step : (i : Item) (k : List Item) → stack_of (texts_in q.texts) q.page_state.stack q.page_state.arena q.page_state.ends ≡ i ∷ k → step p (state_in q x) ≡ work p i (setters.with_stack k (state_in q x))
   unfolding step
-  top_step i k e = ap (λ (o : Option Closing). step_from p o (stack_of (texts_in q.texts) q.page_state.stack q.page_state.arena q.page_state.ends) (state_in q x)) c ∙ ap (λ (l : List Item). step_from p none l (state_in q x)) e
+  top_step i k e = ap (λ (o : Option Closing). step_from p o (stack_of (texts_in q.texts) q.page_state.stack q.page_state.arena q.page_state.ends) (state_in q x)) c ∙ ap (λ (l : List Item). step_from p None l (state_in q x)) e
 
   -- a step where nothing lies on the stack and the end was read
   end_step : stack_of (texts_in q.texts) q.page_state.stack q.page_state.arena q.page_state.ends ≡ [] → x.input.ended ≡ true → step p (state_in q x) ≡ idle p true (state_in q x).tables.opened (state_in q x)
   unfolding step
   end_step e d =
       ap (λ (o : Option Closing). step_from p o (stack_of (texts_in q.texts) q.page_state.stack q.page_state.arena q.page_state.ends) (state_in q x)) c
-      ∙ ap (λ (l : List Item). step_from p none l (state_in q x)) e
+      ∙ ap (λ (l : List Item). step_from p None l (state_in q x)) e
       ∙ ap (λ (b : Bool). idle p b (state_in q x).tables.opened (state_in q x)) d
 
 module _ (p : Printer) (q : WholeState) (stored : ℕ) (few : stored ≤ 10000) (w : Way) (written : ℕ) (q' : WholeState) (row' : List ℕ) where
   abbrev step_refines : (rule : State → Next) (q₀ : WholeState) (stored' : ℕ) → stored' ≤ 10000 → q₀.texts.store ≡ q.texts.store → StateRefines rule q₀ w written q' row'
-      → ((x : State) → x.closing ≡ none → x.input.stored ≡ stored → (q.page_state.stack.depth ≡ 0 → x.input.ended ≡ true) → rule (state_in q₀ (with_stored stored' x)) ≡ step p (state_in q x))
+      → ((x : State) → x.closing ≡ None → x.input.stored ≡ stored → (q.page_state.stack.depth ≡ 0 → x.input.ended ≡ true) → rule (state_in q₀ (with_stored stored' x)) ≡ step p (state_in q x))
       → StepRefines p q stored w written q' stored' row'
   step_refines rule q₀ stored' h same d is = record {
     is = λ x c e f. d.is (with_stored stored' x) ∙ is x c e f;
@@ -182,7 +213,7 @@ module _ (p : Printer) (q : WholeState) (stored : ℕ) (few : stored ≤ 10000) 
     abbrev beneath : List Item
     beneath = stack_of (texts_in q.texts) (popped q.page_state.stack) q.page_state.arena q.page_state.ends
 
-    text_step : (x : State) → x.closing ≡ none → (ls : List (List ℕ)) → unread (text_of n (texts_in q.texts)) k ≡ ls
+    text_step : (x : State) → x.closing ≡ None → (ls : List (List ℕ)) → unread (text_of n (texts_in q.texts)) k ≡ ls
         → work p (reading n ls args) (setters.with_stack beneath (state_in q x)) ≡ step p (state_in q x)
     text_step x c ls e =
         sym (ap (λ (v : List (List ℕ)). work p (reading n v args) (setters.with_stack beneath (state_in q x))) e)
@@ -201,7 +232,7 @@ module _ (p : Printer) (q : WholeState) (stored : ℕ) (few : stored ≤ 10000) 
       abbrev q₁ : WholeState
       q₁ = placed place q
 
-      line_step : (x : State) → x.closing ≡ none → read_line p (ltb x.input.stored 10000) args line (state_in q₁ x) ≡ step p (state_in q x)
+      line_step : (x : State) → x.closing ≡ None → read_line p (ltb x.input.stored 10000) args line (state_in q₁ x) ≡ step p (state_in q x)
       line_step x c =
           ap (λ (v : List Item). read_line p (ltb x.input.stored 10000) args line (setters.with_stack v (state_in q x)))
           (placed_item q.page_state.stack place q.page_state.arena q.page_state.ends sound.page_state.columns deep (texts_in q.texts) n k count top)
@@ -244,7 +275,7 @@ leave_refines q row s d l =
     stay_refines (λ v. leave v.tables.opened v) q (left_by q.opening.there) row s d l (λ x. left_is q.opening.there q.opening q.texts (state_in q x))
 
 -- the end with a definition open, and without one
-pub idle_open : (p : Printer) (q : WholeState) (x : State) → q.opening.there ≡ true → works [] (close_by (Refused 8) (state_in q x)) ≡ idle p true (state_in q x).tables.opened (state_in q x)
+pub idle_open : (p : Printer) (q : WholeState) (x : State) → q.opening.there ≡ true → works [] (close_by (Refused OpenMacro) (state_in q x)) ≡ idle p true (state_in q x).tables.opened (state_in q x)
 idle_open p q x e = sym (ap (λ (b : Bool). idle p true (opened_if b q.opening q.texts) (state_in q x)) e)
 
 pub idle_none : (p : Printer) (q : WholeState) (x : State) → q.opening.there ≡ false → work_end (state_in q x).page.last (state_in q x) ≡ idle p true (state_in q x).tables.opened (state_in q x)

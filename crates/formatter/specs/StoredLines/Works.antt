@@ -1,6 +1,5 @@
 -- What a piece of work is, by the item on top of the input stack. Assumes nothing.
-use Rattle.std.specs.Prelude.{◌≡◌, Bool, true, false, List, [], ◌∷◌, ℕ, ◌≤◌, ◌<◌, length, take, drop}
-use Rattle.std.proofs.Math.Option.{Option, none}
+use Rattle.std.specs.Prelude.{◌≡◌, Bool, true, false, List, [], ◌∷◌, ℕ, ◌≤◌, ◌<◌, length, take, drop, Option, None, Some}
 use Rattle.stream.specs.Machine.{works}
 use Rattle.rules.specs.declared.Name.{Name}
 use Rattle.rules.specs.declared.Kind.{Kind}
@@ -15,7 +14,9 @@ use Rattle.rules.specs.TextLines.{text_line, fill}
 use Rattle.rules.specs.Acts.{act}
 use Rattle.rules.specs.ControlLines.{meaning_of, obey}
 use Rattle.rules.specs.Session.{step}
-use Rattle.texts.specs.declared.table.FoundText.{FoundText}
+use Rattle.rules.specs.declared.Refusal.TheVariants.{OpenMacro}
+use Rattle.texts.specs.declared.table.Spot.{Spot}
+use Rattle.texts.specs.declared.lines.Top.{Top}
 use Rattle.texts.specs.Table.Places.{text_found}
 use Rattle.texts.specs.Lines.Lines.{next_line, TopInside}
 use Rattle.settings.specs.declared.layout.Printer.{Printer}
@@ -33,33 +34,31 @@ use Rattle.state.specs.declared.WorkOutcome.{WorkOutcome}
 use Rattle.state.specs.Whole.{WholeState, state_in, StateInvariant, KeptStore}
 use Rattle.state.specs.Steps.{stayed}
 use Rattle.formatter.specs.declared.stored_lines.Performed.{Performed}
-use Rattle.formatter.specs.declared.stored_lines.Unread.{Unread}
-use Rattle.formatter.specs.declared.stored_lines.Unread.TheVariants.{Line, Nothing}
 
 abbrev pub performed_of : WorkOutcome → (stored : ℕ) → Performed
 performed_of p n = record { way = p.way; written = p.written; status = p.status; stored = n }
 
 -- the next line of a text of this kind and these bytes from a place on, and the place behind it; or nothing is left
-abbrev pub UnreadLineIs : Unread → (store : List ℕ) → Kind → (bytes : List ℕ) → (place : ℕ) → Type 0
-UnreadLineIs (Line top next) st k l place = (unread_by k l place ≡ next_line [] st top ∷ unread_by k l next) × TopInside [] st top
-UnreadLineIs Nothing st k l place = unread_by k l place ≡ []
+abbrev pub UnreadLineIs : Option (Top × ℕ) → (store : List ℕ) → Kind → (bytes : List ℕ) → (place : ℕ) → Type 0
+UnreadLineIs (Some p) st k l place = (unread_by k l place ≡ next_line [] st p.0 ∷ unread_by k l p.1) × TopInside [] st p.0
+UnreadLineIs None st k l place = unread_by k l place ≡ []
 
 -- the same of a text that is there or not
-abbrev pub UnreadIs : Unread → (store : List ℕ) → Option Text → (place : ℕ) → Type 0
-UnreadIs (Line top next) st o place = (unread o place ≡ next_line [] st top ∷ unread o next) × TopInside [] st top
-UnreadIs Nothing st o place = unread o place ≡ []
+abbrev pub UnreadIs : Option (Top × ℕ) → (store : List ℕ) → Option Text → (place : ℕ) → Type 0
+UnreadIs (Some p) st o place = (unread o place ≡ next_line [] st p.0 ∷ unread o p.1) × TopInside [] st p.0
+UnreadIs None st o place = unread o place ≡ []
 
 -- "A string called as a macro is one line": where it lies in any store
-abbrev pub StringIs : Unread → (at size place : ℕ) → Type 0
+abbrev pub StringIs : Option (Top × ℕ) → (at size place : ℕ) → Type 0
 StringIs r at size place = (st : List ℕ) → length st ≡ 8192 → UnreadLineIs r st String (take size (drop at st)) place
 
 -- the next line of a text that was looked up, whatever its name is
-abbrev pub FoundIs : Unread → (store : List ℕ) → FoundText → (place : ℕ) → Type 0
+abbrev pub FoundIs : Option (Top × ℕ) → (store : List ℕ) → Option Spot → (place : ℕ) → Type 0
 FoundIs r st f place = (n : Name) → UnreadIs r st (text_found st n f) place
 
 -- "8: a macro definition not ended when its input ends"
 abbrev pub left_by : (opened : Bool) → Way
-left_by true = Refused 8
+left_by true = Refused OpenMacro
 left_by false = On
 
 abbrev pub leaves : Status → WorkOutcome
@@ -110,7 +109,7 @@ pub record TakenReady (q : WholeState) (stored : ℕ) (row : List ℕ) (p : Prin
 
 -- One piece of work is done as the rules say, in every open session with these parts.
 pub record StepRefines (p : printers.Printer) (q : WholeState) (stored : ℕ) (w : Way) (written : ℕ) (q' : WholeState) (stored' : ℕ) (row' : List ℕ) : Type 0 where
-  pub is : (x : State) → x.closing ≡ none → x.input.stored ≡ stored → (q.page_state.stack.depth ≡ 0 → x.input.ended ≡ true)
+  pub is : (x : State) → x.closing ≡ None → x.input.stored ≡ stored → (q.page_state.stack.depth ≡ 0 → x.input.ended ≡ true)
       → works (take written row') (close_by w (state_in q' (with_stored stored' x))) ≡ step p (state_in q x)
   pub sound : StateInvariant q'
   pub fits : StackFits q'.page_state.stack q'.page_state.ends

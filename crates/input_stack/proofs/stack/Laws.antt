@@ -1,14 +1,15 @@
 -- Copies into and out of the lent arrays, and the frames below them. Assumes nothing.
 use mathlib.Core.Path.{◌≡◌, refl, sym, ap, ◌∙◌, subst}
 use mathlib.Core.Bool.{Bool, true, false, ◌||◌}
-use mathlib.Core.List.{List, [], ◌∷◌, ◌++◌, append_assoc}
-use Prim.Native.Nat.{ℕ, suc, ◌+◌, ◌-◌, ◌*◌, ◌≤◌, ◌<◌}
+use mathlib.Core.List.{List, ◌∷◌, ◌++◌, append_assoc}
+use Prim.Native.Nat.{ℕ, zero, suc, ◌+◌, ◌*◌, ◌≤◌, ◌<◌}
 use native.Mathlib.Numerals.{add-one}
 use native.Mathlib.Omega.{arith}
 use lib.Dec.{eqb}
 use borrow.Author.Tests.{eqb-true, eqb-false}
-use lib.ListN.{length, take, drop, get_or, set, length-set}
-use lib.Seq.{paste, length-paste, length_paste_head, take-take, take_all, length-take-le, take-append-le, drop_at, take_at, get_or-set_same, get_or-set_other, take-set-le, take-length, take-suc, take-suc-set}
+use lib.ListN.{length, take, drop, set, length-set}
+use lib.Seq.{paste, length-paste, length_paste_head, take-take, take_all, length-take-le, take-append-le, drop_at, take_at, get_or-set_same, get_or-set_other, take-set-le, take-length}
+use Rattle.std.specs.List.{list_any, range_with_len}
 use Rattle.rules.specs.declared.Name.{Name}
 use Rattle.input_stack.specs.declared.frames.What.{What}
 use Rattle.input_stack.specs.declared.stack.Entry.{Entry}
@@ -136,18 +137,30 @@ module _ (s : Stack) (bs ps : List ℕ) (w : What) (l g : List ℕ) (k : StackIn
     depth = refl;
   }
 
--- one element more of a copy to the front
-pub front_step : (d s : List ℕ) (j v : ℕ) → j < length d → j < length s → v ≡ get_or s j 0 → take j d ≡ take j s → take (j + 1) (set d j v) ≡ take (j + 1) s
-front_step d s j v h k e t =
-    ap (λ (n : ℕ). take n (set d j v)) (add-one j) ∙ take-suc-set d j v h ∙ ap (λ l. l ++ v ∷ []) t ∙ ap (λ (x : ℕ). take j s ++ x ∷ []) e
-    ∙ sym (take-suc s j 0 k) ∙ ap (λ (n : ℕ). take n s) (sym (add-one j))
+-- which of three comes first makes no difference
+or_first : (a b c : Bool) → (a || (b || c)) ≡ ((b || a) || c)
+or_first true true c = refl
+or_first true false c = refl
+or_first false true c = refl
+or_first false false c = refl
 
--- a text lies below a depth if it is the frame under it, or lies below that
-pub called_step : (n : Name) (ps : List ℕ) (i : ℕ) → 0 < i → called_below n ps i ≡ is_called n (entry_at ps (i - 1)).what || called_below n ps (i - 1)
-unfolding called_below
-called_step n ps i h = let e : i ≡ suc (i - 1) = omega arith in ap (called_below n ps) e
+or_none : (a : Bool) → (a || false) ≡ a
+or_none true = refl
+or_none false = refl
 
--- and none lies below the first
-pub called_none : (n : Name) (ps : List ℕ) (i : ℕ) → i ≡ 0 → called_below n ps i ≡ false
+-- a text lies below a depth if a frame from a row up to it is the text, or one below that row
+called_from : (n : Name) (ps : List ℕ) (i k : ℕ)
+    → (called_below n ps i || list_any (λ j. is_called n (entry_at ps j).what) (range_with_len i k)) ≡ called_below n ps (i + k)
 unfolding called_below
-called_none n ps i e = ap (called_below n ps) e
+called_from n ps i zero = let e : i ≡ i + 0 = omega arith in or_none (called_below n ps i) ∙ ap (called_below n ps) e
+called_from n ps i (suc k) =
+    let e : i + 1 + k ≡ i + suc k = omega arith in
+    let is = λ (j : ℕ). is_called n (entry_at ps j).what in
+    or_first (called_below n ps i) (is i) (list_any is (range_with_len (i + 1) k))
+    ∙ ap (λ (b : Bool). b || list_any is (range_with_len (i + 1) k)) (sym (ap (called_below n ps) (add-one i)))
+    ∙ called_from n ps (i + 1) k ∙ ap (called_below n ps) e
+
+-- a text lies below a depth if some frame below it is the text
+pub called_any : (n : Name) (ps : List ℕ) (d : ℕ) → list_any (λ j. is_called n (entry_at ps j).what) (range_with_len 0 d) ≡ called_below n ps d
+unfolding called_below
+called_any n ps d = let e : 0 + d ≡ d = omega arith in called_from n ps 0 d ∙ ap (called_below n ps) e

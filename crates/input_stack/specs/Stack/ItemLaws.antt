@@ -1,10 +1,9 @@
 -- Laws of the frames and the items on the stack: the top one first, the stack below it, and why texts may change under a stack. Assumes nothing.
-use Rattle.std.specs.Prelude.{◌≡◌, Bool, true, false, ◌||◌, length, take, drop}
+use Rattle.std.specs.Prelude.{◌≡◌, Bool, true, false, ◌||◌, length, take, drop, Option, Some}
 use Rattle.std.proofs.Math.Path.{refl, ap, subst}
 use Rattle.std.proofs.Common.{sym, ◌∙◌, length-drop, drop_of_length-le, drop-drop}
 use Rattle.std.proofs.lemmas.Bool.{false≢true}
 use mathlib.Core.List.{List, [], ◌∷◌, ◌++◌}
-use Rattle.std.proofs.Math.Option.{Option, some}
 use Prim.Native.Nat.{ℕ, zero, suc, ◌+◌, ◌-◌, ◌*◌, ◌≤◌, ◌<◌}
 use native.Mathlib.Omega.{arith}
 use Rattle.rules.specs.declared.Name.{Name}
@@ -254,12 +253,12 @@ pub good_kept : (ts ts' : List Text) (m : Name) (fs : List Frame) → on_stack m
 good_kept ts ts' m fs h kept g = all_good ts ts' m kept fs h g
 
 -- A text that is found is found where others stand behind it.
-pub found_before : (n : Name) (a b : List Text) (t : Text) → text_of n a ≡ some t → text_of n (a ++ b) ≡ some t
+pub found_before : (n : Name) (a b : List Text) (t : Text) → text_of n a ≡ Some t → text_of n (a ++ b) ≡ Some t
 unfolding text_of first_where
 found_before n [] b t h = let z : ◌≡◌ {A = ℕ} 0 1 = cc in absurd (omega arith)
 found_before n (u ∷ a) b t h = go (same_name n u.name) refl (found_before n a b t)
   where
-    go : (q : Bool) → same_name n u.name ≡ q → (text_of n a ≡ some t → text_of n (a ++ b) ≡ some t) → text_of n (u ∷ (a ++ b)) ≡ some t
+    go : (q : Bool) → same_name n u.name ≡ q → (text_of n a ≡ Some t → text_of n (a ++ b) ≡ Some t) → text_of n (u ∷ (a ++ b)) ≡ Some t
     go true e ih = found_first n u (a ++ b) e ∙ sym (found_first n u a e) ∙ h
     go false e ih = found_later n u (a ++ b) e ∙ ih (sym (found_later n u a e) ∙ h)
 

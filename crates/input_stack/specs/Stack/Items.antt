@@ -1,6 +1,5 @@
 -- A frame as an item of the rules' input stack, seen over the texts. Assumes nothing.
-use Rattle.std.specs.Prelude.{◌≡◌, List, [], ◌∷◌, ℕ, zero, suc, ◌≤◌, drop}
-use Rattle.std.proofs.Math.Option.{Option, none, some}
+use Rattle.std.specs.Prelude.{◌≡◌, List, [], ◌∷◌, ℕ, zero, suc, ◌≤◌, drop, Option, None, Some}
 use Rattle.rules.specs.declared.Name.{Name}
 use Rattle.rules.specs.declared.Kind.{Kind}
 use Rattle.rules.specs.declared.Kind.TheVariants.{Macro, String}
@@ -23,8 +22,8 @@ unread_by String l (suc k) = []
 
 -- the lines of a text that are not read
 abbrev pub unread : Option Text → (place : ℕ) → List (List ℕ)
-unread none k = []
-unread (some t) k = unread_by t.kind t.bytes k
+unread None k = []
+unread (Some t) k = unread_by t.kind t.bytes k
 
 -- the item of these bytes and places
 abbrev pub item_by : List Text → What → (bytes ends : List ℕ) → Item
@@ -51,7 +50,7 @@ stack_of ts s bs ps = items_of ts (frames_of s bs ps)
 
 -- there is a text of this name
 abbrev pub There : Name → List Text → Type 0
-There n ts = (t : Text) × (text_of n ts ≡ some t)
+There n ts = (t : Text) × (text_of n ts ≡ Some t)
 
 -- a text that is read is there, and its arguments lie within the bytes; a gap is at most 2
 abbrev pub GoodBy : List Text → What → (bytes ends : List ℕ) → Type 0

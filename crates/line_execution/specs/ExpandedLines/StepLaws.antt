@@ -1,12 +1,11 @@
 -- Laws of an expanded line, and of what a line of an open definition makes of the whole state. Assumes nothing.
-use Rattle.std.specs.Prelude.{◌≡◌, refl, Bool, true, false, List, ℕ, ◌≤◌, length, take, ℤ}
+use Rattle.std.specs.Prelude.{◌≡◌, refl, Bool, true, false, List, ℕ, ◌≤◌, length, take, ℤ, Some, Result, Ok, Err}
 use Rattle.std.proofs.Common.{length-take, arith}
 use Rattle.rules.specs.Printers as printers
 use Rattle.rules.specs.declared.Name.{Name}
+use Rattle.rules.specs.declared.Refusal.{Refusal}
 use Rattle.rules.specs.Texts.{Text}
 use Rattle.settings.specs.declared.layout.Printer.{Printer}
-use Rattle.texts.specs.declared.table.KeptLine.{KeptLine}
-use Rattle.texts.specs.declared.table.KeptLine.TheVariants as kept
 use Rattle.texts.specs.Table.Changes.{KeptTo, ClosedTo}
 use Rattle.line_syntax.specs.declared.lines.Meaning.{Meaning}
 use Rattle.line_syntax.specs.Lines.Meanings.{MeaningIs}
@@ -23,19 +22,19 @@ pub front_short : (l : List ℕ) (n : ℕ) → n ≤ 512 → length (take n l) �
 front_short l n h = simp length-take (omega arith)
 
 -- a body line is kept, or closes, where a definition is open; other lines are dealt with where none is
-pub closes_open : (b : Bool) (ts : List Text) → DealtInvariant b ts dealt.Closes → b ≡ true
+pub closes_open : (b : Bool) (ts : List Text) → DealtInvariant b ts (Ok dealt.Closes) → b ≡ true
 closes_open true ts h = refl
 closes_open false ts h = absurd h
 
-pub keeps_open : (b : Bool) (ts : List Text) (n : ℕ) → DealtInvariant b ts (dealt.Keeps n) → (b ≡ true) × (n ≤ 512)
+pub keeps_open : (b : Bool) (ts : List Text) (n : ℕ) → DealtInvariant b ts (Ok (dealt.Keeps n)) → (b ≡ true) × (n ≤ 512)
 keeps_open true ts n h = (refl, h)
 keeps_open false ts n h = absurd h
 
-pub words_short : (b : Bool) (ts : List Text) (n : ℕ) → DealtInvariant b ts (dealt.Words n) → n ≤ 512
+pub words_short : (b : Bool) (ts : List Text) (n : ℕ) → DealtInvariant b ts (Ok (dealt.Words n)) → n ≤ 512
 words_short true ts n h = absurd h
 words_short false ts n h = h
 
-pub control_closed : (b : Bool) (ts : List Text) (q : Bool) (k : Name) (m : Meaning) (n : ℕ) → DealtInvariant b ts (dealt.Control q k m n) → (b ≡ false) × (n ≤ 512) × MeaningIs ts k m
+pub control_closed : (b : Bool) (ts : List Text) (q : Bool) (k : Name) (m : Meaning) (n : ℕ) → DealtInvariant b ts (Ok (dealt.Control q k m n)) → (b ≡ false) × (n ≤ 512) × MeaningIs ts k (Some m)
 control_closed true ts q k m n h = absurd h
 control_closed false ts q k m n h = (refl, h.0, h.1)
 
@@ -44,10 +43,10 @@ module _ (s : Status) (cs bs ps st tf ts ks ls fs ss : List ℕ) (vs us : List �
   q = whole_of s cs bs ps st tf ts ks ls fs ss vs us
 
   module _ (b : StateReady q bytes row p) where
-    pub kept_refines : (m : printers.Printer) (line st' : List ℕ) → s.opening.there ≡ true → (r : KeptLine) → KeptTo st ls s.texts s.opening.length line r st'
+    pub kept_refines : (m : printers.Printer) (line st' : List ℕ) → s.opening.there ≡ true → (r : Result ℕ Refusal) → KeptTo st ls s.texts s.opening.length line r st'
         → StateRefines (λ v. keeps_in m v.tables.opened line v) q (kept_to r s).way (kept_to r s).written (whole_of (kept_to r s).status cs bs ps st' tf ts ks ls fs ss vs us) row
-    kept_refines m line st' o (kept.Longer n) a = keep_refines m q line st' row b.sound b.items b.long o (kept.Longer n) a
-    kept_refines m line st' o kept.Full a = keep_refines m q line st' row b.sound b.items b.long o kept.Full a
+    kept_refines m line st' o (Ok n) a = keep_refines m q line st' row b.sound b.items b.long o (Ok n) a
+    kept_refines m line st' o (Err e) a = keep_refines m q line st' row b.sound b.items b.long o (Err e) a
 
     pub closed_refines : (m : printers.Printer) (n : ℕ) (tf' ts' ks' ls' : List ℕ) → s.opening.there ≡ true
         → ClosedTo st tf ts ks ls s.texts s.opening.length s.opening.name n tf' ts' ks' ls'

@@ -1,8 +1,8 @@
 -- What a line of an open definition makes of a status. Assumes nothing.
-use Rattle.std.specs.Prelude.{◌≡◌, true, List, ℕ}
-use Rattle.texts.specs.declared.table.KeptLine.{KeptLine}
-use Rattle.texts.specs.declared.table.KeptLine.TheVariants as kept
-use Rattle.texts.specs.Table.Changes.{KeptTo}
+use Rattle.std.specs.Prelude.{◌≡◌, true, List, ℕ, Result, Ok, Err}
+use Rattle.rules.specs.declared.Refusal.{Refusal}
+use Rattle.texts.specs.declared.columns.Texts.{Texts}
+use Rattle.texts.specs.Table.Lent.{KeptIn}
 use Rattle.page.specs.declared.springs.Way.TheVariants.{On, Refused}
 use Rattle.state.specs.declared.Status.{Status}
 use Rattle.state.specs.declared.WorkOutcome.{WorkOutcome}
@@ -14,12 +14,12 @@ abbrev pub closed_to : (texts : ℕ) → Status → WorkOutcome
 closed_to n s = stayed On (with_text_count n no_opening s)
 
 -- a body line is kept
-abbrev pub kept_to : KeptLine → Status → WorkOutcome
-kept_to (kept.Longer n) s = stayed On (with_text_count s.texts (record { there = true; name = s.opening.name; length = n }) s)
-kept_to kept.Full s = stayed (Refused 11) s
+abbrev pub kept_to : Result ℕ Refusal → Status → WorkOutcome
+kept_to (Ok n) s = stayed On (with_text_count s.texts (record { there = true; name = s.opening.name; length = n }) s)
+kept_to (Err e) s = stayed (Refused e) s
 
--- the store of texts answers whether a line is kept, and the step goes by that
-pub record LineKept (s : Status) (st ls line : List ℕ) (r : WorkOutcome) (st' : List ℕ) : Type 0 where
-  pub answer : KeptLine
+-- the texts answer whether a line is kept, and the step goes by that
+pub record LineKeptIn (s : Status) (t : Texts) (line : List ℕ) (r : WorkOutcome) (t' : Texts) : Type 0 where
+  pub answer : Result ℕ Refusal
   pub is : r ≡ kept_to answer s
-  pub kept : KeptTo st ls s.texts s.opening.length line answer st'
+  pub kept : KeptIn t s.opening.length line answer t'

@@ -1,16 +1,15 @@
 -- The text of a ds and the condition of an if, by the places that the code finds. Assumes nothing.
 use mathlib.Core.Path.{◌≡◌, refl, sym, ap, ◌∙◌}
 use mathlib.Core.Bool.{Bool, true, false}
-use mathlib.Core.List.{List, [], ◌∷◌}
+use mathlib.Core.List.{List, ◌∷◌}
 use Prim.Native.Nat.{ℕ, zero, suc, ◌+◌, ◌-◌, ◌≤◌, ◌<◌}
 use native.Mathlib.Omega.{arith}
 use lib.Dec.{eqb}
 use lib.ListN.{length, get_or, take, drop}
 use Rattle.rules.specs.Bytes.{byte, space, first_where}
 use Rattle.rules.specs.Arguments.{Part, part, byte_of, after_spaces, without_quote_by, without_quote, string_text, first_word, condition}
-use Rattle.scan.specs.Arguments.Around.{arguments_of, begin_of, Arguments}
+use Rattle.scan.specs.Arguments.Around.{begin_of}
 use Rattle.scan.specs.Arguments.Parting.{Spaces, WordEnds}
-use Rattle.scan.proofs.expansion.Givens.{argument_is}
 use Rattle.scan.proofs.output.Places.{unread, nothing}
 use Rattle.scan.proofs.arguments.Parts.{quote_is}
 use Rattle.line_syntax.specs.declared.lines.ConditionPart.{ConditionPart}
@@ -61,7 +60,3 @@ begins_first es k e = rw e
 pub begins_later : (es : List ℕ) (k : ℕ) → (k ≡ 0 → ⊥) → begin_of es k ≡ get_or es (k - 1) 0
 begins_later es zero h = absurd (h refl)
 begins_later es (suc k) h = let z : suc k - 1 ≡ k = omega arith in ap (λ (i : ℕ). get_or es i 0) (sym z)
-
--- one that is there lies between
-pub argument_from : (l es : List ℕ) (count : ℕ) → Arguments l es count → (k b : ℕ) → k < count → begin_of es k ≡ b → take (get_or es k 0 - b) (drop b l) ≡ get_or (arguments_of l es count) k []
-argument_from l es count a k b h e = sym (argument_is l es count a k h ∙ ap (λ (x : ℕ). take (get_or es k 0 - x) (drop x l)) e)

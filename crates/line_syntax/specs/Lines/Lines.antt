@@ -1,20 +1,35 @@
--- What a line is and what name some bytes are, as the code's answers stand for them. Assumes nothing.
-use Rattle.std.specs.Prelude.{◌≡◌, Bool, List, ℕ, ◌≤◌, length, drop}
-use Rattle.rules.specs.Names as names
-use Rattle.rules.specs.Names.{name_of}
+-- What a line is and what name an argument is, as the code's answers stand for them. Assumes nothing.
+use Rattle.std.specs.Prelude.{◌≡◌, refl, Bool, List, ℕ, Option, None, Some, ◌≤◌, length, drop}
+use Rattle.rules.specs.declared.Name.{Name}
+use Rattle.rules.specs.Names.{Named, no_name, one, too_long, name_of}
+use Rattle.rules.specs.Refusals.{Judged, value, bad}
 use Rattle.rules.specs.Arguments.{first_word}
 use Rattle.rules.specs.State as state
 use Rattle.rules.specs.Lines.{line_of, named_line}
-use Rattle.line_syntax.specs.declared.lines.Named.{Named}
-use Rattle.line_syntax.specs.declared.lines.Named.TheVariants.{Nothing, One, TooLong}
 use Rattle.line_syntax.specs.declared.lines.Line.{Line}
 use Rattle.line_syntax.specs.declared.lines.Line.TheVariants.{Text, Control, Ignored}
 
--- the rules' name of an answer
-abbrev pub named_is : Named → names.Named
-named_is Nothing = names.no_name
-named_is (One n) = names.one n
-named_is TooLong = names.too_long
+-- the name that an argument is, if it is there: "7: a name argument longer than two bytes"
+abbrev pub name_judged : Named → Judged (Option Name)
+name_judged no_name = value None
+name_judged (one n) = value (Some n)
+name_judged too_long = bad 7
+
+-- An answer tells what the name is that it judges.
+pub one_judged : (n : Name) (m : Named) → value (Some n) ≡ name_judged m → one n ≡ m
+one_judged n no_name e = cc
+one_judged n (one k) e = cc
+one_judged n too_long e = cc
+
+pub none_judged : (m : Named) → value None ≡ name_judged m → no_name ≡ m
+none_judged no_name e = refl
+none_judged (one k) e = cc
+none_judged too_long e = cc
+
+pub long_judged : (k : ℕ) (m : Named) → bad k ≡ name_judged m → (too_long ≡ m) × (k ≡ 7)
+long_judged k no_name e = cc
+long_judged k (one n) e = cc
+long_judged k too_long e = (refl, cc)
 
 -- the rules' line of an answer: what follows a name begins at a place of the line
 abbrev pub line_is : List ℕ → Line → state.Line

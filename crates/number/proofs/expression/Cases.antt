@@ -1,4 +1,5 @@
 -- The cases of the rules' expression and term, at a place of a text. Assumes nothing.
+use Rattle.std.specs.Prelude.{Ok, Err, Some, None}
 use mathlib.Core.Path.{◌≡◌, refl, sym, ap, ◌∙◌}
 use mathlib.Core.Bool.{Bool, true, false}
 use mathlib.Core.List.{List, [], ◌∷◌}
@@ -18,12 +19,11 @@ use Rattle.rules.specs.Numbers.{operate, joint_of, is_digit, Start, literal, ope
 use Rattle.rules.specs.Numbers as rules
 use Rattle.rules.proofs.Laws.Numbers.{start_digit, start_other, start_none, term_bounded}
 use Rattle.rules.specs.declared.Operator.{Operator}
-use Rattle.number.specs.Expression.Reading.{joint_in, GoodJoint, read_of, Forward, literal_term}
+use Rattle.rules.specs.declared.Refusal.{Refusal}
+use Rattle.rules.specs.declared.Refusal.TheVariants.{BadNumber}
+use Rattle.rules.specs.Results.{refusal_number}
+use Rattle.number.specs.Expression.Reading.{Joint, joint_in, GoodJoint, Read, read_of, Forward, literal_term}
 use Rattle.number.specs.Expression.Meaning.{expression_from, TermIs, ExpressionIs}
-use Rattle.number.specs.declared.expression.Read.{Read}
-use Rattle.number.specs.declared.expression.Read.TheVariants.{Value, Refused}
-use Rattle.number.specs.declared.expression.Joint.{Joint}
-use Rattle.number.specs.declared.expression.Joint.TheVariants.{By, None}
 use Rattle.number.proofs.expression.Places.{unread}
 
 pub record JointIs (s : List ℕ) (i : ℕ) (j : Joint) : Type 0 where
@@ -32,7 +32,7 @@ pub record JointIs (s : List ℕ) (i : ℕ) (j : Joint) : Type 0 where
 
 -- what the rules give from i on, after v, is what they give from the start
 pub record From (p : Pitch) (d : Scale) (s : List ℕ) (at left : ℕ) (v : ℤ) (i : ℕ) : Type 0 where
-  pub good : Forward (length s) at (Value v i)
+  pub good : Forward (length s) at (Ok (v, i))
   pub is : (n : ℕ) → length s < n + at → (m : ℕ) × (length s < m + i) × (expression_from p d n left (drop at s) ≡ onward p d m left v (joint_of (drop i s)))
 
 module _ {p : Pitch} {d : Scale} {s : List ℕ} where
@@ -49,24 +49,21 @@ module _ {p : Pitch} {d : Scale} {s : List ℕ} where
       go (suc m) k = h m k
 
   module _ {at left : ℕ} where
-    pub cut_first : TermIs p d s at left Refused → ExpressionIs p d s at left Refused
-    cut_first e = made tt (λ n h. rw (← e.is n h))
-
-    pub start : {v : ℤ} {next : ℕ} → TermIs p d s at left (Value v next) → From p d s at left v next
+    pub start : {v : ℤ} {next : ℕ} → TermIs p d s at left (Ok (v, next)) → From p d s at left v next
     start e = record { good = e.good; is = λ n h. (n, omega (arith, e.good), rw (← e.is n h)) }
 
     module _ {v : ℤ} {i : ℕ} (f : From p d s at left v i) where
-      pub done : JointIs s i None → ExpressionIs p d s at left (Value v i)
+      pub done : JointIs s i None → ExpressionIs p d s at left (Ok (v, i))
       unfolding term
       done o = ended f f.good (λ m k. rw (← o.is))
 
-      module _ {op : Operator} {w : ℕ} (o : JointIs s i (By op w)) where
-        pub cut : TermIs p d s (i + w) left Refused → ExpressionIs p d s at left Refused
+      module _ {op : Operator} {w : ℕ} (o : JointIs s i (Some (op, w))) where
+        pub cut : {r : Refusal} → TermIs p d s (i + w) left (Err r) → ExpressionIs p d s at left (Err r)
         unfolding term
         cut e = ended f tt (λ m k. rw (← o.is, ← e.is m (omega (arith, o.good))))
 
-        module _ {x : ℤ} {next : ℕ} (e : TermIs p d s (i + w) left (Value x next)) where
-          pub refused : bad 6 ≡ operate op v x → ExpressionIs p d s at left Refused
+        module _ {x : ℤ} {next : ℕ} (e : TermIs p d s (i + w) left (Ok (x, next))) where
+          pub refused : {r : Refusal} → bad (refusal_number r) ≡ operate op v x → ExpressionIs p d s at left (Err r)
           unfolding term
           refused b = ended f tt (λ m k. rw (← o.is, ← e.is m (omega (arith, o.good)), ← b))
 
@@ -148,11 +145,11 @@ module _ {p : Pitch} {d : Scale} where
     plain f g k e w = named w (λ n i. e ∙ sym (plain_start p d left s at f g k n))
 
     module _ (k : at < length s) where
-      pub minus_cut : get_or s at 0 ≡ 45 → TermIs p d s (at + 1) left Refused → TermIs p d s at left Refused
+      pub minus_cut : get_or s at 0 ≡ 45 → {r : Refusal} → TermIs p d s (at + 1) left (Err r) → TermIs p d s at left (Err r)
       unfolding term
       minus_cut b e = named tt (λ n i. rw (starts_minus s at k b, ← e.is n (omega arith)))
 
-      pub minus_is : get_or s at 0 ≡ 45 → {v : ℤ} {next : ℕ} → TermIs p d s (at + 1) left (Value v next) → TermIs p d s at left (Value (neg_ℤ v) next)
+      pub minus_is : get_or s at 0 ≡ 45 → {v : ℤ} {next : ℕ} → TermIs p d s (at + 1) left (Ok (v, next)) → TermIs p d s at left (Ok (neg_ℤ v, next))
       unfolding term
       minus_is b e = named (omega (arith, e.good), e.good.1) (λ n i. rw (starts_minus s at k b, ← e.is n (omega arith)))
 
@@ -161,26 +158,26 @@ module _ {p : Pitch} {d : Scale} where
       plus_is b {r} e = named (looser r e.good) (λ n i. e.is n (omega arith) ∙ rw (starts_plus s at k b))
         where
           looser : (r : Read) → Forward (length s) (at + 1) r → Forward (length s) at r
-          looser (Value v next) g = (omega (arith, g), g.1)
+          looser (Ok (v, next)) g = (omega (arith, g), g.1)
           looser Refused g = tt
 
-      pub deep : get_or s at 0 ≡ 40 → left ≡ 0 → TermIs p d s at left Refused
+      pub deep : get_or s at 0 ≡ 40 → left ≡ 0 → TermIs p d s at left (Err BadNumber)
       unfolding term
       deep b z = named tt (λ n i. rw (starts_opens s at k b, z))
 
       module _ (b : get_or s at 0 ≡ 40) {fewer : ℕ} (z : left ≡ suc fewer) where
-        pub inner : ExpressionIs p d s (at + 1) fewer Refused → TermIs p d s at left Refused
+        pub inner : {r : Refusal} → ExpressionIs p d s (at + 1) fewer (Err r) → TermIs p d s at left (Err r)
         unfolding term
         inner e = named tt (λ n i. rw (starts_opens s at k b, z, ← e.is n (omega arith)))
 
-        pub shut : {v : ℤ} {next : ℕ} → ExpressionIs p d s (at + 1) fewer (Value v next) → get_or s next 0 ≡ 41 → next < length s → TermIs p d s at left (Value v (next + 1))
+        pub shut : {v : ℤ} {next : ℕ} → ExpressionIs p d s (at + 1) fewer (Ok (v, next)) → get_or s next 0 ≡ 41 → next < length s → TermIs p d s at left (Ok (v, next + 1))
         unfolding term
         shut {v} {next} e f l = named (omega (arith, e.good), omega arith) (λ n i. rw (starts_opens s at k b, z, ← e.is n (omega arith), shuts s v next l f))
 
-        pub unshut : {v : ℤ} {next : ℕ} → ExpressionIs p d s (at + 1) fewer (Value v next) → (get_or s next 0 ≡ 41 → ⊥) → TermIs p d s at left Refused
+        pub unshut : {v : ℤ} {next : ℕ} → ExpressionIs p d s (at + 1) fewer (Ok (v, next)) → (get_or s next 0 ≡ 41 → ⊥) → TermIs p d s at left (Err BadNumber)
         unfolding term
         unshut {v} {next} e f = named tt (λ n i. rw (starts_opens s at k b, z, ← e.is n (omega arith), shuts_not s v next f))
 
   -- a term's value is within ±1,000,000,000
-  pub small : {s : List ℕ} {at left : ℕ} {v : ℤ} {next : ℕ} → TermIs p d s at left (Value v next) → nat_abs v ≤ 1000000000
+  pub small : {s : List ℕ} {at left : ℕ} {v : ℤ} {next : ℕ} → TermIs p d s at left (Ok (v, next)) → nat_abs v ≤ 1000000000
   small {s} {at} {left} e = of_value (term_bounded p d (suc (length s)) left (start_of (drop at s))) (sym (e.is (suc (length s)) (omega arith)))

@@ -1,30 +1,31 @@
 -- The rules' literal at a place, by what the readers of digits and scale give. Assumes nothing.
+use Rattle.std.specs.Prelude.{Option, Some, None, Result, Ok, Err}
 use mathlib.Core.Path.{◌≡◌, refl, sym, ap, ◌∙◌, subst}
 use mathlib.Core.Bool.{Bool, true, false, cond, false≢true}
 use mathlib.Core.List.{List, [], ◌∷◌}
-use Prim.Native.Nat.{ℕ, zero, suc, ◌+◌, ◌-◌, ◌≤◌, ◌<◌}
+use Prim.Native.Nat.{ℕ, zero, suc, ◌+◌, ◌-◌, ◌≤◌, ◌<◌, ◌^◌}
+use native.Mathlib.Nat.{mul-le-mul}
 use native.Mathlib.Omega.{arith}
 use lib.Dec.{leb, ltb}
 use lib.ListN.{length, get_or, drop, length-drop, drop_of_length-le, get_or-eq_default}
 use lib.Seq.{drop-drop, get_or-drop}
-use lib.IntN.{pos}
+use lib.IntN.{ℤ, pos}
 use borrow.Author.Tests.{leb-true, leb-false, lt-leb, ltb-true, ltb-false}
 use Rattle.measure.specs.declared.Pitch.{Pitch}
 use Rattle.measure.specs.declared.Scale.{Scale}
-use Rattle.measure.specs.declared.MaybeScale.{MaybeScale}
-use Rattle.measure.specs.declared.MaybeScale.TheVariants.{Some, None}
+use Rattle.measure.specs.declared.Scale.TheVariants.{Inch, Centimetre, Pica, Em, En, Point, Unit, LineSpace}
 use Rattle.measure.specs.Pitches.{Sized}
 use Rattle.measure.specs.Scales.{scale_of, literal_of}
 use Rattle.measure.specs.ScaleLaws.{at_least}
 use Rattle.rules.specs.Bytes.{byte, first_where}
 use Rattle.rules.specs.Laws.Tables.{entry_each}
-use Rattle.rules.specs.Refusals.{value, bad, judge, ◌>>=◌}
-use Rattle.rules.specs.Numbers.{is_digit, digits, scaled, scaled_or, scaled_by, literal_at, opens, plus, minus, no_term, start_by, start_of}
+use Rattle.rules.specs.Refusals.{value, bad}
+use Rattle.rules.specs.Numbers.{within, is_digit, digits, scaled, scaled_or, scaled_by, literal_at, opens, plus, minus, no_term, start_by, start_of}
 use Rattle.rules.proofs.Laws.Numbers.{digits_short, digits_shorter, digits_rest, digits_stop, start_digit, start_other, start_none}
-use Rattle.number.specs.Expression.Reading.{digits_of, bounded_of, read_of, Forward, literal_term}
-use Rattle.number.specs.declared.expression.Read.{Read}
-use Rattle.number.specs.declared.expression.Read.TheVariants.{Value, Refused}
-use Rattle.number.specs.declared.expression.Digits.TheVariants.{Number, Huge}
+use Rattle.rules.specs.declared.Refusal.{Refusal}
+use Rattle.rules.specs.declared.Refusal.TheVariants.{BadNumber}
+use Rattle.rules.specs.Results.{refusal_number}
+use Rattle.number.specs.Expression.Reading.{digits_of, literal_term}
 use Rattle.number.proofs.expression.Places.{unread}
 
 -- what the digits' reader gave: the number, and the bytes after it
@@ -34,14 +35,25 @@ pub record Found (s : List ℕ) (at n next : ℕ) : Type 0 where
   pub low : at ≤ next
   pub high : next ≤ length s
 
-pub found : (s : List ℕ) (at n next : ℕ) → at ≤ length s → digits_of s at ≡ Number n next → Found s at n next
+-- what a reader of digits answers, by whether they spell a number that is small enough
+abbrev spelt : List ℕ → ℕ × List ℕ → Bool → Result (ℕ × ℕ) Refusal
+spelt s d t = cond {A = Result (ℕ × ℕ) Refusal} t (Ok (d.0, length s - length d.1)) (Err BadNumber)
+
+-- a literal that a scale behind its digits ends, or the default one
+pub record Scaled (s : List ℕ) (at : ℕ) (p : Pitch) (d : Scale) (n : ℕ) (c : Scale) (k : ℕ) : Type 0 where
+  pub is : literal_term p d (start_of (drop at s)) ≡ scaled p c n (drop k s)
+  pub low : at < k
+  pub high : k ≤ length s
+
+pub found : (s : List ℕ) (at n next : ℕ) → at ≤ length s → digits_of s at ≡ Ok (n, next) → Found s at n next
 found s at n next h = go (leb (digits 0 (drop at s)).0 1000000000) refl
   where
     go : (t : Bool) → leb (digits 0 (drop at s)).0 1000000000 ≡ t
-        → cond t (Number (digits 0 (drop at s)).0 (length s - length (digits 0 (drop at s)).1)) Huge ≡ Number n next → Found s at n next
+        → spelt s (digits 0 (drop at s)) t ≡ Ok (n, next) → Found s at n next
     go true f e =
-        let p : (digits 0 (drop at s)).0 ≡ n = cc in
-        let q : length s - length (digits 0 (drop at s)).1 ≡ next = cc in
+        let o : ◌≡◌ {A = ℕ × ℕ} ((digits 0 (drop at s)).0, length s - length (digits 0 (drop at s)).1) (n, next) = cc in
+        let p : (digits 0 (drop at s)).0 ≡ n = ap (λ x. x.0) o in
+        let q : length s - length (digits 0 (drop at s)).1 ≡ next = ap (λ x. x.1) o in
         let k = digits_short 0 (drop at s) in
         let j = length-drop at s in
         let w : at + (length (drop at s) - length (digits 0 (drop at s)).1) ≡ next = omega arith in
@@ -76,7 +88,7 @@ module _ (p : Pitch) (d : Scale) where
     scaled_big : (c : Scale) (n : ℕ) (l : List ℕ) → 1000000000 < n → scaled p c n l ≡ bad 6
     scaled_big c n l h = rw (lt-leb (literal_of p c n) 1000000000 (omega (arith, at_least p z.cell z.row c n)))
 
-    or_big : (m : MaybeScale) (n b : ℕ) (l : List ℕ) → 1000000000 < n → scaled_or p m d n b l ≡ bad 6
+    or_big : (m : Option Scale) (n b : ℕ) (l : List ℕ) → 1000000000 < n → scaled_or p m d n b l ≡ bad 6
     or_big (Some c) n b l h = scaled_big c n l h
     or_big None n b l h = scaled_big d n (b ∷ l) h
 
@@ -116,20 +128,22 @@ read_none s at n next f e = go (ltb at (length s)) refl
 
 module _ (s : List ℕ) (at : ℕ) (p : Pitch) (d : Scale) where
   -- the answers of the reader of literals
-  pub is_huge : Sized p → digits_of s at ≡ Huge → bad 6 ≡ literal_term p d (start_of (drop at s))
+  pub is_huge : Sized p → {r : Refusal} → digits_of s at ≡ Err r → bad (refusal_number r) ≡ literal_term p d (start_of (drop at s))
   unfolding digits
-  is_huge z = go (is_digit (get_or s at 0)) refl
+  is_huge z {r} = go (is_digit (get_or s at 0)) refl
     where
-      many : (t : Bool) → leb (digits 0 (drop at s)).0 1000000000 ≡ t → cond t (Number (digits 0 (drop at s)).0 (length s - length (digits 0 (drop at s)).1)) Huge ≡ Huge
-          → 1000000000 < (digits 0 (drop at s)).0
+      many : (t : Bool) → leb (digits 0 (drop at s)).0 1000000000 ≡ t → spelt s (digits 0 (drop at s)) t ≡ Err r
+          → (1000000000 < (digits 0 (drop at s)).0) × (BadNumber ≡ r)
       many true f e = let z : ◌≡◌ {A = ℕ} 0 1 = cc in absurd (omega arith)
-      many false f e = leb-false (digits 0 (drop at s)).0 1000000000 f
+      many false f e = (leb-false (digits 0 (drop at s)).0 1000000000 f, cc)
 
-      go : (t : Bool) → is_digit (get_or s at 0) ≡ t → digits_of s at ≡ Huge → bad 6 ≡ literal_term p d (start_of (drop at s))
+      go : (t : Bool) → is_digit (get_or s at 0) ≡ t → digits_of s at ≡ Err r → bad (refusal_number r) ≡ literal_term p d (start_of (drop at s))
       go true e h =
-          sym (is_literal p d s at (inside s at e) e
-          ∙ by_big p d z (digits 0 (drop at s)).0 (digits 0 (drop at s)).1 (many (leb (digits 0 (drop at s)).0 1000000000) refl h))
-      go false e h = sym (not_literal p d s at e)
+          let m = many (leb (digits 0 (drop at s)).0 1000000000) refl h in
+          rw (← m.1) (sym (is_literal p d s at (inside s at e) e ∙ by_big p d z (digits 0 (drop at s)).0 (digits 0 (drop at s)).1 m.0))
+      go false e h =
+          let m = many (leb (digits 0 (drop at s)).0 1000000000) refl h in
+          rw (← m.1) (sym (not_literal p d s at e))
 
   module _ (n next : ℕ) (f : Found s at n next) where
     pub is_empty : next ≡ at → bad 6 ≡ literal_term p d (start_of (drop at s))
@@ -153,27 +167,24 @@ module _ (s : List ℕ) (at : ℕ) (p : Pitch) (d : Scale) where
           let e = digit_there (is_digit (get_or s at 0)) refl in
           is_literal p d s at (inside s at e) e ∙ ap (λ x. scaled_by p d x.0 x.1) f.is
 
-      -- a value judged, before the bytes after it
-      judged : (t : Bool) (u k : ℕ) → read_of s (cond t (Value (pos u) k) Refused) ≡ (judge t 6 (pos u) >>= λ z. value (z, drop k s))
-      judged true u k = refl
-      judged false u k = refl
-
-      pub own_scale : (c : Scale) → scale_of (get_or s next 0) ≡ Some c → next < length s
-          → read_of s (bounded_of (literal_of p c n) (next + 1)) ≡ literal_term p d (start_of (drop at s))
+      pub own_scale : (c : Scale) → scale_of (get_or s next 0) ≡ Some c → next < length s → Scaled s at p d n c (next + 1)
       own_scale c e k =
           let u = unread s next (get_or s next 0) k refl in
-          judged (leb (literal_of p c n) 1000000000) (literal_of p c n) (next + 1)
-          ∙ sym (to_scale ∙ ap (scaled_by p d n) u ∙ ap (λ m. scaled_or p m d n (get_or s next 0) (drop (next + 1) s)) e)
+          record {
+            is = to_scale ∙ ap (scaled_by p d n) u ∙ ap (λ m. scaled_or p m d n (get_or s next 0) (drop (next + 1) s)) e;
+            low = omega (arith, further);
+            high = omega arith;
+          }
 
       default_by : (l : List ℕ) → scale_of (get_or l 0 0) ≡ None → scaled_by p d n l ≡ scaled p d n l
       default_by [] e = refl
       default_by (b ∷ l) e = ap (λ m. scaled_or p m d n b l) e
 
-      pub default_scale : scale_of (get_or s next 0) ≡ None → read_of s (bounded_of (literal_of p d n) next) ≡ literal_term p d (start_of (drop at s))
+      pub default_scale : scale_of (get_or s next 0) ≡ None → Scaled s at p d n d next
       default_scale e =
           let z : next + 0 ≡ next = omega arith in
           let g : get_or (drop next s) 0 0 ≡ get_or s next 0 = get_or-drop next s 0 0 ∙ ap (λ (i : ℕ). get_or s i 0) z in
-          judged (leb (literal_of p d n) 1000000000) (literal_of p d n) next ∙ sym (to_scale ∙ default_by (drop next s) (ap scale_of g ∙ e))
+          record { is = to_scale ∙ default_by (drop next s) (ap scale_of g ∙ e); low = further; high = f.high }
 
 -- a scale's letter is no byte 0
 pub letter : (b : ℕ) (c : Scale) → scale_of b ≡ Some c → 0 < b
@@ -181,9 +192,21 @@ unfolding scale_of
 letter zero c e = let z : ◌≡◌ {A = ℕ} 0 1 = cc in absurd (omega arith)
 letter (suc b) c e = omega arith
 
-pub bounded_forward : (len at u next : ℕ) {r : Read} → r ≡ bounded_of u next → at < next → next ≤ len → Forward len at r
-bounded_forward len at u next e h k = rw e (go (leb u 1000000000))
-  where
-    go : (t : Bool) → Forward len at (cond t (Value (pos u) next) Refused)
-    go true = (h, k)
-    go false = tt
+module _ {s : List ℕ} {at : ℕ} {p : Pitch} {d : Scale} {n : ℕ} {c : Scale} {k : ℕ} (g : Scaled s at p d n c k) where
+  -- a literal's value by its units, judged
+  pub given_value : {v : ℤ} → value v ≡ within (pos (literal_of p c n)) → value (v, drop k s) ≡ literal_term p d (start_of (drop at s))
+  given_value e = rw (g.is, ← e)
+
+  pub refused_value : {m : ℕ} → bad m ≡ within (pos (literal_of p c n)) → bad m ≡ literal_term p d (start_of (drop at s))
+  refused_value e = rw (g.is, ← e)
+
+-- a literal of so few digits fits 64 bits
+pub literal_small : (p : Pitch) (c : Scale) (n : ℕ) → p.cell < 256 → p.row < 256 → n ≤ 1000000000 → literal_of p c n < 2 ^ 63
+literal_small p Inch n h k m = omega arith
+literal_small p Centimetre n h k m = omega arith
+literal_small p Pica n h k m = omega arith
+literal_small p Em n h k m = let q : p.cell ≤ 255 = omega arith in omega (arith, mul-le-mul m q)
+literal_small p En n h k m = let q : p.cell ≤ 255 = omega arith in omega (arith, mul-le-mul m q)
+literal_small p Point n h k m = omega arith
+literal_small p Unit n h k m = omega arith
+literal_small p LineSpace n h k m = let q : p.row ≤ 255 = omega arith in omega (arith, mul-le-mul m q)

@@ -5,8 +5,7 @@ use Rattle.measure.specs.declared.Pitch.{Pitch}
 use Rattle.measure.specs.declared.Scale.{Scale}
 use Rattle.rules.specs.Numbers.{term, onward, start_of, expression_by}
 use Rattle.rules.specs.Numbers as rules
-use Rattle.number.specs.Expression.Reading.{read_of, Forward}
-use Rattle.number.specs.declared.expression.Read.{Read}
+use Rattle.number.specs.Expression.Reading.{Read, read_of, Forward}
 
 -- an expression from a place on, of which `left` parentheses may still be opened
 abbrev pub expression_from : Pitch → Scale → (n left : ℕ) → List ℕ → rules.Read

@@ -1,19 +1,19 @@
 -- Where a move down a page leads, by itself: the rules' `down` and `start_page` are these in a state (LandingLaws). Assumes nothing.
-use Rattle.std.specs.Prelude.{Bool, true, false, List, zero, suc, ◌+◌, ◌-◌, ◌≤◌, ◌<◌, ltb, ℤ, pos, negsuc}
-use Rattle.std.proofs.Math.Option.{Option}
+use Rattle.std.specs.Prelude.{Bool, true, false, List, zero, suc, ◌+◌, ◌-◌, ◌≤◌, ◌<◌, ltb, ℕ, ℤ, pos, negsuc, Option, Some, None, Result, Ok, Err}
 use Rattle.measure.specs.Counts.{down_of}
 use Rattle.measure.specs.declared.Rows.{Rows}
 use Rattle.rules.specs.declared.Name.{Name}
+use Rattle.rules.specs.declared.Refusal.{Refusal}
+use Rattle.rules.specs.Results.{refusal_number}
 use Rattle.rules.specs.declared.Trap.{Trap}
 use Rattle.rules.specs.Settings.{Down}
 use Rattle.rules.specs.Traps.{seen_at, nearest_trap}
 use Rattle.rules.specs.Traps as rule
 use Rattle.rules.specs.Rows.{fewer}
 use Rattle.traps.specs.declared.table.Planted.{Planted}
-use Rattle.traps.specs.Table.Table.{TrapsInvariant, found_is}
+use Rattle.traps.specs.Table.Table.{TrapsInvariant}
 use Rattle.page.specs.declared.position.Page.{Page}
-use Rattle.page.specs.declared.position.Moved.{Moved}
-use Rattle.page.specs.declared.position.Moved.TheVariants.{On, Done, TooMany}
+use Rattle.page.specs.declared.position.Reached.{Reached}
 
 -- the rules' page
 abbrev pub page_of : Page → rule.Page
@@ -25,16 +25,21 @@ pub record PositionInvariant (page : Page) (length : Rows) (planted : Planted) :
   pub short : down_of length ≤ 500
   pub few : TrapsInvariant planted
 
--- a row of a page with the name of the trap seen there, the end, or refusal 12
+-- a row of a page with the name of the trap seen there, the end, or a refusal
 pub data Landing : Type 0 where
   on : rule.Page → Option Name → Landing
-  pastLast tooMany : Landing
+  pastLast : Landing
+  refused : ℕ → Landing
+
+-- refusal 12
+abbrev pub tooMany : Landing
+tooMany = refused 12
 
 -- what an answer stands for
-abbrev pub landing_is : Moved → Landing
-landing_is (On p f) = on (page_of p) (found_is f)
-landing_is Done = pastLast
-landing_is TooMany = tooMany
+abbrev pub landing_is : Result (Option Reached) Refusal → Landing
+landing_is (Ok (Some r)) = on (page_of r.page) r.trap
+landing_is (Ok None) = pastLast
+landing_is (Err r) = refused (refusal_number r)
 
 -- "past 1,000,000 .. pages"
 abbrev pub next_if : Bool → rule.Page → Down → List Trap → Landing

@@ -9,14 +9,14 @@ use Rattle.rules.specs.State.{State, Item, close, refuse}
 use Rattle.rules.specs.StateSetters.{with_page}
 use Rattle.rules.specs.Rows.{Next, goes, user_text, spring_text, spring, start_if, start_page, end_page, reach, down, rows_below, fewer, blank, skip}
 use Rattle.rules.specs.Laws.Traps.{nearest_above}
-use Rattle.page.specs.Position.Landing.{Landing, on, tooMany, next_if, landing_next, end_if, reach_if, landing_down, rows_to_trap, blanks_of}
+use Rattle.page.specs.Position.Landing.{Landing, on, refused, next_if, landing_next, end_if, reach_if, landing_down, rows_to_trap, blanks_of}
 use Rattle.page.specs.Position.Landing as landing
 
 -- what a landing does to a state: the trap's text goes onto the stack, over what is held
 abbrev pub landed : Landing → (held : List Item) → State → State
 landed (on p n) held s = spring_text (user_text n s.tables.texts) held (with_page p s)
 landed landing.pastLast held s = close done s
-landed tooMany held s = refuse 12 s
+landed (refused n) held s = refuse n s
 
 module _ (held : List Item) (s : State) where
   next_by : (t : Bool) → landed (next_if t s.page s.layout.page s.tables.traps) held s ≡ start_if t held s

@@ -1,5 +1,5 @@
 -- What is held on the input stack while a trap's macro is read. Assumes nothing.
-use Rattle.std.specs.Prelude.{◌≡◌, Bool, true, false, List, [], ◌∷◌, ◌++◌, ℕ, ◌+◌, ◌≤◌, length, replicate}
+use Rattle.std.specs.Prelude.{◌≡◌, Bool, true, false, List, [], ◌∷◌, ◌++◌, ℕ, ◌+◌, ◌≤◌, length, replicate, Option, None, Some}
 use Rattle.rules.specs.Texts.{Text}
 use Rattle.rules.specs.State.{Item}
 use Rattle.input_stack.specs.declared.frames.What.{What}
@@ -7,26 +7,24 @@ use Rattle.input_stack.specs.declared.frames.What.TheVariants as what
 use Rattle.input_stack.specs.declared.stack.Stack.{Stack}
 use Rattle.input_stack.specs.Stack.Frames.{Frame, frame, frame_entry, frames_of, top_entry, StackInvariant}
 use Rattle.input_stack.specs.Stack.Items.{item_by}
-use Rattle.page.specs.declared.springs.Held as declared
-use Rattle.page.specs.declared.springs.Held.TheVariants as held
 
 -- no arguments end anywhere
 abbrev pub no_ends : List ℕ
 no_ends = replicate 9 0
 
 -- the frame that is held, if there is one
-abbrev pub held_frames : declared.Held → (bytes : List ℕ) → List Frame
-held_frames held.Nothing bs = []
-held_frames (held.Item w) bs = frame (frame_entry w (length bs)) bs no_ends ∷ []
+abbrev pub held_frames : Option What → (bytes : List ℕ) → List Frame
+held_frames None bs = []
+held_frames (Some w) bs = frame (frame_entry w (length bs)) bs no_ends ∷ []
 
 -- the item that is held, if there is one
-abbrev pub held_of : List Text → declared.Held → (bytes : List ℕ) → List Item
-held_of ts held.Nothing bs = []
-held_of ts (held.Item w) bs = item_by ts w bs no_ends ∷ []
+abbrev pub held_of : List Text → Option What → (bytes : List ℕ) → List Item
+held_of ts None bs = []
+held_of ts (Some w) bs = item_by ts w bs no_ends ∷ []
 
-abbrev pub held_count : declared.Held → ℕ
-held_count held.Nothing = 0
-held_count (held.Item w) = 1
+abbrev pub held_count : Option What → ℕ
+held_count None = 0
+held_count (Some w) = 1
 
 -- the end is an item too, once it has begun
 abbrev pub last_count : (last : Bool) → ℕ
@@ -54,9 +52,9 @@ PlainItem (what.Acts r) = Unit
 PlainItem (what.Ejects p) = Unit
 
 -- no text is held
-abbrev pub Plain : declared.Held → Type 0
-Plain held.Nothing = Unit
-Plain (held.Item w) = PlainItem w
+abbrev pub Plain : Option What → Type 0
+Plain None = Unit
+Plain (Some w) = PlainItem w
 
 -- how deep a stack may be with this item on top: 16 items, and one that is no text for a moment over them
 abbrev pub limit_by : (text : Bool) → ℕ
@@ -74,7 +72,7 @@ pub record StackReady (s : Stack) (arena ends bytes : List ℕ) : Type 0 where
   pub short : length bytes ≤ 512
 
 -- what is held goes on
-pub record HeldTo (h : declared.Held) (bytes : List ℕ) (s : Stack) (arena ends : List ℕ) (r : Stack) (arena' ends' : List ℕ) : Type 0 where
+pub record HeldTo (h : Option What) (bytes : List ℕ) (s : Stack) (arena ends : List ℕ) (r : Stack) (arena' ends' : List ℕ) : Type 0 where
   pub frames : frames_of r arena' ends' ≡ held_frames h bytes ++ frames_of s arena ends
   pub columns : StackInvariant r arena' ends'
   pub depth : r.depth ≡ held_count h + s.depth

@@ -1,26 +1,18 @@
 -- What a branch on a test tells of what the test stands for. Assumes nothing.
-use mathlib.Core.Path.{◌≡◌, sym, ◌∙◌}
-use mathlib.Core.Bool.{Bool, true, false, not, ◌&&◌}
+use mathlib.Core.Path.{◌≡◌}
+use mathlib.Core.Bool.{true, ◌&&◌}
 use mathlib.Core.List.{List}
 use Prim.Native.Nat.{ℕ, ◌≤◌}
 use native.Mathlib.Omega.{arith}
 use lib.Dec.{leb, eqb}
 use lib.ListN.{take}
-use borrow.Author.Tests.{not-true, not-false, leb-true}
+use borrow.Author.Tests.{leb-true}
 use Rattle.rules.specs.Laws.Refusals.{both}
 use Rattle.texts.specs.Table.Table.{total_length}
 use Rattle.texts.specs.Table.Changes.{room_of}
 use Rattle.texts.specs.Table.Checks.{is_text_table, room_least}
 use Rattle.state.specs.declared.Status.{Status}
 use Rattle.record_checks.specs.Soundness.Checks.{is_opening, are_texts}
-
--- `if !test` was taken
-pub fails : {r b : Bool} → r ≡ b → not r ≡ true → b ≡ false
-fails {r} e h = sym e ∙ not-true r h
-
--- it was left
-pub passes : {r b : Bool} → r ≡ b → not r ≡ false → b ≡ true
-passes {r} e h = sym e ∙ not-false r h
 
 -- a table of texts has at most 64, of at most 8,192 bytes
 pub table_most : (s : ℕ) (ls : List ℕ) (n : ℕ) → is_text_table s ls n ≡ true → (n ≤ 64) × (total_length (take n ls) ≤ 8192)

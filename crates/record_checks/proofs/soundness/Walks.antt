@@ -1,13 +1,14 @@
 -- How the tests of the places in a frame and of the frames on the stack go on. Assumes nothing.
-use mathlib.Core.Path.{◌≡◌, sym, ap, ◌∙◌}
+use mathlib.Core.Path.{◌≡◌, refl, sym, ap, ◌∙◌}
 use mathlib.Core.Bool.{Bool, true, false, ◌&&◌}
 use mathlib.Core.List.{List}
-use Prim.Native.Nat.{ℕ, suc, ◌+◌, ◌-◌, ◌*◌, ◌≤◌, ◌<◌}
+use Prim.Native.Nat.{ℕ, zero, suc, ◌+◌, ◌-◌, ◌*◌, ◌≤◌, ◌<◌}
+use native.Mathlib.Nat.{add-zero}
 use native.Mathlib.Numerals.{add-one}
 use native.Mathlib.Omega.{arith}
 use lib.Dec.{leb}
-use lib.ListN.{length, take, drop, get_or, length-drop, drop_of_length-le}
-use lib.Seq.{drop-cons, length-take-le, get_or-take, get_or-drop}
+use lib.ListN.{length, take, drop, get_or, drop_of_length-le}
+use lib.Seq.{drop-cons, take-take}
 use borrow.Author.Tests.{leb-true, le-leb, lt-leb}
 use Rattle.rules.specs.declared.Name.{Name}
 use Rattle.rules.specs.Laws.Refusals.{both}
@@ -17,17 +18,10 @@ use Rattle.page.specs.Springs.Held.{is_text, limit_by}
 use Rattle.record_checks.specs.Soundness.Checks.{ends_in_order, are_arguments, is_frame, are_frames, is_depth, is_stack}
 
 -- the places in a frame where its arguments end
-abbrev pub given : (ends : List ℕ) → (frame count : ℕ) → List ℕ
-given ps f n = take n (take 9 (drop (f * 13 + 4) ps))
-
-module _ (ps : List ℕ) (frame count : ℕ) (n : length ps ≡ 221) (f : frame < 17) (k : count ≤ 9) where
-  pub given_long : length (given ps frame count) ≡ count
-  given_long =
-      let l : length (take 9 (drop (frame * 13 + 4) ps)) ≡ 9 = length-take-le 9 (drop (frame * 13 + 4) ps) (omega (arith, length-drop (frame * 13 + 4) ps)) in
-      length-take-le count (take 9 (drop (frame * 13 + 4) ps)) (omega arith)
-
-  pub given_at_lem : (i : ℕ) → i < count → get_or (given ps frame count) i 0 ≡ get_or ps (frame * 13 + 4 + i) 0
-  given_at_lem i h = get_or-take count (take 9 (drop (frame * 13 + 4) ps)) i 0 h ∙ get_or-take 9 (drop (frame * 13 + 4) ps) i 0 (omega arith) ∙ get_or-drop (frame * 13 + 4) ps i 0
+pub given_is : (ps : List ℕ) (at count n : ℕ) → n ≡ count → count ≤ 9 → take count (take 9 (drop at ps)) ≡ take (at + n - at) (drop at ps)
+given_is ps at count n e h =
+    let z : at + n - at ≡ count = omega arith in
+    rw z (take-take count 9 (drop at ps) h)
 
 -- the place at i, with the value v
 module _ (from end : ℕ) (l : List ℕ) (i v : ℕ) (h : i < length l) (e : get_or l i 0 ≡ v) where
@@ -50,22 +44,35 @@ pub order_end : (from end : ℕ) (l : List ℕ) (i : ℕ) → length l ≤ i →
 unfolding ends_in_order
 order_end from end l i h = ap (ends_in_order from end) (drop_of_length-le l h)
 
-pub arguments_many : (es : List ℕ) (n size : ℕ) → 9 < n → are_arguments es n size ≡ false
-arguments_many es n size h = rw (lt-leb n 9 h)
-
 pub arguments_few : (es : List ℕ) (n size : ℕ) → n ≤ 9 → are_arguments es n size ≡ ends_in_order 0 size (take n es)
 arguments_few es n size h = rw (le-leb n 9 h)
 
--- the frames below a depth are the one under it, and those below that
-pub frames_step : (ns : List Name) (ps : List ℕ) (i : ℕ) → 0 < i
-    → are_frames ns ps i ≡ (is_frame ns (entry_at ps (i - 1)) (take 9 (drop ((i - 1) * 13 + 4) ps)) && are_frames ns ps (i - 1))
+-- the frames below a depth, and the one at it
+frames_next : (ns : List Name) (ps : List ℕ) (i : ℕ) → are_frames ns ps (i + 1) ≡ (is_frame ns (entry_at ps i) (take 9 (drop (i * 13 + 4) ps)) && are_frames ns ps i)
 unfolding are_frames
-frames_step ns ps i h = let e : i ≡ suc (i - 1) = omega arith in ap (are_frames ns ps) e
+frames_next ns ps i = rw (add-one i)
 
--- there are none below the first
-pub frames_none : (ns : List Name) (ps : List ℕ) (i : ℕ) → i ≡ 0 → are_frames ns ps i ≡ true
+pub frames_by : (ns : List Name) (ps : List ℕ) (i : ℕ) (v : Bool) → v ≡ is_frame ns (entry_at ps i) (take 9 (drop (i * 13 + 4) ps)) → are_frames ns ps i ≡ true → are_frames ns ps (i + 1) ≡ v
+frames_by ns ps i v e h = frames_next ns ps i ∙ (λ j. sym e j && h j) ∙ all v
+  where
+    all : (v : Bool) → (v && true) ≡ v
+    all true = refl
+    all false = refl
+
+-- once a frame fails, no more frames mend it
+pub frames_fail : (ns : List Name) (ps : List ℕ) (i n : ℕ) → are_frames ns ps i ≡ false → are_frames ns ps (i + n) ≡ false
+frames_fail ns ps i zero h = rw add-zero h
+frames_fail ns ps i (suc n) h =
+    let z : i + suc n ≡ i + n + 1 = omega arith in
+    rw z (frames_next ns ps (i + n) ∙ ap (λ (b : Bool). is_frame ns (entry_at ps (i + n)) (take 9 (drop ((i + n) * 13 + 4) ps)) && b) (frames_fail ns ps i n h) ∙ none (is_frame ns (entry_at ps (i + n)) (take 9 (drop ((i + n) * 13 + 4) ps))))
+  where
+    none : (b : Bool) → (b && false) ≡ false
+    none true = refl
+    none false = refl
+
+pub frames_none : (ns : List Name) (ps : List ℕ) → are_frames ns ps 0 ≡ true
 unfolding are_frames
-frames_none ns ps i e = ap (are_frames ns ps) e
+frames_none ns ps = refl
 
 -- a stack of a depth that passes its test has at most 17 frames
 pub depth_most : (s : Stack) (ps : List ℕ) → is_depth s ps ≡ true → s.depth ≤ 17

@@ -1,104 +1,95 @@
 -- How the tests of the traps' rows, of the gathered bytes and of the items on the stack go on. Assumes nothing.
-use mathlib.Core.Path.{◌≡◌, refl, ap, ◌∙◌}
+use mathlib.Core.Path.{◌≡◌, refl, sym, ap, ◌∙◌}
 use mathlib.Core.Bool.{Bool, true, false, not, cond, ◌&&◌, ◌||◌}
-use mathlib.Core.List.{List}
-use Prim.Native.Nat.{ℕ, suc, ◌+◌, ◌-◌, ◌≤◌, ◌<◌}
+use mathlib.Core.List.{List, [], ◌∷◌}
+use Prim.Native.Nat.{ℕ, zero, suc, ◌+◌, ◌≤◌}
+use native.Mathlib.Nat.{add-zero}
+use native.Mathlib.Numerals.{add-one}
 use native.Mathlib.Omega.{arith}
+use Rattle.std.specs.List.{filter, list_all}
 use lib.Dec.{leb, eqb}
-use lib.ListN.{length, take, drop, get_or}
-use borrow.Author.Tests.{leb-true, le-leb, lt-leb, ne_eqb}
+use lib.ListN.{length, take}
+use borrow.Author.Tests.{le-leb, ne_eqb}
 use Rattle.rules.specs.declared.Trap.{Trap}
-use Rattle.rules.specs.Laws.Refusals.{both}
 use Rattle.registers.specs.Checks.Checks as registers
-use Rattle.texts.specs.Table.Table.{names_of, Names}
-use Rattle.texts.specs.Table.Checks as texts
-use Rattle.traps.specs.declared.table.Planted.{Planted}
-use Rattle.traps.specs.Table.TableLaws.{front_next, front_end}
-use Rattle.traps.specs.Table.Checks as traps
 use Rattle.input_stack.specs.declared.stack.Stack.{Stack}
 use Rattle.input_stack.specs.Stack.Frames.{entry_at}
 use Rattle.page.specs.Springs.Held.{is_text}
 use Rattle.record_checks.specs.StateLimits.LimitChecks.{are_places, odd_byte, are_bytes, is_gathered, layered_to, is_layered}
 
--- the trap at i, whose row passed its test with v
-pub places_at : (l : List Trap) (n i : ℕ) (d : Trap) (v : Bool) → i < n → n ≤ length l → registers.in_bounds (get_or l i d).place.0 ≡ v
-    → are_places (drop i (take n l)) ≡ (v && are_places (drop (i + 1) (take n l)))
+-- the rows of the traps, one by one
+pub places_all : (l : List Trap) → are_places l ≡ list_all (λ t. registers.in_bounds t.place.0) l
 unfolding are_places
-places_at l n i d v h k e = ap are_places (front_next l n i d h k) ∙ ap (λ (b : Bool). b && are_places (drop (i + 1) (take n l))) e
+places_all [] = refl
+places_all (t ∷ l) = ap (λ (b : Bool). registers.in_bounds t.place.0 && b) (places_all l)
 
-pub places_end : (l : List Trap) (n i : ℕ) → n ≤ i → are_places (drop i (take n l)) ≡ true
-unfolding are_places
-places_end l n i h = ap are_places (front_end l n i h)
-
-pub odd_most : (b : ℕ) → odd_byte b ≤ 1
-odd_most b = go (leb 32 b && leb b 126)
+-- the bytes pass where none is odd
+pub bytes_none : (l : List ℕ) → are_bytes l ≡ eqb (length (filter odd_byte l)) 0
+unfolding are_bytes
+bytes_none [] = refl
+bytes_none (b ∷ l) = go (leb 32 b) (leb b 126) (bytes_none l)
   where
-    go : (t : Bool) → cond t 0 1 ≤ 1
-    go true = omega arith
-    go false = omega arith
+    go : (s t : Bool) → are_bytes l ≡ eqb (length (filter odd_byte l)) 0 → (s && t && are_bytes l) ≡ eqb (length (cond (not (s && t)) (b ∷ filter odd_byte l) (filter odd_byte l))) 0
+    go true true h = h
+    go true false h = sym (ne_eqb (suc (length (filter odd_byte l))) 0 (λ e. omega arith))
+    go false t h = sym (ne_eqb (suc (length (filter odd_byte l))) 0 (λ e. omega arith))
 
--- the byte at i
-module _ (l : List ℕ) (n i : ℕ) (h : i < n) (k : n ≤ length l) where
-  bytes_at_lem : are_bytes (drop i (take n l)) ≡ (leb 32 (get_or l i 0) && leb (get_or l i 0) 126 && are_bytes (drop (i + 1) (take n l)))
-  unfolding are_bytes
-  bytes_at_lem = ap are_bytes (front_next l n i 0 h k)
+pub gathered_few : (l : List ℕ) (n : ℕ) → n ≤ 512 → is_gathered l n ≡ are_bytes (take n l)
+gathered_few l n h = rw (le-leb n 512 h)
 
-  -- so many odd bytes before it, and with it
-  pub bytes_odd : (o : ℕ) → (eqb o 0 && are_bytes (drop i (take n l))) ≡ (eqb (o + odd_byte (get_or l i 0)) 0 && are_bytes (drop (i + 1) (take n l)))
-  bytes_odd o = ap (λ (v : Bool). eqb o 0 && v) bytes_at_lem ∙ go (leb 32 (get_or l i 0) && leb (get_or l i 0) 126) (are_bytes (drop (i + 1) (take n l)))
+-- what lies over another item: one that is no text lies on a text, or at the bottom
+module _ (ps : List ℕ) where
+  -- whether a text is under a depth, or nothing
+  abbrev pub text_below : ℕ → Bool
+  text_below zero = true
+  text_below (suc d) = is_text (entry_at ps d).what
+
+  layered_held : (i : ℕ) → layered_to true ps i ≡ (text_below i && layered_to false ps i)
+  unfolding layered_to
+  layered_held zero = refl
+  layered_held (suc d) = go (is_text (entry_at ps d).what)
+    where
+      go : (t : Bool) → ((t || false) && layered_to (not t) ps d) ≡ (t && ((t || true) && layered_to (not t) ps d))
+      go true = refl
+      go false = refl
+
+  -- the items below a depth, and the one at it
+  layers_next : (i : ℕ) → layered_to false ps (i + 1) ≡ ((is_text (entry_at ps i).what || text_below i) && layered_to false ps i)
+  unfolding layered_to
+  layers_next i = rw (add-one i) (go (is_text (entry_at ps i).what))
+    where
+      fold : (t : Bool) → (true && layered_to (not t) ps i) ≡ ((t || text_below i) && layered_to false ps i)
+      fold true = refl
+      fold false = layered_held i
+
+      go : (t : Bool) → ((t || true) && layered_to (not t) ps i) ≡ ((t || text_below i) && layered_to false ps i)
+      go true = fold true
+      go false = fold false
+
+  pub layers_by : (i : ℕ) (t b : Bool) → t ≡ is_text (entry_at ps i).what → b ≡ text_below i → layered_to false ps i ≡ true → layered_to false ps (i + 1) ≡ (t || b)
+  layers_by i t b e f h = layers_next i ∙ (λ j. (sym e j || sym f j) && h j) ∙ all (t || b)
+    where
+      all : (v : Bool) → (v && true) ≡ v
+      all true = refl
+      all false = refl
+
+  pub layers_none : layered_to false ps 0 ≡ true
+  unfolding layered_to
+  layers_none = refl
+
+  pub below_next : (i : ℕ) → text_below (i + 1) ≡ is_text (entry_at ps i).what
+  below_next i = rw (add-one i)
+
+  -- once an item does not lie as it may, no more items mend it
+  pub layers_fail : (i n : ℕ) → layered_to false ps i ≡ false → layered_to false ps (i + n) ≡ false
+  layers_fail i zero h = rw add-zero h
+  layers_fail i (suc n) h =
+      let z : i + suc n ≡ i + n + 1 = omega arith in
+      rw z (layers_next (i + n) ∙ ap (λ (b : Bool). (is_text (entry_at ps (i + n)).what || text_below (i + n)) && b) (layers_fail i n h) ∙ none (is_text (entry_at ps (i + n)).what || text_below (i + n)))
     where
       none : (b : Bool) → (b && false) ≡ false
       none true = refl
       none false = refl
 
-      go : (t v : Bool) → (eqb o 0 && (t && v)) ≡ (eqb (o + cond t 0 1) 0 && v)
-      go true v = let e : o + 0 ≡ o = omega arith in rw e refl
-      go false v = none (eqb o 0) ∙ rw (ne_eqb (o + 1) 0 (λ e. omega arith)) refl
-
-pub bytes_end : (l : List ℕ) (n i : ℕ) → n ≤ i → are_bytes (drop i (take n l)) ≡ true
-unfolding are_bytes
-bytes_end l n i h = ap are_bytes (front_end l n i h)
-
--- no byte is left
-pub bytes_all : (b : Bool) (l : List ℕ) (n i : ℕ) → n ≤ i → (b && are_bytes (drop i (take n l))) ≡ b
-bytes_all b l n i h = ap (λ (v : Bool). b && v) (bytes_end l n i h) ∙ go b
-  where
-    go : (b : Bool) → (b && true) ≡ b
-    go true = refl
-    go false = refl
-
-pub gathered_many : (l : List ℕ) (n : ℕ) → 512 < n → is_gathered l n ≡ false
-gathered_many l n h = rw (lt-leb n 512 h)
-
-pub gathered_few : (l : List ℕ) (n : ℕ) → n ≤ 512 → is_gathered l n ≡ are_bytes (take n l)
-gathered_few l n h = rw (le-leb n 512 h)
-
--- the items below a depth are the one under it, and those below that
-pub layers_step : (held : Bool) (ps : List ℕ) (i : ℕ) → 0 < i
-    → layered_to held ps i ≡ ((is_text (entry_at ps (i - 1)).what || not held) && layered_to (not (is_text (entry_at ps (i - 1)).what)) ps (i - 1))
-unfolding layered_to
-layers_step held ps i h = let e : i ≡ suc (i - 1) = omega arith in ap (layered_to held ps) e
-
--- there are none below the first
-pub layers_none : (held : Bool) (ps : List ℕ) (i : ℕ) → i ≡ 0 → layered_to held ps i ≡ true
-unfolding layered_to
-layers_none held ps i e = ap (layered_to held ps) e
-
-pub layered_many : (s : Stack) (ps : List ℕ) → 17 < s.depth → is_layered s ps ≡ false
-layered_many s ps h = rw (lt-leb s.depth 17 h)
-
 pub layered_few : (s : Stack) (ps : List ℕ) → s.depth ≤ 17 → is_layered s ps ≡ layered_to false ps s.depth
 layered_few s ps h = rw (le-leb s.depth 17 h)
-
--- a stack that passes the test has at most 17 items
-pub layered_most : (s : Stack) (ps : List ℕ) → is_layered s ps ≡ true → s.depth ≤ 17
-layered_most s ps h = leb-true s.depth 17 (both (leb s.depth 17) (layered_to false ps s.depth) h).0
-
--- a table of traps that passes its test has at most 16
-pub traps_most : (p : Planted) → traps.is_trap_table p ≡ true → p.count ≤ 16
-traps_most p h = (traps.traps_sound p h).0
-
--- columns of names that pass theirs have at most 64
-pub names_most : (fs ss : List ℕ) (n : ℕ) → texts.NameColumns fs ss → texts.no_name_twice fs ss n ≡ true → Names fs ss n
-names_most fs ss n c h =
-    record { firsts_long = c.firsts_long; seconds_long = c.seconds_long; few = leb-true n 64 (both (leb n 64) (texts.all_distinct (names_of fs ss n)) h).0 }

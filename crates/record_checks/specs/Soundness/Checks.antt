@@ -1,18 +1,15 @@
 -- Whether a lent record keeps to its limits ("1: .. the record breaks a limit below"): one test for each part. Assumes nothing.
-use Rattle.std.specs.Prelude.{◌≡◌, Bool, true, false, ◌&&◌, List, [], ◌∷◌, ℕ, zero, suc, ◌+◌, ◌*◌, leb, ltb, eqb, ℤ, pos, negsuc, length, take, drop}
-use Rattle.std.proofs.Math.Option.{get_or}
+use Rattle.std.specs.Prelude.{◌≡◌, Option, Some, None, Bool, true, false, ◌&&◌, List, [], ◌∷◌, ℕ, zero, suc, ◌+◌, ◌*◌, leb, ltb, eqb, ℤ, pos, negsuc, length, take, drop, unwrap_or}
 use Rattle.measure.specs.declared.Rows.{Rows}
 use Rattle.measure.specs.Counts.{across_of, down_of}
 use Rattle.rules.specs.declared.Name.{Name}
 use Rattle.registers.specs.Checks.Checks as registers
-use Rattle.texts.specs.declared.table.TextPlace.{TextPlace}
-use Rattle.texts.specs.declared.table.TextPlace.TheVariants.{At, Not}
 use Rattle.texts.specs.Table.Places.{text_place}
 use Rattle.texts.specs.Table.Table.{total_length, names_of}
 use Rattle.texts.specs.Table.Checks as texts
 use Rattle.traps.specs.declared.table.Planted.{Planted}
 use Rattle.settings.specs.declared.lengths.Setting.{Setting}
-use Rattle.settings.specs.declared.layout.Total.{Total}
+use Rattle.measure.specs.declared.Cells.{Cells}
 use Rattle.settings.specs.declared.layout.Layout.{Layout}
 use Rattle.settings.specs.Layout.Layouts.{total_of}
 use Rattle.input_stack.specs.declared.frames.What.{What}
@@ -50,8 +47,8 @@ abbrev pub is_length : Rows → Bool
 is_length r = leb 1 (down_of r) && leb (down_of r) 500
 
 -- "the ti total 0 to 239"
-abbrev pub is_total : Total → Bool
-is_total t = leb (get_or (total_of t) 0) 239
+abbrev pub is_total : Option Cells → Bool
+is_total t = leb (unwrap_or (total_of t) 0) 239
 
 -- "ll 1 to 240 cells, in and the ti total 0 to 239, po 0 to 120, pl 1 to 500 rows": the most of each, and the least of pl
 unfoldable pub is_layout : Layout → Bool
@@ -88,9 +85,9 @@ abbrev pub are_arguments : (ends : List ℕ) → (count size : ℕ) → Bool
 are_arguments es n size = leb n 9 && ends_in_order 0 size (take n es)
 
 -- whether a name has a place
-abbrev pub is_at : TextPlace → Bool
-is_at (At i) = true
-is_at Not = false
+abbrev pub is_at : Option ℕ → Bool
+is_at (Some i) = true
+is_at None = false
 
 -- a text that is read is there, with its arguments; "the gap between input lines is 1, or 2"
 unfoldable pub is_item : List Name → What → (size : ℕ) → (ends : List ℕ) → Bool

@@ -1,8 +1,7 @@
 -- A record that passes the tests keeps to the limits of the whole state, and one that keeps to them passes. Assumes nothing.
-use Rattle.std.specs.Prelude.{◌≡◌, refl, Bool, true, false, ◌&&◌, List, ℕ, ◌+◌, ◌≤◌, ◌<◌, ltb, ℤ, pos, negsuc, length, take}
+use Rattle.std.specs.Prelude.{◌≡◌, refl, Bool, true, false, ◌&&◌, List, ℕ, ◌+◌, ◌≤◌, ◌<◌, ltb, ℤ, pos, negsuc, length, take, unwrap_or}
 use Rattle.std.proofs.Common.{ap, ◌∙◌, arith}
 use Rattle.std.proofs.lemmas.Bool.{false≢true}
-use Rattle.std.proofs.Math.Option.{get_or}
 use Rattle.std.proofs.Math.Dec.{leb, eqb}
 use borrow.Author.Tests.{leb-true, le-leb, ltb-true, lt-ltb, eqb-true, eq-eqb}
 use Rattle.measure.specs.declared.Cells.{Cells}
@@ -51,7 +50,7 @@ module _ (y : Layout) where
         offset_former = offset.1;
         page_least = leb-true 1 (down_of y.page) page.0;
         page_most = leb-true (down_of y.page) 500 page.1;
-        total = leb-true (get_or (total_of y.total) 0) 239 t.1;
+        total = leb-true (unwrap_or (total_of y.total) 0) 239 t.1;
       }
 
   layout_complete : LayoutInvariant (layout_of y) → is_layout y ≡ true
@@ -64,7 +63,7 @@ module _ (y : Layout) where
       (and_true a b (setting_complete 240 y.line k.line k.line_former) (setting_complete 239 y.indent k.indent k.indent_former))
       (setting_complete 120 y.offset k.offset k.offset_former))
       (and_true (leb 1 (down_of y.page)) (leb (down_of y.page) 500) (le-leb 1 (down_of y.page) k.page_least) (le-leb (down_of y.page) 500 k.page_most)))
-      (le-leb (get_or (total_of y.total) 0) 239 k.total)
+      (le-leb (unwrap_or (total_of y.total) 0) 239 k.total)
 
 module _ (g : Page) (r : Rows) where
   page_sound : is_page g r ≡ true → (down_of g.used < down_of r) × (g.number ≤ 1000000)

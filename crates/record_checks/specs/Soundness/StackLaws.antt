@@ -1,5 +1,5 @@
 -- The tests of the input stack hold exactly where its limits do. Assumes nothing.
-use Rattle.std.specs.Prelude.{◌≡◌, Bool, true, false, ◌&&◌, List, [], ◌∷◌, leb, eqb, length, take, drop, get_or}
+use Rattle.std.specs.Prelude.{◌≡◌, Option, Some, None, Bool, true, false, ◌&&◌, List, [], ◌∷◌, leb, eqb, length, take, drop, get_or}
 use Rattle.std.proofs.Math.Path.{refl}
 use Rattle.std.proofs.Common.{sym, ap, ◌∙◌, subst, arith, length-drop, length-take-le, get_or-take}
 use Rattle.std.proofs.lemmas.Bool.{false≢true}
@@ -8,8 +8,6 @@ use borrow.Author.Tests.{leb-true, le-leb, eqb-true, eqb-false}
 use Rattle.rules.specs.declared.Name.{Name}
 use Rattle.rules.specs.Laws.Refusals.{both}
 use Rattle.rules.specs.Texts.{Text}
-use Rattle.texts.specs.declared.table.TextPlace.{TextPlace}
-use Rattle.texts.specs.declared.table.TextPlace.TheVariants.{At, Not}
 use Rattle.texts.specs.Table.Places.{text_place}
 use Rattle.texts.specs.Table.Table.{names_of, texts_of, TextsInvariant}
 use Rattle.texts.proofs.table.Laws.{found_text, not_text}
@@ -94,17 +92,17 @@ module _ (st fs ss ks ls : List ℕ) (n : ℕ) (lies : TextsInvariant st fs ss k
   there_sound : (m : Name) → is_at (text_place m (names_of fs ss n)) ≡ true → There m (texts_of st fs ss ks ls n)
   there_sound m h = go (text_place m (names_of fs ss n)) refl h
     where
-      go : (p : TextPlace) → text_place m (names_of fs ss n) ≡ p → is_at p ≡ true → There m (texts_of st fs ss ks ls n)
-      go (At i) e h = (_, found_text st fs ss ks ls n lies m i e)
-      go Not e h = absurd (false≢true h)
+      go : (p : Option ℕ) → text_place m (names_of fs ss n) ≡ p → is_at p ≡ true → There m (texts_of st fs ss ks ls n)
+      go (Some i) e h = (_, found_text st fs ss ks ls n lies m i e)
+      go None e h = absurd (false≢true h)
 
   -- A name that has a text has a place.
   there_complete : (m : Name) → There m (texts_of st fs ss ks ls n) → is_at (text_place m (names_of fs ss n)) ≡ true
   there_complete m t = go (text_place m (names_of fs ss n)) refl
     where
-      go : (p : TextPlace) → text_place m (names_of fs ss n) ≡ p → is_at p ≡ true
-      go (At i) e = refl
-      go Not e = let x = not_text st fs ss ks ls n lies m e in let y = t.1 in let z : ◌≡◌ {A = ℕ} 0 1 = cc in absurd (omega arith)
+      go : (p : Option ℕ) → text_place m (names_of fs ss n) ≡ p → is_at p ≡ true
+      go (Some i) e = refl
+      go None e = let x = not_text st fs ss ks ls n lies m e in let y = t.1 in let z : ◌≡◌ {A = ℕ} 0 1 = cc in absurd (omega arith)
 
   abbrev texts : List Text
   texts = texts_of st fs ss ks ls n

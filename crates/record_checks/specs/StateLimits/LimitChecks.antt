@@ -1,5 +1,5 @@
 -- Whether a lent record keeps to the other limits, those that every state of the rules keeps to: one test for each. Assumes nothing.
-use Rattle.std.specs.Prelude.{Bool, true, false, not, ◌&&◌, ◌||◌, cond, List, [], ◌∷◌, ℕ, zero, suc, ◌+◌, leb, eqb, ℤ, take}
+use Rattle.std.specs.Prelude.{Bool, true, false, not, ◌&&◌, ◌||◌, List, [], ◌∷◌, ℕ, zero, suc, ◌+◌, leb, eqb, ℤ, take}
 use Rattle.measure.specs.Counts.{across_of}
 use Rattle.rules.specs.declared.Name.{Name}
 use Rattle.rules.specs.declared.Trap.{Trap}
@@ -52,9 +52,9 @@ unfoldable pub are_bytes : List ℕ → Bool
 are_bytes [] = true
 are_bytes (b ∷ l) = leb 32 b && leb b 126 && are_bytes l
 
--- how many of one byte are no such byte
-abbrev pub odd_byte : ℕ → ℕ
-odd_byte b = cond (leb 32 b && leb b 126) 0 1
+-- no such byte
+abbrev pub odd_byte : ℕ → Bool
+odd_byte b = not (leb 32 b && leb b 126)
 
 -- "a source line .. passes 512 bytes": no more are gathered
 abbrev pub is_gathered : (gathered : List ℕ) → (length : ℕ) → Bool

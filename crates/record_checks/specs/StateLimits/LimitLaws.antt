@@ -1,10 +1,9 @@
 -- A record that passes the tests keeps to the limits of the rules' states, and one that keeps to them passes. Assumes nothing.
-use Rattle.std.specs.Prelude.{◌≡◌, Bool, true, ◌&&◌, ◌||◌, List, [], ◌∷◌, leb, eqb, ℤ, nat_abs, take, drop}
+use Rattle.std.specs.Prelude.{◌≡◌, Bool, true, ◌&&◌, ◌||◌, List, [], ◌∷◌, leb, eqb, ℤ, nat_abs, take, drop, Option, None, Some}
 use Rattle.std.proofs.Math.Path.{refl, subst}
 use Rattle.std.proofs.Common.{sym, ap, ◌∙◌, arith, leb-true, le-leb, eqb-true}
 use Rattle.std.proofs.Math.Bool.{false, not}
 use Rattle.std.proofs.lemmas.Bool.{false≢true, eqb-false}
-use Rattle.std.proofs.Math.Option.{Option, none, some}
 use Prim.Native.Nat.{ℕ, zero, suc, ◌+◌, ◌*◌, ◌≤◌, ◌<◌}
 use Rattle.stream.specs.Answers.{Closing}
 use Rattle.measure.specs.Counts.{across_of}
@@ -19,8 +18,6 @@ use Rattle.rules.specs.Laws.Texts.{Distinct}
 use Rattle.rules.specs.Rows.{the_end}
 use Rattle.rules.specs.State.{Item, Definition, State, close}
 use Rattle.registers.specs.Checks.Checks as registers
-use Rattle.texts.specs.declared.table.TextPlace.{TextPlace}
-use Rattle.texts.specs.declared.table.TextPlace.TheVariants.{At, Not}
 use Rattle.texts.specs.Table.Places.{text_place}
 use Rattle.texts.specs.Table.Table.{names_of, texts_of, TextsInvariant}
 use Rattle.texts.specs.Table.Checks as texts
@@ -48,7 +45,7 @@ use Rattle.record_checks.specs.StateLimits.LimitChecks.{are_places, is_gone, are
 
 -- what an open definition asks of the stack while the session runs
 abbrev pub OpenedWhile : (running : Bool) → Option Definition → List Item → Type 0
-OpenedWhile true o k = OpenOver o none k
+OpenedWhile true o k = OpenOver o None k
 OpenedWhile false o k = Unit
 
 -- THE LIMITS of a state of the rules (`limits`, Within), but for that of the closing answer
@@ -120,19 +117,19 @@ settings_complete y r n = and_true (is_ranged y.line) (leb y.centred 1000000000)
 
 -- the name of an open definition
 module _ (st fs ss ks ls : List ℕ) (n : ℕ) (lies : TextsInvariant st fs ss ks ls n) where
-  lost_sound : (m : Name) → not (is_at (text_place m (names_of fs ss n))) ≡ true → text_of m (texts_of st fs ss ks ls n) ≡ none
+  lost_sound : (m : Name) → not (is_at (text_place m (names_of fs ss n))) ≡ true → text_of m (texts_of st fs ss ks ls n) ≡ None
   lost_sound m h = go (text_place m (names_of fs ss n)) refl h
     where
-      go : (p : TextPlace) → text_place m (names_of fs ss n) ≡ p → not (is_at p) ≡ true → text_of m (texts_of st fs ss ks ls n) ≡ none
-      go (At i) e h = absurd (false≢true h)
-      go Not e h = not_text st fs ss ks ls n lies m e
+      go : (p : Option ℕ) → text_place m (names_of fs ss n) ≡ p → not (is_at p) ≡ true → text_of m (texts_of st fs ss ks ls n) ≡ None
+      go (Some i) e h = absurd (false≢true h)
+      go None e h = not_text st fs ss ks ls n lies m e
 
-  lost_complete : (m : Name) → text_of m (texts_of st fs ss ks ls n) ≡ none → not (is_at (text_place m (names_of fs ss n))) ≡ true
+  lost_complete : (m : Name) → text_of m (texts_of st fs ss ks ls n) ≡ None → not (is_at (text_place m (names_of fs ss n))) ≡ true
   lost_complete m h = go (text_place m (names_of fs ss n)) refl
     where
-      go : (p : TextPlace) → text_place m (names_of fs ss n) ≡ p → not (is_at p) ≡ true
-      go (At i) e = let x = found_text st fs ss ks ls n lies m i e in let z : ◌≡◌ {A = ℕ} 0 1 = cc in absurd (omega arith)
-      go Not e = refl
+      go : (p : Option ℕ) → text_place m (names_of fs ss n) ≡ p → not (is_at p) ≡ true
+      go (Some i) e = let x = found_text st fs ss ks ls n lies m i e in let z : ◌≡◌ {A = ℕ} 0 1 = cc in absurd (omega arith)
+      go None e = refl
 
   gone_sound : (t : Bool) (o : Opening) → is_gone t o.name (names_of fs ss n) ≡ true → Gone (opened_if t o (text_columns st fs ss ks ls n)) (texts_of st fs ss ks ls n)
   gone_sound true o h = lost_sound o.name h
@@ -386,7 +383,7 @@ module _ (s : Status) (cs bs ps st tf ts ks ls fs ss : List ℕ) (vs us : List �
       (opened_complete z s.stack bs ps running s.opening.there s.opening (text_columns st tf ts ks ls s.texts) k.opened))
 
 -- A state that is not closed keeps to the limits of the rules exactly if it keeps to these, while the session runs.
-pub open_within : (s : State) → s.closing ≡ none → LimitsKept true s → Within s
+pub open_within : (s : State) → s.closing ≡ None → LimitsKept true s → Within s
 open_within s e k = record {
   registers = k.registers;
   traps = k.traps;
@@ -402,7 +399,7 @@ open_within s e k = record {
   closing = subst (λ (c : Option Closing). Answered c s.input.line) (sym e) tt;
 }
 
-pub open_limits_kept : (s : State) → s.closing ≡ none → Within s → LimitsKept true s
+pub open_limits_kept : (s : State) → s.closing ≡ None → Within s → LimitsKept true s
 open_limits_kept s e w = record {
   registers = w.registers;
   traps = w.traps;
@@ -417,12 +414,12 @@ open_limits_kept s e w = record {
   opened = subst (λ (c : Option Closing). OpenOver s.tables.opened c s.input.stack) e w.opened;
 }
 
-closed_over : (o : Option Definition) (a : Closing) (k : List Item) → OpenOver o (some a) k
-closed_over none a k = tt
-closed_over (some d) a k = tt
+closed_over : (o : Option Definition) (a : Closing) (k : List Item) → OpenOver o (Some a) k
+closed_over None a k = tt
+closed_over (Some d) a k = tt
 
 -- A state that was closed by an answer keeps to them exactly if it keeps to these, once it runs no more, and the answer is one of its line.
-pub closed_within : (a : Closing) (s : State) → LimitsKept false s → Answered (some a) s.input.line → Within (close a s)
+pub closed_within : (a : Closing) (s : State) → LimitsKept false s → Answered (Some a) s.input.line → Within (close a s)
 closed_within a s k b = record {
   registers = k.registers;
   traps = k.traps;
@@ -438,7 +435,7 @@ closed_within a s k b = record {
   closing = b;
 }
 
-pub closed_kept : (a : Closing) (s : State) → Within (close a s) → LimitsKept false s × Answered (some a) s.input.line
+pub closed_kept : (a : Closing) (s : State) → Within (close a s) → LimitsKept false s × Answered (Some a) s.input.line
 closed_kept a s w = (
   record {
     registers = w.registers;

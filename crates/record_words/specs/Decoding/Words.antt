@@ -1,5 +1,5 @@
 -- The parts of a record that are no arrays, as 68 plain words: which words a part is written as, and which part any words are read as. Assumes nothing.
-use Rattle.std.specs.Prelude.{◌≡◌, Bool, true, false, cond, List, [], ◌∷◌, ◌++◌, ℕ, zero, suc, ◌+◌, ◌*◌, ◌/◌, ◌%◌, ◌<◌, ◌≤◌, min, eqb, length, get_or, ℤ, pos, negsuc}
+use Rattle.std.specs.Prelude.{◌≡◌, Option, Some, None, Bool, true, false, cond, List, [], ◌∷◌, ◌++◌, ℕ, zero, suc, ◌+◌, ◌*◌, ◌/◌, ◌%◌, ◌<◌, ◌≤◌, min, eqb, length, get_or, ℤ, pos, negsuc}
 use Rattle.measure.specs.declared.Cells.{Cells}
 use Rattle.measure.specs.declared.Rows.{Rows}
 use Rattle.measure.specs.Counts.{nat_of, across_of, cells_across}
@@ -7,8 +7,6 @@ use Rattle.rules.specs.declared.Name.{Name}
 use Rattle.rules.specs.declared.Trap.{Trap}
 use Rattle.settings.specs.declared.lengths.Setting.{Setting}
 use Rattle.settings.specs.declared.layout.Layout.{Layout}
-use Rattle.settings.specs.declared.layout.Total.{Total}
-use Rattle.settings.specs.declared.layout.Total.TheVariants as total
 use Rattle.page.specs.declared.position.Page.{Page}
 use Rattle.composition.specs.declared.page_rows.Collected.{Collected}
 use Rattle.traps.specs.declared.table.Planted.{Planted}
@@ -34,13 +32,13 @@ flag_word false = pos 0
 abbrev pub name_to_word : Name → ℤ
 name_to_word n = word_of (n.first * 256 + n.second)
 
-abbrev pub total_tag : Total → ℤ
-total_tag (total.Is c) = pos 1
-total_tag total.Nothing = pos 0
+abbrev pub total_tag : Option Cells → ℤ
+total_tag (Some c) = pos 1
+total_tag None = pos 0
 
-abbrev pub total_value : Total → ℤ
-total_value (total.Is c) = c.0
-total_value total.Nothing = pos 0
+abbrev pub total_value : Option Cells → ℤ
+total_value (Some c) = c.0
+total_value None = pos 0
 
 abbrev pub closing_tag : Closing → ℤ
 closing_tag closing.Open = pos 0
@@ -136,9 +134,9 @@ name_from n = record { first = n / 256; second = n % 256 }
 abbrev pub name_at : List ℤ → ℕ → Name
 name_at ws i = name_from (min (count_at ws i) 65535)
 
-abbrev pub total_by : Bool → Cells → Total
-total_by true c = total.Is c
-total_by false c = total.Nothing
+abbrev pub total_by : Bool → Cells → Option Cells
+total_by true c = Some c
+total_by false c = None
 
 abbrev pub layout_in : List ℤ → Layout
 layout_in ws = record {

@@ -1,13 +1,12 @@
 -- What is written is read back: the parts are those that were written, if their counts fit a word and their bytes fit a byte. Assumes nothing.
-use Rattle.std.specs.Prelude.{ℕ, suc, ◌+◌, ◌*◌, ◌/◌, ◌%◌, ◌≤◌, min, ◌≡◌, refl, Bool, true, false, List, [], ◌∷◌, ◌++◌, length, get_or, ℤ, pos}
+use Rattle.std.specs.Prelude.{Option, Some, None, ℕ, suc, ◌+◌, ◌*◌, ◌/◌, ◌%◌, ◌≤◌, min, ◌≡◌, refl, Bool, true, false, List, [], ◌∷◌, ◌++◌, length, get_or, ℤ, pos}
 use Rattle.std.proofs.Common.{sym, ap, subst, ◌∙◌, append_assoc, arith, length-append}
 use Rattle.std.proofs.lemmas.List.{get_or_at}
 use Rattle.measure.specs.Counts.{nat_of, across_of}
 use Rattle.rules.specs.declared.Name.{Name}
 use Rattle.rules.specs.declared.Trap.{Trap}
 use Rattle.settings.specs.declared.layout.Layout.{Layout}
-use Rattle.settings.specs.declared.layout.Total.{Total}
-use Rattle.settings.specs.declared.layout.Total.TheVariants as total
+use Rattle.measure.specs.declared.Cells.{Cells}
 use Rattle.page.specs.declared.position.Page.{Page}
 use Rattle.composition.specs.declared.page_rows.Collected.{Collected}
 use Rattle.traps.specs.declared.table.Planted.{Planted}
@@ -29,9 +28,9 @@ flag_back : (b : Bool) → is_set (flag_word b) ≡ b
 flag_back true = refl
 flag_back false = refl
 
-total_back : (t : Total) → total_by (is_set (total_tag t)) (record { 0 = total_value t }) ≡ t
-total_back (total.Is c) = refl
-total_back total.Nothing = refl
+total_back : (t : Option Cells) → total_by (is_set (total_tag t)) (record { 0 = total_value t }) ≡ t
+total_back (Some c) = refl
+total_back None = refl
 
 count_back : (n : ℕ) → Short n → min n 2147483647 ≡ n
 count_back n h = omega arith

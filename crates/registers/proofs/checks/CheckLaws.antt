@@ -1,34 +1,37 @@
 -- How the checks of lent columns go on at a row. Assumes nothing.
-use mathlib.Core.Path.{◌≡◌, refl, sym, ap, ◌∙◌, subst}
+use mathlib.Core.Path.{◌≡◌, refl, sym, ap, ◌∙◌}
 use mathlib.Core.Bool.{true, false, ◌&&◌}
 use mathlib.Core.List.{List, [], ◌∷◌}
-use Prim.Native.Nat.{ℕ, zero, suc, ◌+◌, ◌≤◌, ◌<◌}
+use Prim.Native.Nat.{ℕ, suc, ◌+◌, ◌-◌, ◌≤◌, ◌<◌}
 use native.Mathlib.Numerals.{add-one}
 use native.Mathlib.Omega.{arith}
-use lib.ListN.{length, take, drop, get_or, drop_of_length-le}
+use lib.ListN.{length, take, drop, get_or, drop_of_length-le, length-drop}
 use lib.Seq.{drop-cons, length-take-le, get_or-take}
-use lib.IntN.{ℤ, pos, negsuc}
-use lib.Signed.{lt_z}
-use borrow.Author.Tests.{le-leb, lt-leb, ltb-true}
+use lib.IntN.{ℤ, pos}
+use borrow.Author.Tests.{le-leb, lt-leb}
 use Rattle.rules.specs.declared.Name.{Name}
 use Rattle.rules.specs.Names as rules
 use Rattle.rules.specs.Names.{two_bytes, earlier}
-use Rattle.registers.specs.declared.table.Order.{Order}
+use Rattle.std.specs.Prelude.{◌==◌}
+use Rattle.std.specs.Ordering.{ordering_index}
+use Rattle.std.specs.declared.cmp.Ordering.{Ordering}
+use Rattle.std.specs.declared.cmp.Ordering.TheVariants.{Less, Equal, Greater}
 use Rattle.registers.specs.Table.Columns.{zip_with, as_pair, names_of, Names}
 use Rattle.registers.specs.Table.Places.{order_of, order_at}
 use Rattle.registers.specs.Checks.Checks.{NameColumns, NumberColumns, is_earlier, in_order, is_register_table, in_bounds, all_within, is_bounded}
 use Rattle.rules.specs.Columns.{zip_at, zip_length}
-use Rattle.registers.proofs.table.Laws.{names_of_at, row_order}
+use Rattle.registers.proofs.table.Laws.{names_of_at, names_of_length}
 
 -- the order of names
 
-names_on : (n m : Name) (l : List Name) → rules.order n m ≡ earlier → in_order (n ∷ m ∷ l) ≡ in_order (m ∷ l)
+-- a name stands before the next, and that before those behind it
+in_order_next : (l : List Name) (i : ℕ) (d : Name) → suc i < length l
+    → in_order (drop i l) ≡ (is_earlier (rules.order (get_or l i d) (get_or l (suc i) d)) && in_order (drop (suc i) l))
 unfolding in_order
-names_on n m l o = ap (λ b. is_earlier b && in_order (m ∷ l)) o
-
-names_stop : (n m : Name) (l : List Name) → is_earlier (rules.order n m) ≡ false → in_order (n ∷ m ∷ l) ≡ false
-unfolding in_order
-names_stop n m l o = ap (λ b. b && in_order (m ∷ l)) o
+in_order_next l i d h =
+    let two : drop i l ≡ get_or l i d ∷ get_or l (suc i) d ∷ drop (suc (suc i)) l =
+    drop-cons l i d (omega arith) ∙ ap (λ t. get_or l i d ∷ t) (drop-cons l (suc i) d h) in
+    ap in_order two ∙ ap (λ t. is_earlier (rules.order (get_or l i d) (get_or l (suc i) d)) && in_order t) (sym (drop-cons l (suc i) d h))
 
 names_few : (l : List Name) → length l ≤ 1 → in_order l ≡ true
 unfolding in_order
@@ -36,43 +39,25 @@ names_few [] h = refl
 names_few (n ∷ []) h = refl
 names_few (n ∷ m ∷ l) h = absurd (omega arith)
 
-module _ (l : List Name) (i : ℕ) (d : Name) (h : suc i < length l) where
-  two : drop i l ≡ get_or l i d ∷ get_or l (suc i) d ∷ drop (suc (suc i)) l
-  two = drop-cons l i d (omega arith) ∙ ap (λ t. get_or l i d ∷ t) (drop-cons l (suc i) d h)
+pub order_end : (l : List Name) (k : ℕ) → length l ≤ k → in_order (drop (k - 1) l) ≡ true
+order_end l k h = names_few (drop (k - 1) l) (omega (arith, length-drop (k - 1) l))
 
-  next_on : rules.order (get_or l i d) (get_or l (suc i) d) ≡ earlier → in_order (drop i l) ≡ in_order (drop (suc i) l)
-  next_on o = ap in_order two ∙ names_on (get_or l i d) (get_or l (suc i) d) (drop (suc (suc i)) l) o ∙ ap in_order (sym (drop-cons l (suc i) d h))
+-- whether the name in a row stands before that in the next, by the answer that a comparison gave
+pub order_row : (fs ss : List ℕ) (n : ℕ) → Names fs ss n → (k : ℕ) → 1 ≤ k → k < n → (r : Ordering)
+    → order_of r ≡ order_at fs ss k (two_bytes (get_or fs (k - 1) 0) (get_or ss (k - 1) 0))
+    → in_order (drop (k - 1) (names_of fs ss n)) ≡ (is_earlier (order_of r) && in_order (drop k (names_of fs ss n)))
+order_row fs ss n h k a b r e =
+    let l = names_of fs ss n in
+    let q : suc (k - 1) ≡ k = omega arith in
+    in_order_next l (k - 1) (two_bytes 0 0) (omega (arith, names_of_length fs ss n h))
+    ∙ ap (λ m. is_earlier (rules.order (get_or l (k - 1) (two_bytes 0 0)) (get_or l m (two_bytes 0 0))) && in_order (drop m l)) q
+    ∙ ap (λ o. is_earlier o && in_order (drop k l)) (rw (names_of_at fs ss n h (k - 1) (omega arith), names_of_at fs ss n h k b) (sym e))
 
-  next_stop : is_earlier (rules.order (get_or l i d) (get_or l (suc i) d)) ≡ false → in_order (drop i l) ≡ false
-  next_stop o = ap in_order two ∙ names_stop (get_or l i d) (get_or l (suc i) d) (drop (suc (suc i)) l) o
-
--- the same in the numbers of the loop
-module _ (l : List Name) (i j : ℕ) (d : Name) (e : j ≡ i + 1) (h : j < length l) where
-  q : j ≡ suc i
-  q = omega arith
-
-  pub order_on : rules.order (get_or l i d) (get_or l j d) ≡ earlier → in_order (drop i l) ≡ in_order (drop j l)
-  order_on o = subst (λ k. in_order (drop i l) ≡ in_order (drop k l)) (sym q) (next_on l i d (omega arith) (subst (λ k. rules.order (get_or l i d) (get_or l k d) ≡ earlier) q o))
-
-  pub order_stop : is_earlier (rules.order (get_or l i d) (get_or l j d)) ≡ false → in_order (drop i l) ≡ false
-  order_stop o = next_stop l i d (omega arith) (subst (λ k. is_earlier (rules.order (get_or l i d) (get_or l k d)) ≡ false) q o)
-
-drop_short : {A : Type 0} (l : List A) (i : ℕ) → length l ≤ i + 1 → length (drop i l) ≤ 1
-drop_short [] zero h = omega arith
-drop_short [] (suc i) h = omega arith
-drop_short (x ∷ l) zero h = omega arith
-drop_short (x ∷ l) (suc i) h = drop_short l i (omega arith)
-
-pub order_end : (l : List Name) (i : ℕ) → length l ≤ i + 1 → in_order (drop i l) ≡ true
-order_end l i h = names_few (drop i l) (drop_short l i h)
-
--- the order of the names in two rows, by the answer that a comparison gave
-pub rows_order : (fs ss : List ℕ) (n : ℕ) → Names fs ss n → (i j : ℕ) → i < n → j < n → (r v : Order)
-    → order_of r ≡ order_at fs ss j (two_bytes (get_or fs i 0) (get_or ss i 0)) → r ≡ v
-    → rules.order (get_or (names_of fs ss n) i (two_bytes 0 0)) (get_or (names_of fs ss n) j (two_bytes 0 0)) ≡ order_of v
-rows_order fs ss n h i j k m r v e q =
-    ap (λ x. rules.order x (get_or (names_of fs ss n) j (two_bytes 0 0))) (names_of_at fs ss n h i k)
-    ∙ row_order fs ss n h (two_bytes (get_or fs i 0) (get_or ss i 0)) j m r v e q
+-- what a test of that answer says
+pub is_first : (r : Ordering) → is_earlier (order_of r) ≡ (ordering_index r == 0)
+is_first Less = refl
+is_first Equal = refl
+is_first Greater = refl
 
 -- columns that hold a table of so many
 pub names_of_lem : (fs ss : List ℕ) (n : ℕ) → NameColumns fs ss → n ≤ 64 → Names fs ss n
@@ -83,16 +68,6 @@ table_many fs ss n h = rw (lt-leb n 64 h)
 
 pub table_few : (fs ss : List ℕ) (n : ℕ) → n ≤ 64 → is_register_table fs ss n ≡ in_order (names_of fs ss n)
 table_few fs ss n h = rw (le-leb n 64 h)
-
--- numbers within the bounds, by the two tests of the code
-
-pub below_outside : (z : ℤ) → lt_z z (negsuc 999999999) ≡ true → false ≡ in_bounds z
-below_outside (pos n) t = let e : ◌≡◌ {A = ℕ} 0 1 = cc in absurd (omega arith)
-below_outside (negsuc n) t = sym (lt-leb (suc n) 1000000000 (omega (arith, ltb-true 999999999 n t)))
-
-pub above_outside : (z : ℤ) → lt_z (pos 1000000000) z ≡ true → false ≡ in_bounds z
-above_outside (pos n) t = sym (lt-leb n 1000000000 (ltb-true 1000000000 n t))
-above_outside (negsuc n) t = let e : ◌≡◌ {A = ℕ} 0 1 = cc in absurd (omega arith)
 
 -- the first rows of values and steps
 abbrev pub pairs_of : (values steps : List ℤ) → (count : ℕ) → List (ℤ × ℤ)

@@ -1,13 +1,14 @@
 -- Laws of columns, places and moves, over plain lists. Assumes nothing.
+use Rattle.std.specs.Prelude.{Option, None, Some, Result, Ok, Err}
+use Rattle.std.specs.declared.cmp.Ordering.{Ordering}
 use mathlib.Core.Path.{◌≡◌, refl, sym, ap, ◌∙◌, subst}
 use mathlib.Core.Bool.{Bool, true, false}
 use mathlib.Core.List.{List, [], ◌∷◌, ◌++◌}
-use mathlib.Core.Option.{Option, none, some}
 use Prim.Native.Nat.{ℕ, zero, suc, ◌+◌, ◌-◌, ◌≤◌, ◌<◌}
 use native.Mathlib.Numerals.{add-one}
 use native.Mathlib.Omega.{arith}
 use lib.ListN.{length, take, drop, get_or, set, drop_of_length-le, length-set}
-use lib.Seq.{drop-cons, length-take-le, get_or-take, take-set-lt, set-get_or}
+use lib.Seq.{drop-cons, length-take-le, get_or-take, take-set-lt, set-get_or, paste}
 use lib.IntN.{ℤ, pos}
 use borrow.Author.Tests.{le-leb, lt-leb}
 use Rattle.rules.specs.declared.Name.{Name}
@@ -22,15 +23,12 @@ use Rattle.rules.specs.Bytes.{first_where}
 use Rattle.rules.specs.Registers.{register, register_of, put, set_value, Seen, Reference, refer_by}
 use Rattle.rules.specs.Laws.Registers.{Before, Means, means, names, Ordered, Sorted, not_found, put_new, put_sorted}
 use Rattle.rules.specs.Columns.{zip_at, zip_length, zip_set}
-use Rattle.registers.specs.declared.table.Order.{Order}
-use Rattle.registers.specs.declared.table.RegisterPlace.{RegisterPlace}
-use Rattle.registers.specs.declared.table.RegisterPlace.TheVariants.{At, Not}
-use Rattle.registers.specs.declared.table.RegisterCount.TheVariants.{Set, Full}
-use Rattle.registers.specs.declared.table.Stepped.TheVariants.{Is, Bad}
+use Rattle.rules.specs.declared.Refusal.{Refusal}
+use Rattle.rules.specs.Results.{refusal_number}
 use Rattle.registers.specs.Table.Columns.{zip_with, as_register, as_pair, names_of, table_of, Names, RegistersInvariant}
 use Rattle.registers.specs.Table.Places.{order_of, order_at, register_place, next_register_place}
 use Rattle.registers.specs.Table.Moves.{inserted}
-use Rattle.registers.specs.Table.Answers.{SetTo, StepTo, turned_of}
+use Rattle.registers.specs.Table.Answers.{turned_of}
 
 -- two columns of one length
 
@@ -47,49 +45,31 @@ module _ {A B C : Type 0} (f : A → B → C) where
   zip_inserted (x ∷ xs) (y ∷ ys) zero (suc k) a b = ap (λ l. f a b ∷ l) (zip_inserted xs ys zero k x y)
   zip_inserted (x ∷ xs) (y ∷ ys) (suc i) k a b = ap (λ l. f x y ∷ l) (zip_inserted xs ys i k a b)
 
--- the order of two names by their bytes
-
-pub order_later : (n m : Name) → Before m n → rules.order n m ≡ later
-order_later n m b = go (rules.order n m) (means n m)
-  where
-    go : (o : rules.Order) → Means o n m → o ≡ later
-    go earlier h = absurd (omega (arith, b.1 (omega arith), h.1 (omega arith)))
-    go same h = absurd (omega (arith, b.1 (omega (arith, ap (λ x. x.first) h)), ap (λ x. x.second) h))
-    go later h = refl
-
-pub order_same : (n m : Name) → n.first ≡ m.first → n.second ≡ m.second → rules.order n m ≡ same
-order_same n m e f = go (rules.order n m) (means n m)
-  where
-    go : (o : rules.Order) → Means o n m → o ≡ same
-    go earlier h = absurd (omega (arith, h.1 (omega arith)))
-    go same h = refl
-    go later h = absurd (omega (arith, h.1 (omega arith)))
-
 -- moves
 
 module _ {A : Type 0} where
-  -- the row at a place is carried to the next one
-  pub insert_next : (l : List A) (i k : ℕ) (b d : A) → inserted l i (suc k) b ≡ inserted (set l i b) (suc i) k (get_or l i d)
+  -- those from the first on are one place down
+  moved_down : (l : List A) (k : ℕ) (b : A) → k < length l → inserted l zero k b ≡ b ∷ (take k l ++ drop (suc k) l)
   unfolding inserted
-  insert_next [] i k b d = refl
-  insert_next (x ∷ l) zero k b d = refl
-  insert_next (x ∷ l) (suc i) k b d = ap (λ t. x ∷ t) (insert_next l i k b d)
+  moved_down [] k b h = absurd (omega arith)
+  moved_down (x ∷ l) zero b h = refl
+  moved_down (x ∷ l) (suc k) b h = ap (λ t. b ∷ t) (moved_down l k x (omega arith))
 
-  -- the last one is set
-  pub insert_last : (l : List A) (i : ℕ) (b : A) → inserted l i 0 b ≡ set l i b
+  -- the part from a place on is copied one place down, and the place is set
+  insert_copied : (l : List A) (i k : ℕ) (b : A) → i + k < length l → set (paste l (suc i) (drop i l) k) i b ≡ inserted l i k b
   unfolding inserted
-  insert_last [] i b = refl
-  insert_last (x ∷ l) zero b = refl
-  insert_last (x ∷ l) (suc i) b = ap (λ t. x ∷ t) (insert_last l i b)
+  insert_copied [] i k b h = absurd (omega arith)
+  insert_copied (x ∷ l) zero zero b h = refl
+  insert_copied (x ∷ l) zero (suc k) b h =
+      let e : 1 + suc k ≡ suc (suc k) = omega arith in
+      ap (λ j. b ∷ (x ∷ (take k l ++ drop j (x ∷ l)))) e ∙ ap (λ t. b ∷ t) (sym (moved_down l k x (omega arith)))
+  insert_copied (x ∷ l) (suc i) k b h =
+      let e : suc (suc i) + k ≡ suc (suc i + k) = omega arith in
+      ap (λ j. set (take (suc (suc i)) (x ∷ l) ++ take k (drop i l) ++ drop j (x ∷ l)) (suc i) b) e ∙ ap (λ t. x ∷ t) (insert_copied l i k b (omega arith))
 
-  -- the same in the numbers of the loop, which goes from i to n
-  pub insert_step : (l : List A) (i n : ℕ) (b d : A) → i < n → inserted l i (n - i) b ≡ inserted (set l i b) (i + 1) (n - (i + 1)) (get_or l i d)
-  insert_step l i n b d h =
-      let e : n - i ≡ suc (n - (i + 1)) = omega arith in
-      rw (e, add-one i) (insert_next l i (n - suc i) b d)
-
-  pub insert_done : (l : List A) (i n : ℕ) (b : A) → n ≤ i → inserted l i (n - i) b ≡ set l i b
-  insert_done l i n b h = let e : n - i ≡ 0 = omega arith in rw e (insert_last l i b)
+  -- the same in the numbers of the code
+  pub insert_done : (l m : List A) (i n : ℕ) (b : A) → i ≤ n → n < length l → m ≡ paste l (i + 1) (drop i l) (n - i) → set m i b ≡ inserted l i (n - i) b
+  insert_done l m i n b h k e = ap (λ t. set t i b) (e ∙ ap (λ j. paste l j (drop i l) (n - i)) (add-one i)) ∙ insert_copied l i (n - i) b (omega arith)
 
   pub insert_length : (l : List A) (i k : ℕ) (b : A) → length (inserted l i k b) ≡ length l
   unfolding inserted
@@ -112,44 +92,44 @@ module _ {A : Type 0} where
 -- places
 
 -- a place, so many rows further down
-abbrev pub further : ℕ → RegisterPlace → RegisterPlace
-further i (At k) = At (i + k)
-further i (Not k) = Not (i + k)
+abbrev pub further : ℕ → Result ℕ ℕ → Result ℕ ℕ
+further i (Ok k) = Ok (i + k)
+further i (Err k) = Err (i + k)
 
-further_next : (i : ℕ) (p : RegisterPlace) → further i (next_register_place p) ≡ further (i + 1) p
-further_next i (At k) = ap At (omega arith)
-further_next i (Not k) = ap Not (omega arith)
+further_next : (i : ℕ) (p : Result ℕ ℕ) → further i (next_register_place p) ≡ further (i + 1) p
+further_next i (Ok k) = ap Ok (omega arith)
+further_next i (Err k) = ap Err (omega arith)
 
-pub further_0 : (p : RegisterPlace) → further 0 p ≡ p
-further_0 (At k) = ap At (omega arith)
-further_0 (Not k) = ap Not (omega arith)
+pub further_0 : (p : Result ℕ ℕ) → further 0 p ≡ p
+further_0 (Ok k) = ap Ok (omega arith)
+further_0 (Err k) = ap Err (omega arith)
 
 -- how the search goes on at a row, by its order
 module _ (n : Name) (l : List Name) (i : ℕ) (d : Name) (h : i < length l) where
-  pub place_earlier : rules.order n (get_or l i d) ≡ earlier → further i (register_place n (drop i l)) ≡ Not i
+  pub place_earlier : rules.order n (get_or l i d) ≡ earlier → further i (register_place n (drop i l)) ≡ Err i
   unfolding register_place
-  place_earlier e = rw (drop-cons l i d, register_place, e) (ap Not (omega arith))
+  place_earlier e = rw (drop-cons l i d, register_place, e) (ap Err (omega arith))
 
-  pub place_same : rules.order n (get_or l i d) ≡ same → further i (register_place n (drop i l)) ≡ At i
+  pub place_same : rules.order n (get_or l i d) ≡ same → further i (register_place n (drop i l)) ≡ Ok i
   unfolding register_place
-  place_same e = rw (drop-cons l i d, register_place, e) (ap At (omega arith))
+  place_same e = rw (drop-cons l i d, register_place, e) (ap Ok (omega arith))
 
   pub place_later : rules.order n (get_or l i d) ≡ later → further i (register_place n (drop i l)) ≡ further (i + 1) (register_place n (drop (i + 1) l))
   unfolding register_place
   place_later e = rw (drop-cons l i d, register_place, e) (further_next i (register_place n (drop (suc i) l)) ∙ ap (λ j. further (i + 1) (register_place n (drop j l))) (sym (add-one i)))
 
-pub place_end : (n : Name) (l : List Name) (i : ℕ) → length l ≤ i → further i (register_place n (drop i l)) ≡ Not i
+pub place_end : (n : Name) (l : List Name) (i : ℕ) → length l ≤ i → further i (register_place n (drop i l)) ≡ Err i
 unfolding register_place
-place_end n l i h = rw (drop_of_length-le l h) (ap Not (omega arith))
+place_end n l i h = rw (drop_of_length-le l h) (ap Err (omega arith))
 
 -- a name that has a place stands there; one that has none belongs among the others or after them
-abbrev pub Stands : Name → List Name → RegisterPlace → Type 0
-Stands n l (At i) = (i < length l) × (get_or l i (two_bytes 0 0) ≡ n)
-Stands n l (Not i) = i ≤ length l
+abbrev pub Stands : Name → List Name → Result ℕ ℕ → Type 0
+Stands n l (Ok i) = (i < length l) × (get_or l i (two_bytes 0 0) ≡ n)
+Stands n l (Err i) = i ≤ length l
 
-stands_next : (n m : Name) (l : List Name) (p : RegisterPlace) → Stands n l p → Stands n (m ∷ l) (next_register_place p)
-stands_next n m l (At i) h = (omega arith, h.1)
-stands_next n m l (Not i) h = omega arith
+stands_next : (n m : Name) (l : List Name) (p : Result ℕ ℕ) → Stands n l p → Stands n (m ∷ l) (next_register_place p)
+stands_next n m l (Ok i) h = (omega arith, h.1)
+stands_next n m l (Err i) h = omega arith
 
 pub stands : (n : Name) (l : List Name) → Stands n l (register_place n l)
 unfolding register_place
@@ -157,19 +137,19 @@ stands n [] = omega arith
 stands n (m ∷ l) = go (rules.order n m) (means n m) (stands_next n m l (register_place n l) (stands n l))
   where
     go : (o : rules.Order) → Means o n m → Stands n (m ∷ l) (next_register_place (register_place n l))
-        → Stands n (m ∷ l) (elim o [ earlier ↦ Not 0 | same ↦ At 0 | later ↦ next_register_place (register_place n l) ])
+        → Stands n (m ∷ l) (elim o [ earlier ↦ Err 0 | same ↦ Ok 0 | later ↦ next_register_place (register_place n l) ])
     go earlier h i = omega arith
     go same h i = (omega arith, sym h)
     go later h i = i
 
 -- the register in a row, if a name has a place
-abbrev pub row_of : RegisterPlace → List Register → Option Register
-row_of (At i) rs = some (get_or rs i (register (two_bytes 0 0) (pos 0) (pos 0)))
-row_of (Not i) rs = none
+abbrev pub row_of : Result ℕ ℕ → List Register → Option Register
+row_of (Ok i) rs = Some (get_or rs i (register (two_bytes 0 0) (pos 0) (pos 0)))
+row_of (Err i) rs = None
 
-row_next : (p : RegisterPlace) (x : Register) (rs : List Register) → row_of (next_register_place p) (x ∷ rs) ≡ row_of p rs
-row_next (At i) x rs = refl
-row_next (Not i) x rs = refl
+row_next : (p : Result ℕ ℕ) (x : Register) (rs : List Register) → row_of (next_register_place p) (x ∷ rs) ≡ row_of p rs
+row_next (Ok i) x rs = refl
+row_next (Err i) x rs = refl
 
 after_distinct : (n m : Name) → Before m n → same_name n m ≡ false
 after_distinct n m b = go (same_name n m) refl
@@ -185,19 +165,19 @@ lookup_place n [] s = refl
 lookup_place n (x ∷ xs) s = go (rules.order n x.name) refl (means n x.name) (lookup_place n xs s.1)
   where
     go : (o : rules.Order) → rules.order n x.name ≡ o → Means o n x.name → register_of n xs ≡ row_of (register_place n (names xs)) xs
-        → register_of n (x ∷ xs) ≡ row_of (elim o [ earlier ↦ Not 0 | same ↦ At 0 | later ↦ next_register_place (register_place n (names xs)) ]) (x ∷ xs)
+        → register_of n (x ∷ xs) ≡ row_of (elim o [ earlier ↦ Err 0 | same ↦ Ok 0 | later ↦ next_register_place (register_place n (names xs)) ]) (x ∷ xs)
     go earlier e h ih = not_found n (x ∷ xs) e s
     go same e h ih = rw (register_of, first_where, subst (λ m. same_name n m ≡ true) h (same_self n))
     go later e h ih = rw (register_of, first_where, after_distinct n x.name h) (ih ∙ sym (row_next (register_place n (names xs)) x xs))
 
 -- what is put in a row, or before it
-abbrev pub put_at : RegisterPlace → Register → List Register → List Register
-put_at (At i) r rs = set rs i r
-put_at (Not i) r rs = take i rs ++ r ∷ drop i rs
+abbrev pub put_at : Result ℕ ℕ → Register → List Register → List Register
+put_at (Ok i) r rs = set rs i r
+put_at (Err i) r rs = take i rs ++ r ∷ drop i rs
 
-put_next : (p : RegisterPlace) (r x : Register) (rs : List Register) → put_at (next_register_place p) r (x ∷ rs) ≡ x ∷ put_at p r rs
-put_next (At i) r x rs = refl
-put_next (Not i) r x rs = refl
+put_next : (p : Result ℕ ℕ) (r x : Register) (rs : List Register) → put_at (next_register_place p) r (x ∷ rs) ≡ x ∷ put_at p r rs
+put_next (Ok i) r x rs = refl
+put_next (Err i) r x rs = refl
 
 -- a register is put at the place of its name
 pub put_place : (r : Register) (rs : List Register) → put r rs ≡ put_at (register_place r.name (names rs)) r rs
@@ -207,7 +187,7 @@ put_place r (x ∷ xs) = go (rules.order r.name x.name) (put_place r xs)
   where
     go : (o : rules.Order) → put r xs ≡ put_at (register_place r.name (names xs)) r xs
         → elim o [ earlier ↦ r ∷ x ∷ xs | same ↦ r ∷ xs | later ↦ x ∷ put r xs ]
-        ≡ put_at (elim o [ earlier ↦ Not 0 | same ↦ At 0 | later ↦ next_register_place (register_place r.name (names xs)) ]) r (x ∷ xs)
+        ≡ put_at (elim o [ earlier ↦ Err 0 | same ↦ Ok 0 | later ↦ next_register_place (register_place r.name (names xs)) ]) r (x ∷ xs)
     go earlier ih = refl
     go same ih = refl
     go later ih = ap (λ l. x ∷ l) ih ∙ sym (put_next (register_place r.name (names xs)) r x xs)
@@ -233,7 +213,7 @@ module _ (fs ss : List ℕ) (n : ℕ) (h : Names fs ss n) where
   names_of_at i k = get_or-take n (zip_with two_bytes fs ss) i (two_bytes 0 0) k ∙ zip_at two_bytes fs ss i 0 0 names_same
 
   -- the order of a name and the row at i, by the answer that a comparison gave
-  pub row_order : (m : Name) (i : ℕ) → i < n → (r v : Order) → order_of r ≡ order_at fs ss i m → r ≡ v → rules.order m (get_or (names_of fs ss n) i (two_bytes 0 0)) ≡ order_of v
+  pub row_order : (m : Name) (i : ℕ) → i < n → (r v : Ordering) → order_of r ≡ order_at fs ss i m → r ≡ v → rules.order m (get_or (names_of fs ss n) i (two_bytes 0 0)) ≡ order_of v
   row_order m i k r v e q = ap (rules.order m) (names_of_at i k) ∙ sym e ∙ ap order_of q
 
 module _ (fs ss : List ℕ) (vs ts : List ℤ) where
@@ -307,26 +287,26 @@ module _ (fs ss : List ℕ) (vs ts : List ℤ) (n : ℕ) (h : RegistersInvariant
       ∙ rw (zip_at two_bytes fs ss i 0 0 (omega arith), zip_at as_pair vs ts i (pos 0) (pos 0) (omega arith))
 
   module _ (m : Name) (i : ℕ) where
-    stands_at : register_place m (names_of fs ss n) ≡ At i → (i < length (names_of fs ss n)) × (get_or (names_of fs ss n) i (two_bytes 0 0) ≡ m)
+    stands_at : register_place m (names_of fs ss n) ≡ Ok i → (i < length (names_of fs ss n)) × (get_or (names_of fs ss n) i (two_bytes 0 0) ≡ m)
     stands_at e = subst (Stands m (names_of fs ss n)) e (stands m (names_of fs ss n))
 
     -- a name that is found stands in a row of the table, and its register is looked up there
-    pub found_row : register_place m (names_of fs ss n) ≡ At i → i < n
+    pub found_row : register_place m (names_of fs ss n) ≡ Ok i → i < n
     found_row e = omega (arith, (stands_at e).0, names_of_length fs ss n h.names)
 
-    pub found_name : register_place m (names_of fs ss n) ≡ At i → two_bytes (get_or fs i 0) (get_or ss i 0) ≡ m
+    pub found_name : register_place m (names_of fs ss n) ≡ Ok i → two_bytes (get_or fs i 0) (get_or ss i 0) ≡ m
     found_name e = sym (names_of_at fs ss n h.names i (found_row e)) ∙ (stands_at e).1
 
-    pub found_lookup : register_place m (names_of fs ss n) ≡ At i → register_of m (table_of fs ss vs ts n) ≡ some (register m (get_or vs i (pos 0)) (get_or ts i (pos 0)))
+    pub found_lookup : register_place m (names_of fs ss n) ≡ Ok i → register_of m (table_of fs ss vs ts n) ≡ Some (register m (get_or vs i (pos 0)) (get_or ts i (pos 0)))
     found_lookup e =
         lookup_place m (table_of fs ss vs ts n) table_sorted
-        ∙ rw (table_names, e) (ap some (table_at i (found_row e) ∙ ap (λ x. register x (get_or vs i (pos 0)) (get_or ts i (pos 0))) (found_name e)))
+        ∙ rw (table_names, e) (ap Some (table_at i (found_row e) ∙ ap (λ x. register x (get_or vs i (pos 0)) (get_or ts i (pos 0))) (found_name e)))
 
     -- the register of a name that is not found is none
-    pub not_lookup : register_place m (names_of fs ss n) ≡ Not i → register_of m (table_of fs ss vs ts n) ≡ none
+    pub not_lookup : register_place m (names_of fs ss n) ≡ Err i → register_of m (table_of fs ss vs ts n) ≡ None
     not_lookup e = lookup_place m (table_of fs ss vs ts n) table_sorted ∙ rw (table_names, e)
 
-    pub not_row : register_place m (names_of fs ss n) ≡ Not i → i ≤ n
+    pub not_row : register_place m (names_of fs ss n) ≡ Err i → i ≤ n
     not_row e = omega (arith, subst (Stands m (names_of fs ss n)) e (stands m (names_of fs ss n)), names_of_length fs ss n h.names)
 
 -- a reference to a name that is not predefined, by its turn
@@ -336,17 +316,17 @@ abbrev goes : Name → ℤ → List Register → ℤ → Reference
 goes m by rs z = value (z, put (register m z by) rs)
 
 refer_is : (t : Turn) (m : Name) (old by v : ℤ) (rs new : List Register) (shown : Seen) → value v ≡ turned_of t old by → put (register m v by) rs ≡ new → (v ≡ old → new ≡ rs)
-    → value (v, new) ≡ refer_by t none (some (register m old by)) shown rs
+    → value (v, new) ≡ refer_by t None (Some (register m old by)) shown rs
 refer_is Still m old by v rs new shown q e f = let o : v ≡ old = cc in rw (f o, o)
 refer_is Up m old by v rs new shown q e f = subst (λ j. ◌≡◌ {A = Reference} (value (v, new)) (j >>= goes m by rs)) q (rw e)
 refer_is Down m old by v rs new shown q e f = subst (λ j. ◌≡◌ {A = Reference} (value (v, new)) (j >>= goes m by rs)) q (rw e)
 
-refer_bad : (t : Turn) (m : Name) (old by : ℤ) (rs : List Register) (shown : Seen) → bad 6 ≡ turned_of t old by → bad 6 ≡ refer_by t none (some (register m old by)) shown rs
-refer_bad Still m old by rs shown q = let z : ◌≡◌ {A = ℕ} 0 1 = cc in absurd (omega arith)
-refer_bad Up m old by rs shown q = subst (λ j. ◌≡◌ {A = Reference} (bad 6) (j >>= goes m by rs)) q refl
-refer_bad Down m old by rs shown q = subst (λ j. ◌≡◌ {A = Reference} (bad 6) (j >>= goes m by rs)) q refl
+refer_bad : (t : Turn) (m : Name) (old by : ℤ) (rs : List Register) (shown : Seen) (k : ℕ) → bad k ≡ turned_of t old by → bad k ≡ refer_by t None (Some (register m old by)) shown rs
+refer_bad Still m old by rs shown k q = let z : ◌≡◌ {A = ℕ} 0 1 = cc in absurd (omega arith)
+refer_bad Up m old by rs shown k q = subst (λ j. ◌≡◌ {A = Reference} (bad k) (j >>= goes m by rs)) q refl
+refer_bad Down m old by rs shown k q = subst (λ j. ◌≡◌ {A = Reference} (bad k) (j >>= goes m by rs)) q refl
 
-refer_none : (t : Turn) (rs : List Register) (shown : Seen) → value (pos 0, rs) ≡ refer_by t none none shown rs
+refer_none : (t : Turn) (rs : List Register) (shown : Seen) → value (pos 0, rs) ≡ refer_by t None None shown rs
 refer_none Still rs shown = refl
 refer_none Up rs shown = refl
 refer_none Down rs shown = refl
@@ -354,86 +334,72 @@ refer_none Down rs shown = refl
 -- the ways to set a register, and to refer to one
 
 module _ (fs ss : List ℕ) (vs ts : List ℤ) (n : ℕ) (h : RegistersInvariant fs ss vs ts n) (m : Name) (i : ℕ) where
-  set_row : (v s : ℤ) → register_place m (names_of fs ss n) ≡ At i → put (register m v s) (table_of fs ss vs ts n) ≡ table_of fs ss (set vs i v) (set ts i s) n
+  set_row : (v s : ℤ) → register_place m (names_of fs ss n) ≡ Ok i → put (register m v s) (table_of fs ss vs ts n) ≡ table_of fs ss (set vs i v) (set ts i s) n
   set_row v s e =
       put_place (register m v s) (table_of fs ss vs ts n) ∙ rw (table_names fs ss vs ts n h, e)
       (sym (rw (set-get_or fs i 0, set-get_or ss i 0, found_name fs ss vs ts n h m i e)
       at (table_set fs ss vs ts n i (get_or fs i 0) (get_or ss i 0) v s (found_row fs ss vs ts n h m i e))))
 
-  set_table : (v s : ℤ) → RegistersInvariant fs ss (set vs i v) (set ts i s) n
+  pub set_table : (v s : ℤ) → RegistersInvariant fs ss (set vs i v) (set ts i s) n
   set_table v s =
       record { names = h.names; values_long = length-set vs i v ∙ h.values_long; steps_long = length-set ts i s ∙ h.steps_long; sorted = h.sorted }
 
   -- a register of the name is replaced
-  pub set_old : (v s : ℤ) → register_place m (names_of fs ss n) ≡ At i → SetTo fs ss vs ts n m v s (Set n) fs ss (set vs i v) (set ts i s)
+  pub set_old : (v s : ℤ) → register_place m (names_of fs ss n) ≡ Ok i → value (table_of fs ss (set vs i v) (set ts i s) n) ≡ set_value m v s (table_of fs ss vs ts n)
   set_old v s e =
-      record {
-        is = set_judged m v s (table_of fs ss vs ts n) (table_of fs ss (set vs i v) (set ts i s) n) (set_row v s e)
-            (omega (arith, h.names.few, table_length fs ss (set vs i v) (set ts i s) n (set_table v s)));
-        table = set_table v s;
-        kept = tt;
-      }
+      set_judged m v s (table_of fs ss vs ts n) (table_of fs ss (set vs i v) (set ts i s) n) (set_row v s e)
+      (omega (arith, h.names.few, table_length fs ss (set vs i v) (set ts i s) n (set_table v s)))
 
   -- a new one is put in its place
-  pub set_new : (v s : ℤ) → register_place m (names_of fs ss n) ≡ Not i → n < 64
-      → SetTo fs ss vs ts n m v s (Set (n + 1)) (inserted fs i (n - i) m.first) (inserted ss i (n - i) m.second) (inserted vs i (n - i) v) (inserted ts i (n - i) s)
-  set_new v s e k =
-      let fs' = inserted fs i (n - i) m.first in let ss' = inserted ss i (n - i) m.second in
-      let vs' = inserted vs i (n - i) v in let ts' = inserted ts i (n - i) s in let old = table_of fs ss vs ts n in
-      let same : put (register m v s) old ≡ table_of fs' ss' vs' ts' (n + 1) =
-      put_place (register m v s) old ∙ rw (table_names fs ss vs ts n h, e)
-      (sym (table_inserted fs ss vs ts n i m.first m.second v s (not_row fs ss vs ts n h m i e) (omega (arith, rows_long fs ss vs ts n h)))) in
-      let t : RegistersInvariant fs' ss' vs' ts' (n + 1) =
-      table_of_lem fs' ss' vs' ts' (n + 1) (
-        insert_length fs i (n - i) m.first ∙ h.names.firsts_long,
-        insert_length ss i (n - i) m.second ∙ h.names.seconds_long,
-        insert_length vs i (n - i) v ∙ h.values_long,
-        insert_length ts i (n - i) s ∙ h.steps_long,
-      )
-      (omega arith) (subst Sorted same (put_sorted (register m v s) old (table_sorted fs ss vs ts n h))) in
-      record {
-        is = set_judged m v s old (table_of fs' ss' vs' ts' (n + 1)) same (omega (arith, table_length fs' ss' vs' ts' (n + 1) t));
-        table = t;
-        kept = tt;
-      }
+  module _ (v s : ℤ) (e : register_place m (names_of fs ss n) ≡ Err i) (k : n < 64) where
+    put_new_row : put (register m v s) (table_of fs ss vs ts n)
+        ≡ table_of (inserted fs i (n - i) m.first) (inserted ss i (n - i) m.second) (inserted vs i (n - i) v) (inserted ts i (n - i) s) (n + 1)
+    put_new_row =
+        put_place (register m v s) (table_of fs ss vs ts n) ∙ rw (table_names fs ss vs ts n h, e)
+        (sym (table_inserted fs ss vs ts n i m.first m.second v s (not_row fs ss vs ts n h m i e) (omega (arith, rows_long fs ss vs ts n h))))
+
+    pub set_new_table : RegistersInvariant (inserted fs i (n - i) m.first) (inserted ss i (n - i) m.second) (inserted vs i (n - i) v) (inserted ts i (n - i) s) (n + 1)
+    set_new_table =
+        table_of_lem (inserted fs i (n - i) m.first) (inserted ss i (n - i) m.second) (inserted vs i (n - i) v) (inserted ts i (n - i) s) (n + 1) (
+          insert_length fs i (n - i) m.first ∙ h.names.firsts_long,
+          insert_length ss i (n - i) m.second ∙ h.names.seconds_long,
+          insert_length vs i (n - i) v ∙ h.values_long,
+          insert_length ts i (n - i) s ∙ h.steps_long,
+        )
+        (omega arith) (subst Sorted put_new_row (put_sorted (register m v s) (table_of fs ss vs ts n) (table_sorted fs ss vs ts n h)))
+
+    pub set_new : value (table_of (inserted fs i (n - i) m.first) (inserted ss i (n - i) m.second) (inserted vs i (n - i) v) (inserted ts i (n - i) s) (n + 1)) ≡ set_value m v s (table_of fs ss vs ts n)
+    set_new =
+        let fs' = inserted fs i (n - i) m.first in let ss' = inserted ss i (n - i) m.second in
+        let vs' = inserted vs i (n - i) v in let ts' = inserted ts i (n - i) s in
+        set_judged m v s (table_of fs ss vs ts n) (table_of fs' ss' vs' ts' (n + 1)) put_new_row (omega (arith, table_length fs' ss' vs' ts' (n + 1) set_new_table))
 
   -- "11: a 65th register"
-  pub set_full : (v s : ℤ) → register_place m (names_of fs ss n) ≡ Not i → 64 ≤ n → SetTo fs ss vs ts n m v s Full fs ss vs ts
+  pub set_full : (v s : ℤ) → register_place m (names_of fs ss n) ≡ Err i → 64 ≤ n → bad 11 ≡ set_value m v s (table_of fs ss vs ts n)
   set_full v s e k =
-      record {
-        is = set_refused m v s (table_of fs ss vs ts n)
-            (omega (arith, put_new (register m v s) (table_of fs ss vs ts n) (not_lookup fs ss vs ts n h m i e), table_length fs ss vs ts n h));
-        table = h;
-        kept = (refl, refl, refl, refl);
-      }
+      set_refused m v s (table_of fs ss vs ts n)
+      (omega (arith, put_new (register m v s) (table_of fs ss vs ts n) (not_lookup fs ss vs ts n h m i e), table_length fs ss vs ts n h))
 
-  step_row : (v : ℤ) → register_place m (names_of fs ss n) ≡ At i → put (register m v (get_or ts i (pos 0))) (table_of fs ss vs ts n) ≡ table_of fs ss (set vs i v) ts n
+  step_row : (v : ℤ) → register_place m (names_of fs ss n) ≡ Ok i → put (register m v (get_or ts i (pos 0))) (table_of fs ss vs ts n) ≡ table_of fs ss (set vs i v) ts n
   step_row v e = rw (set-get_or ts i (pos 0)) at (set_row v (get_or ts i (pos 0)) e)
 
-  step_table : (v : ℤ) → RegistersInvariant fs ss (set vs i v) ts n
+  pub step_table : (v : ℤ) → RegistersInvariant fs ss (set vs i v) ts n
   step_table v = record { names = h.names; values_long = length-set vs i v ∙ h.values_long; steps_long = h.steps_long; sorted = h.sorted }
 
   -- a register that is there steps to its new value, if it has one
-  pub step_is : (t : Turn) (v : ℤ) → register_place m (names_of fs ss n) ≡ At i → value v ≡ turned_of t (get_or vs i (pos 0)) (get_or ts i (pos 0))
-      → StepTo fs ss vs ts n t m (Is v) (set vs i v)
-  step_is t v e q =
-      record {
-        is = λ shown. rw (found_lookup fs ss vs ts n h m i e)
-            (refer_is t m (get_or vs i (pos 0)) (get_or ts i (pos 0)) v (table_of fs ss vs ts n) (table_of fs ss (set vs i v) ts n) shown q (step_row v e)
-            (λ o. rw o (rw (set-get_or vs i (pos 0)))));
-        table = step_table v;
-        kept = tt;
-      }
+  pub step_is : (t : Turn) (v : ℤ) → register_place m (names_of fs ss n) ≡ Ok i → value v ≡ turned_of t (get_or vs i (pos 0)) (get_or ts i (pos 0)) → (shown : Seen)
+      → value (v, table_of fs ss (set vs i v) ts n) ≡ refer_by t None (register_of m (table_of fs ss vs ts n)) shown (table_of fs ss vs ts n)
+  step_is t v e q shown =
+      rw (found_lookup fs ss vs ts n h m i e)
+      (refer_is t m (get_or vs i (pos 0)) (get_or ts i (pos 0)) v (table_of fs ss vs ts n) (table_of fs ss (set vs i v) ts n) shown q (step_row v e)
+      (λ o. rw o (rw (set-get_or vs i (pos 0)))))
 
-  -- "6: .. step .. outside ±1,000,000,000"
-  pub step_bad : (t : Turn) → register_place m (names_of fs ss n) ≡ At i → bad 6 ≡ turned_of t (get_or vs i (pos 0)) (get_or ts i (pos 0)) → StepTo fs ss vs ts n t m Bad vs
-  step_bad t e q =
-      record {
-        is = λ shown. rw (found_lookup fs ss vs ts n h m i e) (refer_bad t m (get_or vs i (pos 0)) (get_or ts i (pos 0)) (table_of fs ss vs ts n) shown q);
-        table = h;
-        kept = refl;
-      }
+  -- and is as it was, if it has none
+  pub step_bad : (t : Turn) (r : Refusal) → register_place m (names_of fs ss n) ≡ Ok i → bad (refusal_number r) ≡ turned_of t (get_or vs i (pos 0)) (get_or ts i (pos 0)) → (shown : Seen)
+      → bad (refusal_number r) ≡ refer_by t None (register_of m (table_of fs ss vs ts n)) shown (table_of fs ss vs ts n)
+  step_bad t r e q shown = rw (found_lookup fs ss vs ts n h m i e) (refer_bad t m (get_or vs i (pos 0)) (get_or ts i (pos 0)) (table_of fs ss vs ts n) shown (refusal_number r) q)
 
   -- "Undefined ones give 0 .., and a step does not make one"
-  pub step_none : (t : Turn) → register_place m (names_of fs ss n) ≡ Not i → StepTo fs ss vs ts n t m (Is (pos 0)) vs
-  step_none t e = record { is = λ shown. rw (not_lookup fs ss vs ts n h m i e) (refer_none t (table_of fs ss vs ts n) shown); table = h; kept = tt }
+  pub step_none : (t : Turn) → register_place m (names_of fs ss n) ≡ Err i → (shown : Seen)
+      → value (pos 0, table_of fs ss vs ts n) ≡ refer_by t None (register_of m (table_of fs ss vs ts n)) shown (table_of fs ss vs ts n)
+  step_none t e shown = rw (not_lookup fs ss vs ts n h m i e) (refer_none t (table_of fs ss vs ts n) shown)

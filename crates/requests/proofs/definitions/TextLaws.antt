@@ -1,24 +1,24 @@
 -- The ways out of ds, de and rm. Assumes nothing.
-use mathlib.Core.Path.{◌≡◌, refl, sym, ap, ◌∙◌, subst}
+use Rattle.std.specs.Prelude.{Option, None, Some, Result, Ok, Err}
+use mathlib.Core.Path.{◌≡◌, refl, sym, ap, ◌∙◌}
 use mathlib.Core.Bool.{Bool, true, false, not}
 use mathlib.Core.List.{List}
-use mathlib.Core.Option.{Option, none}
 use Prim.Native.Nat.{ℕ, ◌+◌, ◌-◌, ◌≤◌}
 use native.Mathlib.Omega.{arith}
-use lib.ListN.{length, take, drop, length-take, length-drop}
+use lib.ListN.{length, take, drop, length-drop}
 use lib.Seq.{length-sets, sets-eq, take_all, take-append_seam}
 use Rattle.rules.specs.declared.Name.{Name}
 use Rattle.rules.specs.Bytes.{is_there}
-use Rattle.rules.specs.Names.{Named, one, too_long, name_of, same_name}
-use Rattle.rules.specs.Names as names
+use Rattle.rules.specs.Names.{one, name_of, same_name}
+use Rattle.rules.specs.declared.Refusal.{Refusal}
 use Rattle.rules.specs.Refusals.{Judged, value, bad, judge, ◌>>=◌}
+use Rattle.rules.specs.Results.{refusal_number}
 use Rattle.rules.specs.Texts as texts
 use Rattle.rules.specs.Texts.{Text, text_of, define_string_in, open_macro}
 use Rattle.rules.specs.Arguments.{Part, first, string_text}
 use Rattle.rules.specs.State.{State, Item, on_stack}
 use Rattle.rules.specs.StateSetters.{with_texts}
-use Rattle.rules.specs.Acts.{on_name, free, written_back, define_from, defines, open_text, remove_if, remove_text}
-use Rattle.texts.specs.declared.table.TextCount.TheVariants.{Set, Full}
+use Rattle.rules.specs.Acts.{free, define_from, defines, open_text, remove_if, remove_text}
 use Rattle.texts.specs.Table.Table.{texts_of, TextsInvariant}
 use Rattle.texts.specs.Table.Changes.{room_of, RemovedTo, DefinedTo, OpenedTo}
 use Rattle.texts.specs.Table.KeptLaws.{kept_removed, kept_defined, kept_opened}
@@ -29,20 +29,18 @@ use Rattle.input_stack.specs.declared.stack.Stack.{Stack}
 use Rattle.input_stack.specs.Stack.Frames.{frames_of, called_below}
 use Rattle.input_stack.specs.Stack.Items.{stack_of}
 use Rattle.input_stack.specs.Stack.ItemLaws.{on_stack_lem, items_kept, good_kept}
-use Rattle.requests.specs.declared.definitions.Changed.{Changed}
-use Rattle.requests.specs.declared.definitions.Changed.TheVariants.{Count, Same, Refused}
-use Rattle.requests.specs.Definitions.Texts.{in_texts, over_stack, alone, ChangeRefines, OpensAs, DefinesAs, opened_as, removes, opens_text, defines_as, defines_by}
+use Rattle.requests.specs.Definitions.Texts.{in_texts, over_stack, alone, ChangeRefines, OpensAs, DefinesAs, opened_as, defines_as, defines_by}
 
 module _ (st fs ss ks ls : List ℕ) (c : ℕ) (k : Stack) (ps : List ℕ) (t : TextsInvariant st fs ss ks ls c) where
   -- nothing is done, or it is refused
-  pub same : (done : State → State) (act : State → Judged State)
+  same : (done : State → State) (act : State → Judged State)
       → ((bs : List ℕ) (x : State) → value (over_stack k bs ps (texts_of st fs ss ks ls c) x) ≡ act (over_stack k bs ps (texts_of st fs ss ks ls c) x))
-      → ChangeRefines st fs ss ks ls c k ps done act Same st fs ss ks ls
+      → ChangeRefines st fs ss ks ls c k ps done act (Ok None) st fs ss ks ls
   same done act h = record { is = h; good = λ bs g. g; lies = t; long = refl; kept = (refl, refl, refl, refl, refl) }
 
-  pub refuses : (done : State → State) (act : State → Judged State) (n : ℕ)
-      → ((bs : List ℕ) (x : State) → bad n ≡ act (over_stack k bs ps (texts_of st fs ss ks ls c) x))
-      → ChangeRefines st fs ss ks ls c k ps done act (Refused n) st fs ss ks ls
+  pub refuses : (done : State → State) (act : State → Judged State) (n : Refusal)
+      → ((bs : List ℕ) (x : State) → bad (refusal_number n) ≡ act (over_stack k bs ps (texts_of st fs ss ks ls c) x))
+      → ChangeRefines st fs ss ks ls c k ps done act (Err n) st fs ss ks ls
   refuses done act n h = record { is = h; good = λ bs g. g; lies = t; long = refl; kept = (refl, refl, refl, refl, refl) }
 
 -- "9: a text on the input stack redefined or removed"
@@ -67,7 +65,7 @@ module _ (st fs ss ks ls : List ℕ) (c : ℕ) (k : Stack) (ps : List ℕ) (n : 
   moved ts' h bs x = ap (λ (is : List Item). in_texts ts' is x) (items_kept ts ts' n (frames_of k bs ps) (off bs) h)
 
   pub removed : (r : ℕ) → true ≡ is_there (text_of n ts) → RemovedTo st fs ss ks ls c n r st' fs' ss' ks' ls'
-      → ChangeRefines st fs ss ks ls c k ps alone (λ s. remove_text s n) (Count r) st' fs' ss' ks' ls'
+      → ChangeRefines st fs ss ks ls c k ps alone (λ s. remove_text s n) (Ok (Some r)) st' fs' ss' ks' ls'
   removed r e m = record {
     is = λ bs x.
         let s = over_stack k bs ps ts x in
@@ -88,8 +86,8 @@ module _ (st fs ss ks ls : List ℕ) (c : ℕ) (k : Stack) (ps : List ℕ) (n : 
   abbrev begun : State → State
   begun s = opened_as (one n) s
 
-  pub opened : (r : ℕ) → OpenedTo st fs ss ks ls c n (Set r) st' fs' ss' ks' ls'
-      → OpensAs st fs ss ks ls c k ps (one n) (λ s. open_text s n) (Count r) st' fs' ss' ks' ls'
+  pub opened : (r : ℕ) → OpenedTo st fs ss ks ls c n (Ok r) st' fs' ss' ks' ls'
+      → OpensAs st fs ss ks ls c k ps (one n) (λ s. open_text s n) (Ok (Some r)) st' fs' ss' ks' ls'
   opened r m = record {
     changes = record {
       is = λ bs x.
@@ -106,11 +104,11 @@ module _ (st fs ss ks ls : List ℕ) (c : ℕ) (k : Stack) (ps : List ℕ) (n : 
   }
     where
       kept : (j : Name) → same_name j n ≡ false → text_of j (texts_of st' fs' ss' ks' ls' r) ≡ text_of j ts
-      kept j q = kept_opened st fs ss ks ls c n st' fs' ss' ks' ls' j q (Set r) m
+      kept j q = kept_opened st fs ss ks ls c n st' fs' ss' ks' ls' j q (Ok r) m
 
-  pub open_full : OpenedTo st fs ss ks ls c n Full st' fs' ss' ks' ls'
-      → OpensAs st fs ss ks ls c k ps (one n) (λ s. open_text s n) (Refused 11) st' fs' ss' ks' ls'
-  open_full m = record {
+  pub open_full : (e : Refusal) → OpenedTo st fs ss ks ls c n (Err e) st' fs' ss' ks' ls'
+      → OpensAs st fs ss ks ls c k ps (one n) (λ s. open_text s n) (Err e) st' fs' ss' ks' ls'
+  open_full e m = record {
     changes = record {
       is = λ bs x.
           let s = over_stack k bs ps ts x in
@@ -128,8 +126,8 @@ module _ (st fs ss ks ls : List ℕ) (c : ℕ) (k : Stack) (ps : List ℕ) (n : 
     room : define_string_in (room_of (length st)) n l ts ≡ define_string_in 8192 n l ts
     room = ap (λ (d : ℕ). define_string_in (room_of d) n l ts) w
 
-    pub defined : (r : ℕ) → DefinedTo st fs ss ks ls c n l (Set r) st' fs' ss' ks' ls'
-        → ChangeRefines st fs ss ks ls c k ps alone (defines_as n l) (Count r) st' fs' ss' ks' ls'
+    pub defined : (r : ℕ) → DefinedTo st fs ss ks ls c n l (Ok r) st' fs' ss' ks' ls'
+        → ChangeRefines st fs ss ks ls c k ps alone (defines_as n l) (Ok (Some r)) st' fs' ss' ks' ls'
     defined r m = record {
       is = λ bs x.
           let s = over_stack k bs ps ts x in
@@ -143,11 +141,11 @@ module _ (st fs ss ks ls : List ℕ) (c : ℕ) (k : Stack) (ps : List ℕ) (n : 
     }
       where
         kept : (j : Name) → same_name j n ≡ false → text_of j (texts_of st' fs' ss' ks' ls' r) ≡ text_of j ts
-        kept j q = kept_defined st fs ss ks ls c n st' fs' ss' ks' ls' j q l (Set r) m
+        kept j q = kept_defined st fs ss ks ls c n st' fs' ss' ks' ls' j q l (Ok r) m
 
-    pub define_full : DefinedTo st fs ss ks ls c n l Full st' fs' ss' ks' ls'
-        → ChangeRefines st fs ss ks ls c k ps alone (defines_as n l) (Refused 11) st' fs' ss' ks' ls'
-    define_full m = record {
+    pub define_full : (e : Refusal) → DefinedTo st fs ss ks ls c n l (Err e) st' fs' ss' ks' ls'
+        → ChangeRefines st fs ss ks ls c k ps alone (defines_as n l) (Err e) st' fs' ss' ks' ls'
+    define_full e m = record {
       is = λ bs x.
           let s = over_stack k bs ps ts x in
           ap (λ (j : Judged (List Text)). j >>= λ u. value (with_texts u s)) (m.is ∙ room)
@@ -175,59 +173,10 @@ module _ (ts : List Text) (k : Stack) (ps : List ℕ) (n : Name) (e : true ≡ c
       let s = over_stack k bs ps ts x in
       ap (λ (j : Judged Name). j >>= λ q. define_string_in 8192 q l ts >>= λ u. value (with_texts u s)) (held ts k ps n bs x e)
 
--- "rm of a name with no user text does nothing"
-pub remove_none : (ts : List Text) (k : Stack) (ps : List ℕ) (n : Name) (bs : List ℕ) (x : State) → false ≡ is_there (text_of n ts)
-    → value (over_stack k bs ps ts x) ≡ remove_text (over_stack k bs ps ts x) n
-remove_none ts k ps n bs x h = ap (λ (b : Bool). remove_if b (over_stack k bs ps ts x) n) h
-
--- by what the bytes of a name are
-module _ (st fs ss ks ls : List ℕ) (c : ℕ) (k : Stack) (ps : List ℕ) (l : List ℕ) where
-  module _ (r : Changed) (st' fs' ss' ks' ls' : List ℕ) (n : Name) (e : one n ≡ name_of l) where
-    pub remove_by : ChangeRefines st fs ss ks ls c k ps alone (λ s. remove_text s n) r st' fs' ss' ks' ls' → ChangeRefines st fs ss ks ls c k ps alone (removes l) r st' fs' ss' ks' ls'
-    remove_by h = subst (λ (m : Named). ChangeRefines st fs ss ks ls c k ps alone (λ s. on_name m s (remove_text s)) r st' fs' ss' ks' ls') e h
-
-    pub open_by : OpensAs st fs ss ks ls c k ps (one n) (λ s. open_text s n) r st' fs' ss' ks' ls' → OpensAs st fs ss ks ls c k ps (name_of l) (opens_text l) r st' fs' ss' ks' ls'
-    open_by h = subst (λ (m : Named). OpensAs st fs ss ks ls c k ps m (λ s. on_name m s (open_text s)) r st' fs' ss' ks' ls') e h
-
-    pub define_by : (i : Bool) (b : List ℕ) → ChangeRefines st fs ss ks ls c k ps alone (defines_as n (written_back i b)) r st' fs' ss' ks' ls'
-        → ChangeRefines st fs ss ks ls c k ps alone (defines_by i (name_of l) b) r st' fs' ss' ks' ls'
-    define_by i b h = subst (λ (m : Named). ChangeRefines st fs ss ks ls c k ps alone (defines_by i m b) r st' fs' ss' ks' ls') e h
-
-  module _ (t : TextsInvariant st fs ss ks ls c) (e : names.no_name ≡ name_of l) where
-    pub remove_unnamed : ChangeRefines st fs ss ks ls c k ps alone (removes l) Same st fs ss ks ls
-    remove_unnamed = same st fs ss ks ls c k ps t alone (removes l) (λ bs x. let s = over_stack k bs ps (texts_of st fs ss ks ls c) x in ap (λ (m : Named). on_name m s (remove_text s)) e)
-
-    pub open_unnamed : OpensAs st fs ss ks ls c k ps (name_of l) (opens_text l) Same st fs ss ks ls
-    open_unnamed = record {
-      changes = same st fs ss ks ls c k ps t (opened_as (name_of l)) (opens_text l) (λ bs x. let s = over_stack k bs ps (texts_of st fs ss ks ls c) x in ap (λ (m : Named). on_name m s (open_text s)) e);
-      opens = tt;
-    }
-
-    pub define_unnamed : (i : Bool) (b : List ℕ) → ChangeRefines st fs ss ks ls c k ps alone (defines_by i (name_of l) b) Same st fs ss ks ls
-    define_unnamed i b =
-        same st fs ss ks ls c k ps t alone (defines_by i (name_of l) b) (λ bs x. let s = over_stack k bs ps (texts_of st fs ss ks ls c) x in ap (λ (m : Named). defines_by i m b s) e)
-
-  module _ (t : TextsInvariant st fs ss ks ls c) (e : too_long ≡ name_of l) where
-    pub remove_long : ChangeRefines st fs ss ks ls c k ps alone (removes l) (Refused 7) st fs ss ks ls
-    remove_long = refuses st fs ss ks ls c k ps t alone (removes l) 7 (λ bs x. let s = over_stack k bs ps (texts_of st fs ss ks ls c) x in ap (λ (m : Named). on_name m s (remove_text s)) e)
-
-    pub open_long : OpensAs st fs ss ks ls c k ps (name_of l) (opens_text l) (Refused 7) st fs ss ks ls
-    open_long = record {
-      changes = refuses st fs ss ks ls c k ps t (opened_as (name_of l)) (opens_text l) 7 (λ bs x. let s = over_stack k bs ps (texts_of st fs ss ks ls c) x in ap (λ (m : Named). on_name m s (open_text s)) e);
-      opens = tt;
-    }
-
-    pub define_long : (i : Bool) (b : List ℕ) → ChangeRefines st fs ss ks ls c k ps alone (defines_by i (name_of l) b) (Refused 7) st fs ss ks ls
-    define_long i b =
-        refuses st fs ss ks ls c k ps t alone (defines_by i (name_of l) b) 7 (λ bs x. let s = over_stack k bs ps (texts_of st fs ss ks ls c) x in ap (λ (m : Named). defines_by i m b s) e)
-
 -- the first argument of a line, and the text behind it
 module _ (line parts : List ℕ) (w : length line ≤ 512) (p : length parts ≡ 512) (cut : Cut) (parts' : List ℕ) (t : Took line 0 parts 0 cut parts') where
-  pub parts_long : length parts' ≡ 512
+  parts_long : length parts' ≡ 512
   parts_long = ap length t.bytes ∙ length-sets parts 0 t.argument ∙ p
-
-  pub part_fits : cut.written ≤ length parts'
-  part_fits = omega (arith, parts_long, t.short, t.inside)
 
   name_there : take cut.written parts' ≡ t.argument
   name_there =
@@ -240,9 +189,6 @@ module _ (line parts : List ℕ) (w : length line ≤ 512) (p : length parts ≡
     text_there : take (length line - at) (drop at line) ≡ string_text (drop cut.at line)
     text_there = take_all (length line - at) (drop at line) (omega (arith, length-drop at line)) ∙ z.is
 
-    pub text_short : length (take (length line - at) (drop at line)) ≤ 512
-    text_short = omega (arith, length-take (length line - at) (drop at line))
-
     defines_it : (s : State) → defines_by i (name_of (take cut.written parts')) (take (length line - at) (drop at line)) s ≡ defines i line s
     unfolding defines
     defines_it s =
@@ -250,7 +196,7 @@ module _ (line parts : List ℕ) (w : length line ≤ 512) (p : length parts ≡
         ∙ ap (λ (b : List ℕ). defines_by i (name_of t.argument) b s) text_there
         ∙ ap (λ (o : Option Part). define_from o i s) (sym t.is)
 
-    pub defines_there : (st fs ss ks ls : List ℕ) (c : ℕ) (k : Stack) (ps : List ℕ) (r : Changed) (st' fs' ss' ks' ls' : List ℕ)
+    pub defines_there : (st fs ss ks ls : List ℕ) (c : ℕ) (k : Stack) (ps : List ℕ) (r : Result (Option ℕ) Refusal) (st' fs' ss' ks' ls' : List ℕ)
         → ChangeRefines st fs ss ks ls c k ps alone (defines_by i (name_of (take cut.written parts')) (take (length line - at) (drop at line))) r st' fs' ss' ks' ls'
         → DefinesAs st fs ss ks ls c k ps (defines i line) r st' fs' ss' ks' ls' parts'
     defines_there st fs ss ks ls c k ps r st' fs' ss' ks' ls' m = record {
@@ -260,7 +206,7 @@ module _ (line parts : List ℕ) (w : length line ≤ 512) (p : length parts ≡
 
 -- without a name nothing is done
 pub defines_none : (st fs ss ks ls : List ℕ) (c : ℕ) (k : Stack) (ps : List ℕ) (t : TextsInvariant st fs ss ks ls c) (i : Bool) (line parts parts' : List ℕ) → length parts ≡ 512
-    → (first line ≡ none) × (parts' ≡ parts) → DefinesAs st fs ss ks ls c k ps (defines i line) Same st fs ss ks ls parts'
+    → (first line ≡ None) × (parts' ≡ parts) → DefinesAs st fs ss ks ls c k ps (defines i line) (Ok None) st fs ss ks ls parts'
 unfolding defines
 defines_none st fs ss ks ls c k ps t i line parts parts' p h = record {
   changes = same st fs ss ks ls c k ps t alone (defines i line) (λ bs x. ap (λ (o : Option Part). define_from o i (over_stack k bs ps (texts_of st fs ss ks ls c) x)) (sym h.0));

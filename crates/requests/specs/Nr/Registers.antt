@@ -1,12 +1,13 @@
 -- nr, as its answer stands for it in any state. Assumes nothing.
-use Rattle.std.specs.Prelude.{◌≡◌, refl, List, ℕ, ℤ}
-use Rattle.std.proofs.Math.Option.{Option}
+use Rattle.std.specs.Prelude.{◌≡◌, refl, List, ℕ, ℤ, Option, Result, Ok, Err, OnErr}
 use Rattle.rules.specs.declared.Name.{Name}
 use Rattle.rules.specs.declared.Register.{Register}
 use Rattle.rules.specs.declared.TableChange.TheVariants.{Nr}
 use Rattle.rules.specs.Printers as printers
 use Rattle.rules.specs.Names.{name_of}
-use Rattle.rules.specs.Refusals.{Judged, value, bad, ◌>>=◌}
+use Rattle.rules.specs.declared.Refusal.{Refusal}
+use Rattle.rules.specs.Refusals.{Judged, value, ◌>>=◌}
+use Rattle.rules.specs.Results.{judged_by}
 use Rattle.rules.specs.Numbers.{units, signed}
 use Rattle.rules.specs.Registers.{value_or0, step_or0}
 use Rattle.rules.specs.State.{State}
@@ -14,27 +15,17 @@ use Rattle.rules.specs.StateSetters.{with_registers}
 use Rattle.rules.specs.Acts.{argument_at, on_name, new_value, new_step, write_register, change}
 use Rattle.registers.specs.Table.Columns.{table_of, RegistersInvariant}
 use Rattle.settings.specs.declared.layout.Printer.{Printer}
-use Rattle.settings.specs.Layout.Layouts.{printer_of, PrinterInvariant}
+use Rattle.settings.specs.Layout.Layouts.{printer_of}
 use Rattle.requests.specs.declared.nr.Numbers.{Numbers}
-use Rattle.requests.specs.declared.nr.NewNumbers.{NewNumbers}
-use Rattle.requests.specs.declared.nr.NewNumbers.TheVariants as new
-use Rattle.requests.specs.declared.nr.Assigned.{Assigned}
-use Rattle.requests.specs.declared.nr.Assigned.TheVariants.{Count, Refused}
-
--- what nr finds: a table, and a sound printer
-pub record AssignReady (fs ss : List ℕ) (vs ts : List ℤ) (count : ℕ) (q : Printer) : Type 0 where
-  pub table : RegistersInvariant fs ss vs ts count
-  pub printer : PrinterInvariant q
 
 -- the value and the step of a register
 pub record NumbersOf (o : Option Register) (r : Numbers) : Type 0 where
   pub value : r.value ≡ value_or0 o
   pub step : r.step ≡ step_or0 o
 
--- a new value and a new step, or "6: number malformed, .. outside ±1,000,000,000"
-abbrev pub new_numbers_of : NewNumbers → Judged (ℤ × ℤ)
-new_numbers_of (new.Is v s) = value (v, s)
-new_numbers_of new.Bad = bad 6
+-- a value and a step
+abbrev pub numbers_of : Numbers → ℤ × ℤ
+numbers_of n = (n.value, n.step)
 
 -- nr: the new value, from the one before
 abbrev pub value_by : printers.Printer → (new : List ℕ) → (old : ℤ) → Judged ℤ
@@ -47,26 +38,16 @@ numbers_by p v l old s = do
   z ← new_step p l s
   value (y, z)
 
--- so many registers of this table, or a refusal
-abbrev pub assigned_of : Assigned → (ℕ → List Register) → State → Judged State
-assigned_of (Count n) table x = value (with_registers (table n) x)
-assigned_of (Refused k) table x = bad k
-
--- how many there are then, of so many before
-abbrev pub count_assigned : Assigned → ℕ → ℕ
-count_assigned (Count n) c = n
-count_assigned (Refused k) c = c
-
--- a refusal leaves the columns as they were
-abbrev pub RegistersKeptRefused : Assigned → (fs ss : List ℕ) → (vs ts : List ℤ) → (fs' ss' : List ℕ) → (vs' ts' : List ℤ) → Type 0
-RegistersKeptRefused (Count n) fs ss vs ts fs' ss' vs' ts' = Unit
-RegistersKeptRefused (Refused k) fs ss vs ts fs' ss' vs' ts' = (fs' ≡ fs) × (ss' ≡ ss) × (vs' ≡ vs) × (ts' ≡ ts)
+-- how many registers there are then, of so many before
+abbrev pub register_count_after : Result ℕ Refusal → ℕ → ℕ
+register_count_after (Ok n) before = n
+register_count_after (Err f) before = before
 
 -- in any state these registers become what the rules say; the columns stay a table, and a refusal leaves them
-pub record AssignRefines (fs ss : List ℕ) (vs ts : List ℤ) (count : ℕ) (act : State → Judged State) (r : Assigned) (fs' ss' : List ℕ) (vs' ts' : List ℤ) : Type 0 where
-  pub is : (x : State) → assigned_of r (table_of fs' ss' vs' ts') x ≡ act (with_registers (table_of fs ss vs ts count) x)
-  pub table : RegistersInvariant fs' ss' vs' ts' (count_assigned r count)
-  pub kept : RegistersKeptRefused r fs ss vs ts fs' ss' vs' ts'
+pub record AssignRefines (fs ss : List ℕ) (vs ts : List ℤ) (count : ℕ) (act : State → Judged State) (r : Result ℕ Refusal) (fs' ss' : List ℕ) (vs' ts' : List ℤ) : Type 0 where
+  pub is : (x : State) → judged_by (λ n. with_registers (table_of fs' ss' vs' ts' n) x) r ≡ act (with_registers (table_of fs ss vs ts count) x)
+  pub table : RegistersInvariant fs' ss' vs' ts' (register_count_after r count)
+  pub kept : OnErr r ((fs' ≡ fs) × (ss' ≡ ss) × (vs' ≡ vs) × (ts' ≡ ts))
 
 -- nr of a name
 abbrev pub assigns_to : Printer → (new step : List ℕ) → Name → State → Judged State

@@ -1,9 +1,8 @@
 -- `falls`: each piece of work lowers the load (Load.antt) and keeps its limits; a byte adds less than `byte_load`. Assumes nothing.
-use Rattle.std.specs.Prelude.{◌≡◌, Bool, ◌&&◌, ℕ, zero, suc, ◌+◌, ◌-◌, ◌*◌, ◌<◌, ◌≤◌, ltb, eqb, length, ℤ, pos, negsuc}
+use Rattle.std.specs.Prelude.{◌≡◌, Bool, ◌&&◌, ℕ, zero, suc, ◌+◌, ◌-◌, ◌*◌, ◌<◌, ◌≤◌, ltb, eqb, length, ℤ, pos, negsuc, Option, None, Some}
 use Rattle.std.proofs.Math.Path.{refl, ap}
 use Rattle.std.proofs.Common.{sym, subst, arith, eqb-true, ltb-true}
 use Rattle.std.proofs.Math.Bool.{true, false}
-use Rattle.std.proofs.Math.Option.{Option, none, some}
 use mathlib.Core.List.{List, [], ◌∷◌, ◌++◌}
 use Rattle.std.proofs.Math.Dec.{leb}
 use Rattle.rules.specs.Printers.{Printer}
@@ -44,8 +43,8 @@ use Rattle.rules.specs.Session.{leave, read_line, work, with_begun, gather, take
 use Rattle.rules.specs.Load.{Good, line_load, fresh_load, item_load, stack_load, collected_load, first_load, end_load, base_load, weigh, load, byte_load, formatter}
 
 weigh_le : (c : Option Closing) (n : ℕ) → weigh c n ≤ suc n
-weigh_le none n = omega arith
-weigh_le (some a) n = omega arith
+weigh_le None n = omega arith
+weigh_le (Some a) n = omega arith
 
 end_le : (t : Bool) → end_load t ≤ 1025102
 end_le true = omega arith
@@ -80,8 +79,8 @@ call_low t args held s m g h =
 
 spring_text_low : (t : Option Text) (held : List Item) (s : State) (m : ℕ) → Good s
     → base_load s + stack_load (held ++ s.input.stack) + 2 < m → Under m (spring_text t held s)
-spring_text_low none held s m g h = under (with_stack (held ++ s.input.stack) s) m g (omega arith)
-spring_text_low (some t) held s m g h = call_low t [] held s m g h
+spring_text_low None held s m g h = under (with_stack (held ++ s.input.stack) s) m g (omega arith)
+spring_text_low (Some t) held s m g h = call_low t [] held s m g h
 
 spring_low : (r : ℕ) (held : List Item) (s : State) (m : ℕ) → Good s
     → base_load s + stack_load (held ++ s.input.stack) + 2 < m → Under m (spring r held s)
@@ -120,9 +119,9 @@ unfolding down
 down_low n held s m g h = reach_low (ltb (s.page.used + n) s.layout.page) n held s m g refl h
 
 -- a break, sp, bp and the end
-break_low : (c : Collected) (held : List Item) (s : State) (m : ℕ) → Good s → s.collected ≡ some c
-    → base_load s + stack_load (held ++ s.input.stack) ≤ m → Under m (down 1 held (with_collected none s))
-break_low c held s m g e h = down_low 1 held (with_collected none s) m g (omega (arith, ap collected_load e))
+break_low : (c : Collected) (held : List Item) (s : State) (m : ℕ) → Good s → s.collected ≡ Some c
+    → base_load s + stack_load (held ++ s.input.stack) ≤ m → Under m (down 1 held (with_collected None s))
+break_low c held s m g e h = down_low 1 held (with_collected None s) m g (omega (arith, ap collected_load e))
 
 rows_below_lem : (s : State) → Good s → 0 < rows_below s
 rows_below_lem s g = let h = nearest_above s.layout.page s.page.used s.layout.page s.tables.traps g.0 in omega arith
@@ -221,7 +220,7 @@ module _ (p : Printer) where
   abbrev Low : Next → ℕ → Type 0
   Low x m = Below (formatter p) Good x m
 
-  broken_low : (c : Collected) (held : List Item) (s : State) (m : ℕ) → Good s → s.collected ≡ some c
+  broken_low : (c : Collected) (held : List Item) (s : State) (m : ℕ) → Good s → s.collected ≡ Some c
       → base_load s + stack_load (held ++ s.input.stack) ≤ m → Low (break c held s) m
   unfolding break
   broken_low c held s m g e h = break_low c held s m g e h
@@ -263,9 +262,9 @@ module _ (p : Printer) where
 
   end_from_low : (c : Option Collected) (r : ℕ) (s : State) (m : ℕ) → Good s → s.collected ≡ c → s.page.last ≡ true
       → base_load s + stack_load s.input.stack < m → Low (end_from c r s) m
-  end_from_low (some c) r s m g e f h = broken_low c [] s m g e (omega arith)
-  end_from_low none zero s m g e f h = close_low done s m g (omega arith)
-  end_from_low none (suc r) s m g e f h = eject_last_low s m g f h
+  end_from_low (Some c) r s m g e f h = broken_low c [] s m g e (omega arith)
+  end_from_low None zero s m g e f h = close_low done s m g (omega arith)
+  end_from_low None (suc r) s m g e f h = eject_last_low s m g f h
 
   begin_end_low : (s : State) (m : ℕ) → Good s → base_load s + stack_load s.input.stack < m → Low (begin_end s) m
   unfolding begin_end
@@ -273,17 +272,17 @@ module _ (p : Printer) where
 
   -- a text line
   filled_low : (x : Placed) (g : ℕ) (s : State) (k m : ℕ) → Good s → Shorter k x
-      → base_load (with_collected none s) + 1100 + stack_load s.input.stack + 2000 * k + 103 < m → Low (filled x g s) m
-  filled_low (all_placed c) g s k m h sh i = under (with_collected (some (with_next g c)) s) m h (omega arith)
+      → base_load (with_collected None s) + 1100 + stack_load s.input.stack + 2000 * k + 103 < m → Low (filled x g s) m
+  filled_low (all_placed c) g s k m h sh i = under (with_collected (Some (with_next g c)) s) m h (omega arith)
   filled_low (full c w ws) g s k m h sh i =
-      down_low 1 (others_of ws g) (with_collected (some (with_next (next_gap ws g) (begin s.layout w))) (with_layout (begunLayout s.layout) s)) m h
+      down_low 1 (others_of ws g) (with_collected (Some (with_next (next_gap ws g) (begin s.layout w))) (with_layout (begunLayout s.layout) s)) m h
       (omega (arith, others_load ws g s.input.stack))
 
   fill_from_low : (c : Option Collected) (w : Word) (ws : List Word) (g : ℕ) (s : State) (m : ℕ) → Good s → s.collected ≡ c
       → base_load s + stack_load s.input.stack + line_load (suc (length ws)) < m → Low (fill_from c w ws g s) m
-  fill_from_low none w ws g s m h e i =
+  fill_from_low None w ws g s m h e i =
       filled_low (place (begin s.layout w) ws) g (with_layout (begunLayout s.layout) s) (length ws) m h (place_shorter (begin s.layout w) ws) (omega arith)
-  fill_from_low (some c) w ws g s m h e i =
+  fill_from_low (Some c) w ws g s m h e i =
       filled_low (place c (w ∷ ws)) g s (suc (length ws)) m h (place_shorter c (w ∷ ws)) (omega (arith, ap collected_load e))
 
   fill_low : (ws : List Word) (g : ℕ) (s : State) (m : ℕ) → Good s → base_load s + stack_load s.input.stack + line_load (length ws) < m → Low (fill ws g s) m
@@ -292,10 +291,10 @@ module _ (p : Printer) where
   fill_low (w ∷ ws) g s m h i = fill_from_low s.collected w ws g s m h refl i
 
   blank_low : (c : Option Collected) (s : State) (m : ℕ) → Good s → s.collected ≡ c → base_load s + stack_load s.input.stack + 1101 < m → Low (blank_from c s) m
-  blank_low none s m g e h = skip_low (pos 1) s m g (omega arith)
-  blank_low (some c) s m g e h = broken_low c (acts Sp [] ∷ []) s m g e (omega arith)
+  blank_low None s m g e h = skip_low (pos 1) s m g (omega arith)
+  blank_low (Some c) s m g e h = broken_low c (acts Sp [] ∷ []) s m g e (omega arith)
 
-  breaks_low : (t : Bool) (c : Collected) (ws : List Word) (l : List ℕ) (s : State) (m : ℕ) → Good s → s.collected ≡ some c → length ws ≤ length l
+  breaks_low : (t : Bool) (c : Collected) (ws : List Word) (l : List ℕ) (s : State) (m : ℕ) → Good s → s.collected ≡ Some c → length ws ≤ length l
       → base_load s + stack_load s.input.stack + line_load (length l) < m → Low (text_way (breaks_if t c) ws l s) m
   breaks_low true c ws l s m g e n h = broken_low c (again (plain_text l) ∷ []) s m g e (omega arith)
   breaks_low false c ws l s m g e n h =
@@ -305,11 +304,11 @@ module _ (p : Printer) where
       → length ws ≤ length l → base_load s + stack_load s.input.stack + line_load (length l) < m → Low (text_way (text_line_case q ws c t) ws l s) m
   way_low zero ws c t l s m g d e n h = start_page_low (again (plain_text l) ∷ []) s m g (omega (arith, ap first_load d))
   way_low (suc q) [] c t l s m g d e n h = blank_low s.collected s m g refl (omega arith)
-  way_low (suc q) (w ∷ ws) none true l s m g d e n h = down_low 1 [] (with_layout (counted s.layout) s) m g (omega arith)
-  way_low (suc q) (w ∷ ws) none false l s m g d e n h =
+  way_low (suc q) (w ∷ ws) None true l s m g d e n h = down_low 1 [] (with_layout (counted s.layout) s) m g (omega arith)
+  way_low (suc q) (w ∷ ws) None false l s m g d e n h =
       fill_low (after (gap_here s.collected) (standing (w ∷ ws))) (gap_after (w ∷ ws)) s m g (omega arith)
-  way_low (suc q) (w ∷ ws) (some c) true l s m g d e n h = breaks_low true c (w ∷ ws) l s m g e n h
-  way_low (suc q) (w ∷ ws) (some c) false l s m g d e n h = breaks_low (leads (w ∷ ws)) c (w ∷ ws) l s m g e n h
+  way_low (suc q) (w ∷ ws) (Some c) true l s m g d e n h = breaks_low true c (w ∷ ws) l s m g e n h
+  way_low (suc q) (w ∷ ws) (Some c) false l s m g d e n h = breaks_low (leads (w ∷ ws)) c (w ∷ ws) l s m g e n h
 
   text_low : (l : List ℕ) (s : State) (m : ℕ) → Good s → base_load s + stack_load s.input.stack + line_load (length l) < m → Low (text_line l s) m
   unfolding text_line
@@ -364,8 +363,8 @@ module _ (p : Printer) where
   register_every (b ∷ v) l s n m g h = write_every (predefined n) (b ∷ v) l s n m g h
 
   define_every : (f : Option Part) (i : Bool) (s : State) (m : ℕ) → Good s → suc (base_load s + stack_load s.input.stack) < m → Every (Under m) (define_from f i s)
-  define_every none i s m g h = every_value (under s m g h)
-  define_every (some f) i s m g h =
+  define_every None i s m g h = every_value (under s m g h)
+  define_every (Some f) i s m g h =
       name_every (name_of f.part) s (define_text s (written_back i (string_text f.rest))) m g h
       (λ n. every (free s n) _ (λ k. every (define_string k (written_back i (string_text f.rest)) s.tables.texts) _ (λ ts. every_value (under (with_texts ts s) m g h))))
 
@@ -401,7 +400,7 @@ module _ (p : Printer) where
   change_every De l s m g h =
       name_every (name_of (argument_at 0 l)) s (open_text s) m g h
       (λ n. every (free s n) _ (λ k. every (open_macro k s.tables.texts) _
-      (λ ts. every_value (under (with_opened (some (record { name = k; body = [] })) (with_texts ts s)) m g h))))
+      (λ ts. every_value (under (with_opened (Some (record { name = k; body = [] })) (with_texts ts s)) m g h))))
   change_every Rm l s m g h =
       name_every (name_of (argument_at 0 l)) s (remove_text s) m g h
       (λ n. remove_every (is_there (text_of n s.tables.texts)) s n m g h)
@@ -419,8 +418,8 @@ module _ (p : Printer) where
 
   break_or_act_low : (q : Bool) (c : Option Collected) (r : Breaking) (l : List ℕ) (s : State) (m : ℕ) → Good s → s.collected ≡ c
       → base_load s + stack_load s.input.stack + 1101 < m → Low (break_or_act p q c r l s) m
-  break_or_act_low true (some c) r l s m g e h = broken_low c (held_after r l) s m g e (omega (arith, held_load (traits r).acts (acts r l) s.input.stack))
-  break_or_act_low true none r l s m g e h = act_low r l s m g (omega arith)
+  break_or_act_low true (Some c) r l s m g e h = broken_low c (held_after r l) s m g e (omega (arith, held_load (traits r).acts (acts r l) s.input.stack))
+  break_or_act_low true None r l s m g e h = act_low r l s m g (omega arith)
   break_or_act_low false c r l s m g e h = act_low r l s m g (omega arith)
 
   request_low : (a b q : Bool) (r : Breaking) (n : Name) (l : List ℕ) (s : State) (m : ℕ) → Good s → eqb s.page.number 0 ≡ a
@@ -476,16 +475,16 @@ module _ (p : Printer) where
 
   body_low : (t : Bool) (d : Definition) (args : List (List ℕ)) (l : List ℕ) (s : State) (m : ℕ) → Good s
       → base_load s + stack_load s.input.stack + fresh_load < m → Low (body_line p t d args l s) m
-  body_low true d args l s m g h = under (with_opened none (with_texts (close_macro d.name d.body s.tables.texts) s)) m g (omega arith)
+  body_low true d args l s m g h = under (with_opened None (with_texts (close_macro d.name d.body s.tables.texts) s)) m g (omega arith)
   body_low false d args l s m g h =
       scan_low (expand p args Copy 0 l s) s (keep_body p d) m 0 g (omega arith) (expand_fits args Copy 0 l s)
       (λ e u v w z. given_low (keep_line u.tables.texts d.body e) u _ m v (omega arith)
-      (λ body. under (with_opened (some (record { name = d.name; body = body })) u) m v (omega arith)))
+      (λ body. under (with_opened (Some (record { name = d.name; body = body })) u) m v (omega arith)))
 
   deal_from_low : (o : Option Definition) (args : List (List ℕ)) (l : List ℕ) (s : State) (m : ℕ) → Good s
       → base_load s + stack_load s.input.stack + fresh_load < m → Low (deal_from p o args l s) m
-  deal_from_low (some d) args l s m g h = body_low (is_closing l) d args l s m g h
-  deal_from_low none args l s m g h = fresh_low (line_of l) args s m g h
+  deal_from_low (Some d) args l s m g h = body_low (is_closing l) d args l s m g h
+  deal_from_low None args l s m g h = fresh_low (line_of l) args s m g h
 
   deal_low : (args : List (List ℕ)) (l : List ℕ) (s : State) (m : ℕ) → Good s → base_load s + stack_load s.input.stack + fresh_load < m → Low (deal p args l s) m
   unfolding deal
@@ -493,8 +492,8 @@ module _ (p : Printer) where
 
   -- the input stack
   leave_low : (o : Option Definition) (s : State) (m : ℕ) → Good s → suc (base_load s + stack_load s.input.stack) < m → Low (leave o s) m
-  leave_low none s m g h = under s m g h
-  leave_low (some d) s m g h = refuse_low 8 s m g (omega arith)
+  leave_low None s m g h = under s m g h
+  leave_low (Some d) s m g h = refuse_low 8 s m g (omega arith)
 
   read_low : (t : Bool) (args : List (List ℕ)) (l : List ℕ) (s : State) (m : ℕ) → Good s → ltb s.input.stored 10000 ≡ t
       → base_load s + stack_load s.input.stack < m → Low (read_line p t args l s) m
@@ -543,19 +542,19 @@ module _ (p : Printer) where
   end_low true s m g e h = eject_last_low s m g e h
 
   idle_low : (t : Bool) (o : Option Definition) (s : State) (m : ℕ) → Good s → s.input.ended ≡ t → base_load s + stack_load s.input.stack < m → Low (idle p t o s) m
-  idle_low true (some d) s m g e h = refuse_low 8 s m g (omega arith)
-  idle_low true none s m g e h = end_low s.page.last s m g refl h
+  idle_low true (Some d) s m g e h = refuse_low 8 s m g (omega arith)
+  idle_low true None s m g e h = end_low s.page.last s m g refl h
   idle_low false o s m g e h = (read_end_low s m g e (omega arith), λ b. byte_low b s (byte_load + m) g (omega arith))
 
   -- the number of a state that is not closed
-  number : (s : State) → s.closing ≡ none → load s ≡ suc (base_load s + stack_load s.input.stack)
+  number : (s : State) → s.closing ≡ None → load s ≡ suc (base_load s + stack_load s.input.stack)
   unfolding load
   number s e = ap (λ c. weigh c (base_load s + stack_load s.input.stack)) e
 
   step_from_low : (c : Option Closing) (k : List Item) (s : State) → Good s → s.closing ≡ c → s.input.stack ≡ k → Low (step_from p c k s) (load s)
-  step_from_low (some a) k s g e f = tt
-  step_from_low none [] s g e f = idle_low s.input.ended s.tables.opened s (load s) g refl (omega (arith, number s e))
-  step_from_low none (i ∷ k) s g e f = work_low i (with_stack k s) (load s) g (omega (arith, number s e, ap stack_load f))
+  step_from_low (Some a) k s g e f = tt
+  step_from_low None [] s g e f = idle_low s.input.ended s.tables.opened s (load s) g refl (omega (arith, number s e))
+  step_from_low None (i ∷ k) s g e f = work_low i (with_stack k s) (load s) g (omega (arith, number s e, ap stack_load f))
 
   -- The law that the machine asks of the rules.
   pub falls : Falls (formatter p) Good

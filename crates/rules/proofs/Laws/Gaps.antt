@@ -1,7 +1,6 @@
 -- Where a line, the texts and the arguments hold no code of a gap start, no word of the expanded line does, so `gaps` counts gaps. Assumes nothing.
-use Rattle.std.specs.Prelude.{◌≡◌, refl, Bool, ◌&&◌, List, [], ◌∷◌, ◌++◌, eqb, leb, ltb, length, get_or, replicate, ℤ, pos, negsuc}
+use Rattle.std.specs.Prelude.{◌≡◌, refl, Bool, ◌&&◌, List, [], ◌∷◌, ◌++◌, eqb, leb, ltb, length, get_or, replicate, ℤ, pos, negsuc, Option, None, Some}
 use Rattle.std.proofs.Math.Bool.{true, false}
-use Rattle.std.proofs.Math.Option.{Option, none, some}
 use Prim.Native.Nat.{ℕ, zero, suc, ◌+◌, ◌-◌, ◌/◌, ◌%◌, ◌≤◌, min}
 use Rattle.std.proofs.Common.{arith, ne_eqb}
 use Rattle.rules.specs.Bytes.{byte, bytes, space, backslash, mark, fixed_blank, gap_start, first_where, entry}
@@ -102,8 +101,8 @@ write_clear true l s h i = (h, i)
 write_clear false l s h i = tt
 
 enter_clear : (o : Option Text) (s : Scan) → OfSome (λ t. Clear t.bytes) o → Each Clear s.unread → ClearEffect (enter o s)
-enter_clear none s h i = (tt, i)
-enter_clear (some t) s h i = elim t.kind as (λ k. ClearEffect (enter (some (text t.name k t.bytes)) s))
+enter_clear None s h i = (tt, i)
+enter_clear (Some t) s h i = elim t.kind as (λ k. ClearEffect (enter (Some (text t.name k t.bytes)) s))
     [ Macro ↦ tt | String ↦ elim (leb (length s.unread) 8) as (λ x. ClearEffect (enter_by x t.bytes s)) [ true ↦ (tt, (h, i)) | false ↦ tt ] ]
 
 next_clear : (u : List (List ℕ)) (s : Scan) → Each Clear u → ClearNext (next_byte u s)

@@ -1,14 +1,11 @@
 -- Laws of numbers: every value is within ±1,000,000,000, and the readers' count of steps does not matter. Assumes nothing.
-use Rattle.std.specs.Prelude.{◌≡◌, Bool, true, false, List, [], ◌∷◌, eqb, length, drop, get_or, ℤ, pos, neg_ℤ}
+use Rattle.std.specs.Prelude.{◌≡◌, Bool, true, false, List, [], ◌∷◌, eqb, length, drop, get_or, ℤ, pos, neg_ℤ, Option, None, Some}
 use Rattle.std.proofs.Math.Path.{refl, ap}
 use Rattle.std.proofs.Common.{sym, ◌∙◌, arith, ne_eqb}
-use Rattle.std.proofs.Math.Option.{Option, none, some}
 use Prim.Native.Nat.{ℕ, zero, suc, ◌+◌, ◌-◌, ◌*◌, ◌≤◌, ◌<◌}
 use Rattle.measure.specs.declared.Pitch.{Pitch}
 use Rattle.measure.specs.declared.Scale.{Scale}
 use Rattle.measure.specs.declared.Scale.TheVariants.{LineSpace, Unit as BasicUnit}
-use Rattle.measure.specs.declared.MaybeScale.{MaybeScale}
-use Rattle.measure.specs.declared.MaybeScale.TheVariants.{Some, None}
 use Rattle.measure.specs.Scales.{scale_of, literal_of}
 use Rattle.measure.specs.RoundingLaws.{abs_neg, no_larger}
 use Rattle.rules.specs.Bytes.{byte, first_where, in_table}
@@ -59,7 +56,7 @@ module _ (p : Pitch) where
   scaled_bounded : (s : Scale) (n : ℕ) (l : List ℕ) → Every BoundedRead (scaled p s n l)
   scaled_bounded s n l = every_of _ (within_bounded (pos (literal_of p s n))) (λ z h. every_value h)
 
-  scaled_or_bounded : (m : MaybeScale) (d : Scale) (n b : ℕ) (l : List ℕ) → Every BoundedRead (scaled_or p m d n b l)
+  scaled_or_bounded : (m : Option Scale) (d : Scale) (n b : ℕ) (l : List ℕ) → Every BoundedRead (scaled_or p m d n b l)
   scaled_or_bounded (Some s) d n b l = scaled_bounded s n l
   scaled_or_bounded None d n b l = scaled_bounded d n (b ∷ l)
 
@@ -174,8 +171,8 @@ start_size_lem [] = omega arith
 start_size_lem (b ∷ l) = start_by_size (is_digit b) b l
 
 joins_or_size : (o : Option Operator) (l : List ℕ) (j : Joint) (n : ℕ) → length l < n → joint_size j ≤ n → joint_size (joins_or o l j) ≤ n
-joins_or_size none l j n h i = i
-joins_or_size (some o) l j n h i = h
+joins_or_size None l j n h i = i
+joins_or_size (Some o) l j n h i = h
 
 -- an operator stands within the unread bytes
 pub joint_size_lem : (l : List ℕ) → joint_size (joint_of l) ≤ length l
@@ -202,7 +199,7 @@ module _ (p : Pitch) where
   scaled_rest : (s : Scale) (n : ℕ) (l : List ℕ) (k : ℕ) → length l ≤ k → Every (Rest k) (scaled p s n l)
   scaled_rest s n l k h = every (within (pos (literal_of p s n))) _ (λ z. every_value h)
 
-  scaled_or_rest : (m : MaybeScale) (d : Scale) (n b : ℕ) (l : List ℕ) (k : ℕ) → length l < k → Every (Rest k) (scaled_or p m d n b l)
+  scaled_or_rest : (m : Option Scale) (d : Scale) (n b : ℕ) (l : List ℕ) (k : ℕ) → length l < k → Every (Rest k) (scaled_or p m d n b l)
   scaled_or_rest (Some s) d n b l k h = scaled_rest s n l k (omega arith)
   scaled_or_rest None d n b l k h = scaled_rest d n (b ∷ l) k h
 
@@ -348,11 +345,11 @@ module _ (p : Pitch) (d : Scale) where
   evaluate_fuel n l h = evaluate_any (term p d) (onward p d) (record { terms = term_step; onwards = onward_step }) n l h
 
 -- An operator in a line. One byte, where no operator of two begins with it.
-one_by : (t : Bool) (b : ℕ) (l : List ℕ) (j : Joint) → in_table operators_before_equal b ≡ none → joins_or (operator_before t b) l j ≡ j
+one_by : (t : Bool) (b : ℕ) (l : List ℕ) (j : Joint) → in_table operators_before_equal b ≡ None → joins_or (operator_before t b) l j ≡ j
 one_by true b l j h = rw h
 one_by false b l j h = refl
 
-pub joint_one : (b : ℕ) (l : List ℕ) → in_table operators_before_equal b ≡ none → joint_of (b ∷ l) ≡ one_byte_joint b l
+pub joint_one : (b : ℕ) (l : List ℕ) → in_table operators_before_equal b ≡ None → joint_of (b ∷ l) ≡ one_byte_joint b l
 unfolding joint_of
 joint_one b [] h = refl
 joint_one b (c ∷ l) h = one_by (eqb c (byte "=")) b l (one_byte_joint b (c ∷ l)) h
@@ -364,7 +361,7 @@ joint_alone b [] h = refl
 joint_alone b (c ∷ l) h = rw (ne_eqb c (byte "=") h)
 
 -- Two bytes.
-pub joint_two : (b : ℕ) (o : Operator) (l : List ℕ) → in_table operators_before_equal b ≡ some o → joint_of (b ∷ byte "=" ∷ l) ≡ joins o l
+pub joint_two : (b : ℕ) (o : Operator) (l : List ℕ) → in_table operators_before_equal b ≡ Some o → joint_of (b ∷ byte "=" ∷ l) ≡ joins o l
 unfolding joint_of
 joint_two b o l h = rw h
 

@@ -1,8 +1,7 @@
 -- "once the end is read, no byte is taken": a state whose end was read never asks for one. Assumes nothing.
-use Rattle.std.specs.Prelude.{◌≡◌, Bool, false, ◌&&◌, List, [], ◌∷◌, ℕ, zero, suc, eqb, ltb, ℤ, pos, negsuc}
+use Rattle.std.specs.Prelude.{◌≡◌, Bool, false, ◌&&◌, List, [], ◌∷◌, ℕ, zero, suc, eqb, ltb, ℤ, pos, negsuc, Option, None, Some}
 use Rattle.std.proofs.Common.{sym, subst}
 use Rattle.std.proofs.Math.Bool.{true}
-use Rattle.std.proofs.Math.Option.{Option, none, some}
 use Rattle.stream.specs.Answers.{Closing}
 use Rattle.stream.specs.Machine.{works, asks, closed}
 use Rattle.rules.specs.Printers.{Printer}
@@ -65,9 +64,9 @@ end_on true s = last_on s
 end_on false s = go s.collected s.page.used
   where
     go : (c : Option Collected) (r : ℕ) → NeverAsks (end_from c r (last_page s))
-    go (some c) r = break_on c [] (last_page s)
-    go none zero = tt
-    go none (suc r) = last_on (last_page s)
+    go (Some c) r = break_on c [] (last_page s)
+    go None zero = tt
+    go None (suc r) = last_on (last_page s)
 
 -- text lines
 filled_on : (x : Placed) (g : ℕ) (s : State) → NeverAsks (filled x g s)
@@ -80,12 +79,12 @@ fill_on [] g s = tt
 fill_on (w ∷ ws) g s = go s.collected
   where
     go : (o : Option Collected) → NeverAsks (fill_from o w ws g s)
-    go none = filled_on (place (begin s.layout w) ws) g (with_layout (begun s.layout) s)
-    go (some c) = filled_on (place c (w ∷ ws)) g s
+    go None = filled_on (place (begin s.layout w) ws) g (with_layout (begun s.layout) s)
+    go (Some c) = filled_on (place c (w ∷ ws)) g s
 
 blank_on : (o : Option Collected) (s : State) → NeverAsks (blank_from o s)
-blank_on none s = skip_on (pos 1) s
-blank_on (some c) s = break_on c _ s
+blank_on None s = skip_on (pos 1) s
+blank_on (Some c) s = break_on c _ s
 
 text_on : (l : List ℕ) (s : State) → NeverAsks (text_line l s)
 unfolding text_line
@@ -114,8 +113,8 @@ module _ (p : Printer) where
   settles_on j s = given_on j s _ (λ v. tt)
 
   break_or_act_on : (q : Bool) (c : Option Collected) (r : Breaking) (l : List ℕ) (s : State) → NeverAsks (break_or_act p q c r l s)
-  break_or_act_on true (some c) r l s = break_on c _ s
-  break_or_act_on true none r l s = act_on r l s
+  break_or_act_on true (Some c) r l s = break_on c _ s
+  break_or_act_on true None r l s = act_on r l s
   break_or_act_on false c r l s = act_on r l s
 
   start_on : (t q : Bool) (r : Breaking) (n : Name) (l : List ℕ) (s : State) → NeverAsks (start_or_break p t q r n l s)
@@ -160,12 +159,12 @@ module _ (p : Printer) where
   deal_on args l s = go s.tables.opened
     where
       go : (o : Option Definition) → NeverAsks (deal_from p o args l s)
-      go (some d) = body_on (is_closing l) d args l s
-      go none = fresh_on (line_of l) args s
+      go (Some d) = body_on (is_closing l) d args l s
+      go None = fresh_on (line_of l) args s
 
   leave_on : (o : Option Definition) (s : State) → NeverAsks (leave o s)
-  leave_on none s = tt
-  leave_on (some d) s = tt
+  leave_on None s = tt
+  leave_on (Some d) s = tt
 
   read_on_lem : (t : Bool) (args : List (List ℕ)) (l : List ℕ) (s : State) → NeverAsks (read_line p t args l s)
   read_on_lem true args l s = deal_on args l (with_stored (suc s.input.stored) s)
@@ -186,10 +185,10 @@ module _ (p : Printer) where
   ended_never_asks s h = go s.closing s.input.stack
     where
       idle_on : (o : Option Definition) → NeverAsks (idle p true o s)
-      idle_on (some d) = tt
-      idle_on none = end_on s.page.last s
+      idle_on (Some d) = tt
+      idle_on None = end_on s.page.last s
 
       go : (c : Option Closing) (k : List Item) → NeverAsks (step_from p c k s)
-      go (some a) k = tt
-      go none [] = subst (λ (t : Bool). NeverAsks (idle p t s.tables.opened s)) (sym h) (idle_on s.tables.opened)
-      go none (i ∷ k) = work_on i (with_stack k s)
+      go (Some a) k = tt
+      go None [] = subst (λ (t : Bool). NeverAsks (idle p t s.tables.opened s)) (sym h) (idle_on s.tables.opened)
+      go None (i ∷ k) = work_on i (with_stack k s)

@@ -1,6 +1,5 @@
 -- A scan keeps the registers' names, order and bounds; how long what it writes can be. Assumes nothing.
-use Rattle.std.specs.Prelude.{Bool, true, false, List, [], ◌∷◌, length, get_or, leb}
-use Rattle.std.proofs.Math.Option.{Option, none, some}
+use Rattle.std.specs.Prelude.{Bool, true, false, List, [], ◌∷◌, length, get_or, leb, Option, None, Some}
 use Prim.Native.Nat.{ℕ, zero, suc, ◌-◌, ◌*◌, ◌≤◌}
 use Rattle.std.proofs.Common.{arith, length-append}
 use Rattle.rules.specs.declared.Name.{Name}
@@ -51,13 +50,13 @@ module _ (w : Surroundings) (m : Mode) (P : List Register → Type 0)
   enter_by_keeps true l s h = h
   enter_by_keeps false l s h = h
 
-  enter_kept : (k : Kind) (n : Name) (l : List ℕ) (s : Scan) → P s.registers → P (registers_of (enter (some (text n k l)) s))
+  enter_kept : (k : Kind) (n : Name) (l : List ℕ) (s : Scan) → P s.registers → P (registers_of (enter (Some (text n k l)) s))
   enter_kept Macro n l s h = h
   enter_kept String n l s h = enter_by_keeps (leb (length s.unread) 8) l s h
 
   enter_keeps : (t : Option Text) (s : Scan) → P s.registers → P (registers_of (enter t s))
-  enter_keeps none s h = h
-  enter_keeps (some t) s h = enter_kept t.kind t.name t.bytes s h
+  enter_keeps None s h = h
+  enter_keeps (Some t) s h = enter_kept t.kind t.name t.bytes s h
 
   show_keeps : {r : Reference} (s : Scan) → P s.registers → Every (λ x. P x.1) r → P (registers_of (show_it r s))
   show_keeps s h (every_value {a = x} i) = write_keeps (leb (length (decimal x.0)) s.room) (decimal x.0) (with_scan_registers x.1 s) i

@@ -1,7 +1,6 @@
 -- An expanded line fits: "3: .. expanded line passes 512 bytes" is the only way out. Assumes nothing.
-use Rattle.std.specs.Prelude.{◌≡◌, refl, Bool, true, false, List, [], ◌∷◌, ℕ, zero, suc, ◌+◌, ◌-◌, ◌≤◌, length, get_or, leb}
+use Rattle.std.specs.Prelude.{◌≡◌, refl, Bool, true, false, List, [], ◌∷◌, ℕ, zero, suc, ◌+◌, ◌-◌, ◌≤◌, length, get_or, leb, Option, None, Some}
 use Rattle.std.proofs.Common.{subst, arith, length-append, leb-true}
-use Rattle.std.proofs.Math.Option.{Option, none, some}
 use Rattle.rules.specs.declared.Name.{Name}
 use Rattle.rules.specs.Refusals.{value, bad}
 use Rattle.rules.specs.Bytes.{backslash}
@@ -39,13 +38,13 @@ enter_by_within : (t : Bool) (l : List ℕ) (s : Scan) → Within s.room (enter_
 enter_by_within true l s = omega arith
 enter_by_within false l s = tt
 
-enter_kind : (k : Kind) (n : Name) (l : List ℕ) (s : Scan) → Within s.room (enter (some (text n k l)) s)
+enter_kind : (k : Kind) (n : Name) (l : List ℕ) (s : Scan) → Within s.room (enter (Some (text n k l)) s)
 enter_kind Macro n l s = tt
 enter_kind String n l s = enter_by_within (leb (length s.unread) 8) l s
 
 enter_within : (t : Option Text) (s : Scan) → Within s.room (enter t s)
-enter_within none s = omega arith
-enter_within (some t) s = enter_kind t.kind t.name t.bytes s
+enter_within None s = omega arith
+enter_within (Some t) s = enter_kind t.kind t.name t.bytes s
 
 show_within : (r : Reference) (s : Scan) → Within s.room (show_it r s)
 show_within (value x) s = write_within (leb (length (decimal x.0)) s.room) (decimal x.0) (with_scan_registers x.1 s) refl

@@ -1,7 +1,6 @@
 -- Laws of the registers' table: what was put is found under its name, every other name is found as before, and the table stays in order and within its bounds. Assumes nothing.
-use Rattle.std.specs.Prelude.{◌≡◌, refl, Bool, true, false, ◌&&◌, List, [], ◌∷◌, suc, ◌≤◌, ◌<◌, eqb, ltb, leb, length, ℤ, pos, nat_abs, ◌+ℤ◌, ◌-ℤ◌}
+use Rattle.std.specs.Prelude.{◌≡◌, refl, Bool, true, false, ◌&&◌, List, [], ◌∷◌, suc, ◌≤◌, ◌<◌, eqb, ltb, leb, length, ℤ, pos, nat_abs, ◌+ℤ◌, ◌-ℤ◌, Option, None, Some}
 use Rattle.std.proofs.Common.{sym, ap, ◌∙◌, subst, arith, eqb-true, ltb-true, ltb-false}
-use Rattle.std.proofs.Math.Option.{Option, none, some}
 use Rattle.std.proofs.lemmas.Bool.{eqb-false}
 use Rattle.rules.specs.declared.Name.{Name}
 use Rattle.rules.specs.Names.{same_name, Order, earlier, same, later, order, order_by}
@@ -72,12 +71,12 @@ after_distinct : (n m : Name) → Before m n → same_name n m ≡ false
 after_distinct n m b = distinct n m (λ e f. omega (arith, b.1 (omega arith)))
 
 -- what was put is found under its name
-pub found_put : (r : Register) (rs : List Register) → register_of r.name (put r rs) ≡ some r
+pub found_put : (r : Register) (rs : List Register) → register_of r.name (put r rs) ≡ Some r
 unfolding register_of put first_where
 found_put r [] = rw (register_of, first_where, same_self r.name)
 found_put r (x ∷ xs) = go (order r.name x.name) refl (means r.name x.name) (found_put r xs)
   where
-    go : (o : Order) → order r.name x.name ≡ o → Means o r.name x.name → register_of r.name (put r xs) ≡ some r → register_of r.name (put r (x ∷ xs)) ≡ some r
+    go : (o : Order) → order r.name x.name ≡ o → Means o r.name x.name → register_of r.name (put r xs) ≡ Some r → register_of r.name (put r (x ∷ xs)) ≡ Some r
     go earlier e h ih = rw (put, e, register_of, first_where, same_self r.name)
     go same e h ih = rw (put, e, register_of, first_where, same_self r.name)
     go later e h ih = rw (put, e, register_of, first_where, after_distinct r.name x.name h) ih
@@ -127,7 +126,7 @@ ahead_trans n m [] b h = tt
 ahead_trans n m (k ∷ l) b h = before_order n k (before_trans n m k b (order_before m k h))
 
 -- a name that stands before all is not found
-pub not_found : (n : Name) (rs : List Register) → Ahead n (names rs) → Sorted rs → register_of n rs ≡ none
+pub not_found : (n : Name) (rs : List Register) → Ahead n (names rs) → Sorted rs → register_of n rs ≡ None
 unfolding register_of first_where
 not_found n [] a s = refl
 not_found n (x ∷ xs) a s =
@@ -168,24 +167,24 @@ put_length r (x ∷ xs) = go (order r.name x.name) (put_length r xs)
     go later ih = omega arith
 
 -- a register whose name is there already is replaced: the names stay as they are
-pub put_names : (r x : Register) (rs : List Register) → Sorted rs → register_of r.name rs ≡ some x → names (put r rs) ≡ names rs
+pub put_names : (r x : Register) (rs : List Register) → Sorted rs → register_of r.name rs ≡ Some x → names (put r rs) ≡ names rs
 unfolding register_of put first_where
 put_names r x [] s e = cc
 put_names r x (y ∷ ys) s e = go (order r.name y.name) (means r.name y.name) (put_names r x ys s.1)
   where
-    go : (o : Order) → Means o r.name y.name → (register_of r.name ys ≡ some x → names (put r ys) ≡ names ys)
+    go : (o : Order) → Means o r.name y.name → (register_of r.name ys ≡ Some x → names (put r ys) ≡ names ys)
         → names (put_by o r y ys) ≡ names (y ∷ ys)
     go earlier h ih = let i = not_found r.name (y ∷ ys) (before_order r.name y.name h) s in cc
     go same h ih = ap (λ n. n ∷ names ys) h
     go later h ih = ap (λ l. y.name ∷ l) (ih (rw (register_of, first_where, after_distinct r.name y.name h) at e))
 
 -- a register whose name is not there makes the table one longer
-pub put_new : (r : Register) (rs : List Register) → register_of r.name rs ≡ none → length (put r rs) ≡ suc (length rs)
+pub put_new : (r : Register) (rs : List Register) → register_of r.name rs ≡ None → length (put r rs) ≡ suc (length rs)
 unfolding register_of put first_where
 put_new r [] e = refl
 put_new r (y ∷ ys) e = go (order r.name y.name) (means r.name y.name) (put_new r ys)
   where
-    go : (o : Order) → Means o r.name y.name → (register_of r.name ys ≡ none → length (put r ys) ≡ suc (length ys))
+    go : (o : Order) → Means o r.name y.name → (register_of r.name ys ≡ None → length (put r ys) ≡ suc (length ys))
         → length (put_by o r y ys) ≡ suc (suc (length ys))
     go earlier h ih = refl
     go same h ih = let i = rw (register_of, first_where, subst (λ m. same_name r.name m ≡ true) h (same_self r.name)) at e in cc
@@ -229,8 +228,8 @@ unfolding shown
 shown_bounded s n b = go (first_where (λ e. same_name n e.0) read_only) (first_each (λ e. Bounded (e.1 s)) (λ e. same_name n e.0) read_only (omega arith))
   where
     go : (o : Option (Name × (Seen → ℤ))) → OfSome (λ e. Bounded (e.1 s)) o → OfSome (λ f. Bounded (f s)) (entry_of o)
-    go none h = tt
-    go (some e) h = h
+    go None h = tt
+    go (Some e) h = h
 
 -- nr keeps the bounds
 pub set_bounded : (n : Name) (v s : ℤ) (rs : List Register) → Bounded v → Bounded s → BoundedTable rs → Every BoundedTable (set_value n v s rs)
@@ -238,18 +237,18 @@ unfolding set_value
 set_bounded n v s rs h i b =
     judge_every (leb (length (put (register n v s) rs)) 64) 11 (put (register n v s) rs) (put_bounded (register n v s) rs (h, i) b)
 
-to_names : (r : Register) (z : ℤ) (rs : List Register) → Sorted rs → register_of r.name rs ≡ some r → Every (λ x. names x.1 ≡ names rs) (step_to r z rs)
+to_names : (r : Register) (z : ℤ) (rs : List Register) → Sorted rs → register_of r.name rs ≡ Some r → Every (λ x. names x.1 ≡ names rs) (step_to r z rs)
 to_names r z rs s e = every (within z) _ (λ v. every_value (put_names (register r.name v r.step) r rs s e))
 
 refer_names : (t : Turn) (f : Option (Seen → ℤ)) (u : Option Register) (s : Seen) (rs : List Register) → Sorted rs
-    → OfSome (λ r. register_of r.name rs ≡ some r) u → Every (λ x. names x.1 ≡ names rs) (refer_by t f u s rs)
-refer_names Still (some f) u s rs h i = every_value refl
-refer_names Up (some f) u s rs h i = every_refused
-refer_names Down (some f) u s rs h i = every_refused
-refer_names t none none s rs h i = every_value refl
-refer_names Still none (some r) s rs h i = every_value refl
-refer_names Up none (some r) s rs h i = to_names r (r.value +ℤ r.step) rs h i
-refer_names Down none (some r) s rs h i = to_names r (r.value -ℤ r.step) rs h i
+    → OfSome (λ r. register_of r.name rs ≡ Some r) u → Every (λ x. names x.1 ≡ names rs) (refer_by t f u s rs)
+refer_names Still (Some f) u s rs h i = every_value refl
+refer_names Up (Some f) u s rs h i = every_refused
+refer_names Down (Some f) u s rs h i = every_refused
+refer_names t None None s rs h i = every_value refl
+refer_names Still None (Some r) s rs h i = every_value refl
+refer_names Up None (Some r) s rs h i = to_names r (r.value +ℤ r.step) rs h i
+refer_names Down None (Some r) s rs h i = to_names r (r.value -ℤ r.step) rs h i
 
 -- and are as many
 pub same_length : (rs qs : List Register) → names qs ≡ names rs → length qs ≡ length rs
@@ -260,13 +259,13 @@ to_bounded r z rs h b = every_of _ (within_bounded z) (λ v i. every_value (i, p
 
 refer_bounded : (t : Turn) (f : Option (Seen → ℤ)) (u : Option Register) (s : Seen) (rs : List Register) → BoundedTable rs → OfSome (λ f. Bounded (f s)) f
     → OfSome BoundedRegister u → Every (λ x. Bounded x.0 × BoundedTable x.1) (refer_by t f u s rs)
-refer_bounded Still (some f) u s rs b h i = every_value (h, b)
-refer_bounded Up (some f) u s rs b h i = every_refused
-refer_bounded Down (some f) u s rs b h i = every_refused
-refer_bounded t none none s rs b h i = every_value {a = (pos 0, rs)} (omega arith, b)
-refer_bounded Still none (some r) s rs b h i = every_value (i.0, b)
-refer_bounded Up none (some r) s rs b h i = to_bounded r (r.value +ℤ r.step) rs i b
-refer_bounded Down none (some r) s rs b h i = to_bounded r (r.value -ℤ r.step) rs i b
+refer_bounded Still (Some f) u s rs b h i = every_value (h, b)
+refer_bounded Up (Some f) u s rs b h i = every_refused
+refer_bounded Down (Some f) u s rs b h i = every_refused
+refer_bounded t None None s rs b h i = every_value {a = (pos 0, rs)} (omega arith, b)
+refer_bounded Still None (Some r) s rs b h i = every_value (i.0, b)
+refer_bounded Up None (Some r) s rs b h i = to_bounded r (r.value +ℤ r.step) rs i b
+refer_bounded Down None (Some r) s rs b h i = to_bounded r (r.value -ℤ r.step) rs i b
 
 -- what a reference gives is bounded, and so are the registers after it
 pub step_bounded : (s : Seen) (t : Turn) (n : Name) (rs : List Register) → BoundedSeen s → BoundedTable rs

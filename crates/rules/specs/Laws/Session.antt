@@ -1,6 +1,5 @@
 -- Laws of a session's closing and of the bytes it takes. Assumes nothing.
-use Rattle.std.specs.Prelude.{◌≡◌, refl, false, ◌&&◌, List, [], ◌∷◌, ◌++◌, ℕ, suc, ◌<◌, ◌≤◌, leb, length}
-use Rattle.std.proofs.Math.Option.{none}
+use Rattle.std.specs.Prelude.{◌≡◌, refl, false, ◌&&◌, List, [], ◌∷◌, ◌++◌, ℕ, suc, ◌<◌, ◌≤◌, leb, length, None}
 use Rattle.std.proofs.Common.{arith, lt-ltb, le-ltb, le-leb, ne_eqb}
 use Rattle.std.proofs.lemmas.Bool.{lt-leb}
 use Rattle.stream.specs.Answers.{Closing, refused}
@@ -22,11 +21,11 @@ unfolding step
 step_refuse p n s = refl
 
 -- Sanity: a closing drops the collected line.
-pub close_drops : (a : Closing) (s : State) → (close a s).collected ≡ none
+pub close_drops : (a : Closing) (s : State) → (close a s).collected ≡ None
 close_drops a s = refl
 
 -- Sanity: "A refusal drops the collected line".
-pub refuse_drops : (n : ℕ) (s : State) → (refuse n s).collected ≡ none
+pub refuse_drops : (n : ℕ) (s : State) → (refuse n s).collected ≡ None
 refuse_drops n s = refl
 
 -- To begin a source line takes none of its bytes away.

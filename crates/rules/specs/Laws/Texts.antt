@@ -1,7 +1,6 @@
 -- Laws of the texts' table: what was defined is found, what was removed is not, every other name is found as before, and the limits hold. Assumes nothing.
-use Rattle.std.specs.Prelude.{◌≡◌, refl, Bool, true, false, ◌&&◌, List, [], ◌∷◌, ◌++◌, ℕ, suc, ◌+◌, ◌≤◌, leb, ltb, length}
+use Rattle.std.specs.Prelude.{◌≡◌, refl, Bool, true, false, ◌&&◌, List, [], ◌∷◌, ◌++◌, ℕ, suc, ◌+◌, ◌≤◌, leb, ltb, length, Option, None, Some}
 use Rattle.std.proofs.Common.{sym, ap, ◌∙◌, arith}
-use Rattle.std.proofs.Math.Option.{Option, none, some}
 use Rattle.rules.specs.declared.Name.{Name}
 use Rattle.rules.specs.declared.Kind.TheVariants.{Macro, String}
 use Rattle.rules.specs.Bytes.{first_where}
@@ -14,10 +13,10 @@ use Rattle.rules.specs.Texts.{Text, text, text_of, remove, live, define_string_i
 -- No two texts have one name.
 abbrev pub Distinct : List Text → Type 0
 Distinct [] = Unit
-Distinct (t ∷ ts) = (text_of t.name ts ≡ none) × Distinct ts
+Distinct (t ∷ ts) = (text_of t.name ts ≡ None) × Distinct ts
 
 -- A text of the name is found.
-pub found_first : (n : Name) (t : Text) (ts : List Text) → same_name n t.name ≡ true → text_of n (t ∷ ts) ≡ some t
+pub found_first : (n : Name) (t : Text) (ts : List Text) → same_name n t.name ≡ true → text_of n (t ∷ ts) ≡ Some t
 unfolding text_of first_where
 found_first n t ts h = rw (text_of, first_where, h)
 
@@ -27,7 +26,7 @@ unfolding text_of first_where
 found_later n t ts h = rw (text_of, first_where, h)
 
 -- Where a name is not found, the first text has another.
-pub none_first : (n : Name) (t : Text) (ts : List Text) → text_of n (t ∷ ts) ≡ none → same_name n t.name ≡ false
+pub none_first : (n : Name) (t : Text) (ts : List Text) → text_of n (t ∷ ts) ≡ None → same_name n t.name ≡ false
 none_first n t ts h = go (same_name n t.name) refl
   where
     go : (b : Bool) → same_name n t.name ≡ b → b ≡ false
@@ -35,7 +34,7 @@ none_first n t ts h = go (same_name n t.name) refl
     go false e = refl
 
 -- Nor do the later texts have it.
-pub none_later : (n : Name) (t : Text) (ts : List Text) → text_of n (t ∷ ts) ≡ none → text_of n ts ≡ none
+pub none_later : (n : Name) (t : Text) (ts : List Text) → text_of n (t ∷ ts) ≡ None → text_of n ts ≡ None
 none_later n t ts h = sym (found_later n t ts (none_first n t ts h)) ∙ h
 
 -- A text of the name goes.
@@ -49,12 +48,12 @@ unfolding remove
 remove_later n t ts h = rw (remove, h)
 
 -- A name that was removed is not found.
-pub gone_remove : (n : Name) (ts : List Text) → Distinct ts → text_of n (remove n ts) ≡ none
+pub gone_remove : (n : Name) (ts : List Text) → Distinct ts → text_of n (remove n ts) ≡ None
 unfolding remove text_of
 gone_remove n [] h = refl
 gone_remove n (t ∷ ts) h = go (same_name n t.name) refl (gone_remove n ts h.1)
   where
-    go : (b : Bool) → same_name n t.name ≡ b → text_of n (remove n ts) ≡ none → text_of n (remove n (t ∷ ts)) ≡ none
+    go : (b : Bool) → same_name n t.name ≡ b → text_of n (remove n ts) ≡ None → text_of n (remove n (t ∷ ts)) ≡ None
     go true e ih = rw (remove_first n t ts e, same_one n t.name e) h.0
     go false e ih = rw (remove_later n t ts e, found_later n t (remove n ts) e) ih
 
@@ -71,23 +70,23 @@ kept_remove m n (t ∷ ts) d = go (same_name n t.name) (same_name m t.name) refl
     go false false e f ih = rw (remove_later n t ts e, found_later m t (remove n ts) f, found_later m t ts f) ih
 
 -- If no text has the name, nothing is removed.
-pub remove_none : (n : Name) (ts : List Text) → text_of n ts ≡ none → remove n ts ≡ ts
+pub remove_none : (n : Name) (ts : List Text) → text_of n ts ≡ None → remove n ts ≡ ts
 unfolding remove
 remove_none n [] h = refl
 remove_none n (t ∷ ts) h = rw (remove_later n t ts (none_first n t ts h), remove_none n ts (none_later n t ts h))
 
 -- A search that goes forwards: a name that the first texts do not have is looked for in the others.
-pub found_on : (n : Name) (a b : List Text) → text_of n a ≡ none → text_of n (a ++ b) ≡ text_of n b
+pub found_on : (n : Name) (a b : List Text) → text_of n a ≡ None → text_of n (a ++ b) ≡ text_of n b
 found_on n [] b h = refl
 found_on n (u ∷ a) b h = rw (found_later n u (a ++ b) (none_first n u a h)) (found_on n a b (none_later n u a h))
 
 -- The first text of the name is removed, and it alone.
-pub remove_at : (n : Name) (a b : List Text) (t : Text) → text_of n a ≡ none → same_name n t.name ≡ true → remove n (a ++ t ∷ b) ≡ a ++ b
+pub remove_at : (n : Name) (a b : List Text) (t : Text) → text_of n a ≡ None → same_name n t.name ≡ true → remove n (a ++ t ∷ b) ≡ a ++ b
 remove_at n [] b t h e = remove_first n t b e
 remove_at n (u ∷ a) b t h e = rw (remove_later n u (a ++ t ∷ b) (none_first n u a h)) (ap (λ l. u ∷ l) (remove_at n a b t (none_later n u a h) e))
 
 -- A text at the end is found if none before it has its name.
-pub found_end : (t : Text) (ts : List Text) → text_of t.name ts ≡ none → text_of t.name (ts ++ t ∷ []) ≡ some t
+pub found_end : (t : Text) (ts : List Text) → text_of t.name ts ≡ None → text_of t.name (ts ++ t ∷ []) ≡ Some t
 found_end t ts h = found_on t.name ts (t ∷ []) h ∙ found_first t.name t [] (same_self t.name)
 
 -- Every name but that of the text at the end is found as before.
@@ -100,12 +99,12 @@ kept_end m t (u ∷ us) d = go (same_name m u.name) refl (kept_end m t us d)
     go false e ih = rw (found_later m u (us ++ t ∷ []) e, found_later m u us e) ih
 
 -- A name that is not found is not found after a remove.
-pub none_remove : (m n : Name) (ts : List Text) → text_of m ts ≡ none → text_of m (remove n ts) ≡ none
+pub none_remove : (m n : Name) (ts : List Text) → text_of m ts ≡ None → text_of m (remove n ts) ≡ None
 unfolding remove
 none_remove m n [] h = h
 none_remove m n (t ∷ ts) h = go (same_name n t.name) refl (none_remove m n ts (none_later m t ts h))
   where
-    go : (b : Bool) → same_name n t.name ≡ b → text_of m (remove n ts) ≡ none → text_of m (remove n (t ∷ ts)) ≡ none
+    go : (b : Bool) → same_name n t.name ≡ b → text_of m (remove n ts) ≡ None → text_of m (remove n (t ∷ ts)) ≡ None
     go true e ih = rw (remove_first n t ts e) (none_later m t ts h)
     go false e ih = rw (remove_later n t ts e, found_later m t (remove n ts) (none_first m t ts h)) ih
 
@@ -120,7 +119,7 @@ distinct_remove n (t ∷ ts) h = go (same_name n t.name) refl (distinct_remove n
     go false e ih = rw (remove_later n t ts e) (none_remove t.name n ts h.0, ih)
 
 -- So does a new name at the end.
-pub distinct_end : (t : Text) (ts : List Text) → Distinct ts → text_of t.name ts ≡ none → Distinct (ts ++ t ∷ [])
+pub distinct_end : (t : Text) (ts : List Text) → Distinct ts → text_of t.name ts ≡ None → Distinct (ts ++ t ∷ [])
 unfolding text_of first_where
 distinct_end t [] d h = (refl, tt)
 distinct_end t (u ∷ us) d h =
@@ -137,7 +136,7 @@ unfolding open_macro
 open_is n ts us h = sym (judge_value (ltb (length (remove n ts)) 64) 11 (remove n ts) us h).1
 
 -- Sanity: after a ds its string is found under its name.
-pub found_define : (room : ℕ) (n : Name) (l : List ℕ) (ts us : List Text) → Distinct ts → define_string_in room n l ts ≡ value us → text_of n us ≡ some (text n String l)
+pub found_define : (room : ℕ) (n : Name) (l : List ℕ) (ts us : List Text) → Distinct ts → define_string_in room n l ts ≡ value us → text_of n us ≡ Some (text n String l)
 found_define room n l ts us d h = rw (define_is room n l ts us h) (found_end (text n String l) (remove n ts) (gone_remove n ts d))
 
 -- After a ds every other name is found as before.
@@ -149,7 +148,7 @@ pub distinct_define : (room : ℕ) (n : Name) (l : List ℕ) (ts us : List Text)
 distinct_define room n l ts us d h = rw (define_is room n l ts us h) (distinct_end (text n String l) (remove n ts) (distinct_remove n ts d) (gone_remove n ts d))
 
 -- After a de its name is not found: "A macro exists once closed".
-pub gone_open : (n : Name) (ts us : List Text) → Distinct ts → open_macro n ts ≡ value us → text_of n us ≡ none
+pub gone_open : (n : Name) (ts us : List Text) → Distinct ts → open_macro n ts ≡ value us → text_of n us ≡ None
 gone_open n ts us d h = rw (open_is n ts us h) (gone_remove n ts d)
 
 -- After a de every other name is found as before.
@@ -161,11 +160,11 @@ pub distinct_open : (n : Name) (ts us : List Text) → Distinct ts → open_macr
 distinct_open n ts us d h = rw (open_is n ts us h) (distinct_remove n ts d)
 
 -- Sanity: a closed macro is found under its name, if no other text has it.
-pub found_close : (n : Name) (body : List ℕ) (ts : List Text) → text_of n ts ≡ none → text_of n (close_macro n body ts) ≡ some (text n Macro body)
+pub found_close : (n : Name) (body : List ℕ) (ts : List Text) → text_of n ts ≡ None → text_of n (close_macro n body ts) ≡ Some (text n Macro body)
 found_close n body ts h = found_end (text n Macro body) ts h
 
 -- A closed macro keeps the names distinct, if no other text has its name.
-pub distinct_close : (n : Name) (body : List ℕ) (ts : List Text) → Distinct ts → text_of n ts ≡ none → Distinct (close_macro n body ts)
+pub distinct_close : (n : Name) (body : List ℕ) (ts : List Text) → Distinct ts → text_of n ts ≡ None → Distinct (close_macro n body ts)
 distinct_close n body ts d h = distinct_end (text n Macro body) ts d h
 
 -- The live text of two lists is that of each.
@@ -175,12 +174,12 @@ live_append [] b = omega arith
 live_append (t ∷ a) b = omega (arith, live_append a b)
 
 -- `remove` takes the bytes of the text found away from the live text.
-pub live_remove : (n : Name) (ts : List Text) (t : Text) → text_of n ts ≡ some t → live (remove n ts) + length t.bytes ≡ live ts
+pub live_remove : (n : Name) (ts : List Text) (t : Text) → text_of n ts ≡ Some t → live (remove n ts) + length t.bytes ≡ live ts
 unfolding live text_of first_where remove
 live_remove n [] t h = let z : ◌≡◌ {A = ℕ} 0 1 = cc in absurd (omega arith)
 live_remove n (u ∷ us) t h = go (same_name n u.name) refl (live_remove n us t)
   where
-    go : (b : Bool) → same_name n u.name ≡ b → (text_of n us ≡ some t → live (remove n us) + length t.bytes ≡ live us)
+    go : (b : Bool) → same_name n u.name ≡ b → (text_of n us ≡ Some t → live (remove n us) + length t.bytes ≡ live us)
         → live (remove n (u ∷ us)) + length t.bytes ≡ live (u ∷ us)
     go true e ih = let f = found_first n u us e in let g : u ≡ t = cc in rw (remove_first n u us e) (omega (arith, ap (λ x. length x.bytes) g))
     go false e ih = let f = ih (sym (found_later n u us e) ∙ h) in rw (remove_later n u us e) (omega arith)
@@ -200,8 +199,8 @@ pub remove_lighter : (n : Name) (ts : List Text) → live (remove n ts) ≤ live
 remove_lighter n ts = go (text_of n ts) refl
   where
     go : (o : Option Text) → text_of n ts ≡ o → live (remove n ts) ≤ live ts
-    go none e = rw (remove_none n ts e) (omega arith)
-    go (some t) e = omega (arith, live_remove n ts t e)
+    go None e = rw (remove_none n ts e) (omega arith)
+    go (Some t) e = omega (arith, live_remove n ts t e)
 
 -- "11: .. 65th name .. or live text past 8,192 bytes": the limits of the table.
 abbrev pub TextsWithin : List Text → Type 0

@@ -1,7 +1,6 @@
 -- Laws of the traps: at most one for each N, the trap that a row has, and the nearest trap below a row. Assumes nothing.
-use Rattle.std.specs.Prelude.{◌≡◌, refl, Bool, true, false, ◌&&◌, List, [], ◌∷◌, ◌++◌, ℕ, suc, ◌<◌, ◌≤◌, ltb, eqb, length, ℤ, pos, negsuc}
+use Rattle.std.specs.Prelude.{◌≡◌, refl, Bool, true, false, ◌&&◌, List, [], ◌∷◌, ◌++◌, ℕ, suc, ◌<◌, ◌≤◌, ltb, eqb, length, ℤ, pos, negsuc, Option, None, Some}
 use Rattle.std.proofs.Common.{sym, ap, ◌∙◌, subst, arith, eqb-true, eq-eqb, ltb-true, ltb-false, ne_eqb}
-use Rattle.std.proofs.Math.Option.{Option, none, some}
 use Rattle.rules.specs.declared.Name.{Name}
 use Rattle.rules.specs.Numbers.{equal_z}
 use Rattle.rules.specs.Traps.{row_of, is_row, seen_at, lower, nearer, nearest_trap, plant, remove_trap}
@@ -158,7 +157,7 @@ gone_remove_trap p (t ∷ ts) h = go (equal_z p t.place.0) refl (gone_remove_tra
     go false e ih = rw (remove_on p t ts e) (e, ih)
 
 -- A row's trap is the first that stands at it.
-pub seen_first : (pl r : ℕ) (t : Trap) (ts : List Trap) → is_row r (row_of pl t.place.0) ≡ true → seen_at pl r (t ∷ ts) ≡ some t.name
+pub seen_first : (pl r : ℕ) (t : Trap) (ts : List Trap) → is_row r (row_of pl t.place.0) ≡ true → seen_at pl r (t ∷ ts) ≡ Some t.name
 unfolding seen_at
 seen_first pl r t ts h = rw (seen_at, h)
 
@@ -168,23 +167,23 @@ unfolding seen_at
 seen_later pl r t ts h = rw (seen_at, h)
 
 -- A search that goes forwards: where no trap was seen, the next at the row is.
-pub seen_at_lem : (pl r : ℕ) (a b : List Trap) → seen_at pl r a ≡ none → seen_at pl r (a ++ b) ≡ seen_at pl r b
+pub seen_at_lem : (pl r : ℕ) (a b : List Trap) → seen_at pl r a ≡ None → seen_at pl r (a ++ b) ≡ seen_at pl r b
 unfolding seen_at
 seen_at_lem pl r [] b h = refl
 seen_at_lem pl r (t ∷ a) b h = go (is_row r (row_of pl t.place.0)) refl (seen_at_lem pl r a b)
   where
-    go : (x : Bool) → is_row r (row_of pl t.place.0) ≡ x → (seen_at pl r a ≡ none → seen_at pl r (a ++ b) ≡ seen_at pl r b)
+    go : (x : Bool) → is_row r (row_of pl t.place.0) ≡ x → (seen_at pl r a ≡ None → seen_at pl r (a ++ b) ≡ seen_at pl r b)
         → seen_at pl r (t ∷ (a ++ b)) ≡ seen_at pl r b
     go true e ih = let j = seen_first pl r t a e in let z : ◌≡◌ {A = ℕ} 0 1 = cc in absurd (omega arith)
     go false e ih = seen_later pl r t (a ++ b) e ∙ ih (sym (seen_later pl r t a e) ∙ h)
 
 -- Where one was seen, it is seen whatever follows.
-pub seen_kept : (pl r : ℕ) (a b : List Trap) (n : Name) → seen_at pl r a ≡ some n → seen_at pl r (a ++ b) ≡ some n
+pub seen_kept : (pl r : ℕ) (a b : List Trap) (n : Name) → seen_at pl r a ≡ Some n → seen_at pl r (a ++ b) ≡ Some n
 unfolding seen_at
 seen_kept pl r [] b n h = let z : ◌≡◌ {A = ℕ} 0 1 = cc in absurd (omega arith)
 seen_kept pl r (t ∷ a) b n h = go (is_row r (row_of pl t.place.0)) refl (seen_kept pl r a b n)
   where
-    go : (x : Bool) → is_row r (row_of pl t.place.0) ≡ x → (seen_at pl r a ≡ some n → seen_at pl r (a ++ b) ≡ some n) → seen_at pl r (t ∷ (a ++ b)) ≡ some n
+    go : (x : Bool) → is_row r (row_of pl t.place.0) ≡ x → (seen_at pl r a ≡ Some n → seen_at pl r (a ++ b) ≡ Some n) → seen_at pl r (t ∷ (a ++ b)) ≡ Some n
     go true e ih = seen_first pl r t (a ++ b) e ∙ (sym (seen_first pl r t a e) ∙ h)
     go false e ih = seen_later pl r t (a ++ b) e ∙ ih (sym (seen_later pl r t a e) ∙ h)
 
@@ -202,19 +201,19 @@ seen_plant_other pl r p n (t ∷ ts) h = go (equal_z p t.place.0) (is_row r (row
     go false false e f ih = rw (plant_on p n t ts e, seen_later pl r t (plant p n ts) f, seen_later pl r t ts f) ih
 
 -- A trap planted at a row that had none is seen there.
-pub seen_plant : (pl r : ℕ) (p : ℤ) (n : Name) (ts : List Trap) → is_row r (row_of pl p) ≡ true → seen_at pl r ts ≡ none → seen_at pl r (plant p n ts) ≡ some n
+pub seen_plant : (pl r : ℕ) (p : ℤ) (n : Name) (ts : List Trap) → is_row r (row_of pl p) ≡ true → seen_at pl r ts ≡ None → seen_at pl r (plant p n ts) ≡ Some n
 unfolding plant
 seen_plant pl r p n [] h i = seen_first pl r (trap p n) [] h
 seen_plant pl r p n (t ∷ ts) h i = go (equal_z p t.place.0) (is_row r (row_of pl t.place.0)) refl refl (seen_plant pl r p n ts h)
   where
-    go : (a b : Bool) → equal_z p t.place.0 ≡ a → is_row r (row_of pl t.place.0) ≡ b → (seen_at pl r ts ≡ none → seen_at pl r (plant p n ts) ≡ some n)
-        → seen_at pl r (plant p n (t ∷ ts)) ≡ some n
+    go : (a b : Bool) → equal_z p t.place.0 ≡ a → is_row r (row_of pl t.place.0) ≡ b → (seen_at pl r ts ≡ None → seen_at pl r (plant p n ts) ≡ Some n)
+        → seen_at pl r (plant p n (t ∷ ts)) ≡ Some n
     go true b e f ih = rw (plant_here p n t ts e) (seen_first pl r (trap p n) ts h)
     go false true e f ih = let j = seen_first pl r t ts f in let z : ◌≡◌ {A = ℕ} 0 1 = cc in absurd (omega arith)
     go false false e f ih = rw (plant_on p n t ts e, seen_later pl r t (plant p n ts) f) (ih (sym (seen_later pl r t ts f) ∙ i))
 
 -- Sanity: "of two at one row the earlier planted is seen": where a row has a trap, a new N changes nothing.
-pub seen_plant_second : (pl r : ℕ) (p : ℤ) (n m : Name) (ts : List Trap) → Lacks p ts → seen_at pl r ts ≡ some m → seen_at pl r (plant p n ts) ≡ some m
+pub seen_plant_second : (pl r : ℕ) (p : ℤ) (n m : Name) (ts : List Trap) → Lacks p ts → seen_at pl r ts ≡ Some m → seen_at pl r (plant p n ts) ≡ Some m
 seen_plant_second pl r p n m ts h i = rw (plant_new p n ts h) (seen_kept pl r ts (trap p n ∷ []) m i)
 
 -- A trap removed at another row changes nothing at this one.
@@ -231,8 +230,8 @@ seen_remove_other pl r p (t ∷ ts) h = go (equal_z p t.place.0) (is_row r (row_
 
 -- the same four of one trap's row, or else the best so far
 nearer_above : (r : ℕ) (o : Option ℕ) (best : ℕ) → r < best → r < nearer r o best
-nearer_above r none best h = h
-nearer_above r (some n) best h = go (ltb r n) (ltb n best) refl
+nearer_above r None best h = h
+nearer_above r (Some n) best h = go (ltb r n) (ltb n best) refl
   where
     go : (a b : Bool) → ltb r n ≡ a → r < lower (a && b) n best
     go true true e = ltb-true r n e
@@ -240,8 +239,8 @@ nearer_above r (some n) best h = go (ltb r n) (ltb n best) refl
     go false b e = h
 
 nearer_most : (r : ℕ) (o : Option ℕ) (best : ℕ) → nearer r o best ≤ best
-nearer_most r none best = omega arith
-nearer_most r (some n) best = go (ltb r n) (ltb n best) refl
+nearer_most r None best = omega arith
+nearer_most r (Some n) best = go (ltb r n) (ltb n best) refl
   where
     go : (a b : Bool) → ltb n best ≡ b → lower (a && b) n best ≤ best
     go true true e = omega (arith, ltb-true n best e)
@@ -249,16 +248,16 @@ nearer_most r (some n) best = go (ltb r n) (ltb n best) refl
     go false b e = omega arith
 
 nearer_there : (r : ℕ) (o : Option ℕ) (best : ℕ) → nearer r o best < best → is_row (nearer r o best) o ≡ true
-nearer_there r none best h = absurd (omega arith)
-nearer_there r (some n) best h = go (ltb r n && ltb n best) h
+nearer_there r None best h = absurd (omega arith)
+nearer_there r (Some n) best h = go (ltb r n && ltb n best) h
   where
     go : (a : Bool) → lower a n best < best → eqb (lower a n best) n ≡ true
     go true h = eq-eqb n n refl
     go false h = absurd (omega arith)
 
 nearer_between : (r q : ℕ) (o : Option ℕ) (best : ℕ) → r < q → q < nearer r o best → is_row q o ≡ false
-nearer_between r q none best h i = refl
-nearer_between r q (some n) best h i = ne_eqb q n (λ e. go (ltb r n) (ltb n best) refl refl e i)
+nearer_between r q None best h i = refl
+nearer_between r q (Some n) best h i = ne_eqb q n (λ e. go (ltb r n) (ltb n best) refl refl e i)
   where
     go : (a b : Bool) → ltb r n ≡ a → ltb n best ≡ b → q ≡ n → q < lower (a && b) n best → ⊥
     go true true e f g i = omega arith
@@ -285,7 +284,7 @@ nearest_most pl r best (t ∷ ts) =
     omega (arith, nearest_most pl r (nearer r (row_of pl t.place.0) best) ts, nearer_most r (row_of pl t.place.0) best)
 
 -- Where it is less than that, a trap is there.
-pub nearest_there : (pl r best : ℕ) (ts : List Trap) → nearest_trap pl r best ts < best → (n : Name) × (seen_at pl (nearest_trap pl r best ts) ts ≡ some n)
+pub nearest_there : (pl r best : ℕ) (ts : List Trap) → nearest_trap pl r best ts < best → (n : Name) × (seen_at pl (nearest_trap pl r best ts) ts ≡ Some n)
 unfolding nearest_trap
 nearest_there pl r best [] h = absurd (omega arith)
 nearest_there pl r best (t ∷ ts) h = go (is_row near (row_of pl t.place.0)) (ltb near first) refl refl (nearest_there pl r first ts)
@@ -296,8 +295,8 @@ nearest_there pl r best (t ∷ ts) h = go (is_row near (row_of pl t.place.0)) (l
     near : ℕ
     near = nearest_trap pl r first ts
 
-    go : (a b : Bool) → is_row near (row_of pl t.place.0) ≡ a → ltb near first ≡ b → (near < first → (n : Name) × (seen_at pl near ts ≡ some n))
-        → (n : Name) × (seen_at pl near (t ∷ ts) ≡ some n)
+    go : (a b : Bool) → is_row near (row_of pl t.place.0) ≡ a → ltb near first ≡ b → (near < first → (n : Name) × (seen_at pl near ts ≡ Some n))
+        → (n : Name) × (seen_at pl near (t ∷ ts) ≡ Some n)
     go true b e f ih = (t.name, seen_first pl near t ts e)
     go false true e f ih = let g = ih (ltb-true near first f) in (g.0, seen_later pl near t ts e ∙ g.1)
     go false false e f ih =
@@ -307,7 +306,7 @@ nearest_there pl r best (t ∷ ts) h = go (is_row near (row_of pl t.place.0)) (l
         let y : ◌≡◌ {A = ℕ} 0 1 = cc in absurd (omega arith)
 
 -- No trap is between the row and it.
-pub nearest_between : (pl r q best : ℕ) (ts : List Trap) → r < q → q < nearest_trap pl r best ts → seen_at pl q ts ≡ none
+pub nearest_between : (pl r q best : ℕ) (ts : List Trap) → r < q → q < nearest_trap pl r best ts → seen_at pl q ts ≡ None
 unfolding nearest_trap seen_at
 nearest_between pl r q best [] h i = refl
 nearest_between pl r q best (t ∷ ts) h i =

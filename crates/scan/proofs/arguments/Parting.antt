@@ -1,8 +1,8 @@
 -- One argument after the other: what is written stays, and the next stands behind it. Assumes nothing.
+use Rattle.std.specs.Prelude.{None, Some}
 use mathlib.Core.Path.{◌≡◌, refl, sym, ap, ◌∙◌, subst}
 use mathlib.Core.Bool.{Bool, true, false}
 use mathlib.Core.List.{List, [], ◌∷◌, ◌++◌, append_assoc, append-nil}
-use mathlib.Core.Option.{none, some}
 use Prim.Native.Nat.{ℕ, zero, suc, ◌+◌, ◌-◌, ◌≤◌, ◌<◌}
 use native.Mathlib.Numerals.{add-one}
 use native.Mathlib.Omega.{arith}
@@ -20,26 +20,26 @@ use Rattle.scan.proofs.arguments.Parts.{not_quote, quote_is}
 
 module _ (s : List ℕ) (at r : ℕ) (g : Spaces s at r) where
   -- behind the spaces: the end, a quoted argument, a bare one
-  pub no_first : length s ≤ r → first (drop at s) ≡ none
+  pub no_first : length s ≤ r → first (drop at s) ≡ None
   unfolding first
   no_first h = ap first_of (sym g.is ∙ nothing s r h)
 
-  pub quoted_first : r < length s → get_or s r 0 ≡ byte "\"" → first (drop at s) ≡ some (up_to quoted (drop (r + 1) s))
+  pub quoted_first : r < length s → get_or s r 0 ≡ byte "\"" → first (drop at s) ≡ Some (up_to quoted (drop (r + 1) s))
   unfolding first
-  quoted_first h e = ap first_of (sym g.is ∙ unread s r (byte "\"") h e) ∙ ap (λ k. some (first_by k (byte "\"") (drop (r + 1) s))) quote_is
+  quoted_first h e = ap first_of (sym g.is ∙ unread s r (byte "\"") h e) ∙ ap (λ k. Some (first_by k (byte "\"") (drop (r + 1) s))) quote_is
 
-  pub bare_first : r < length s → eqb (get_or s r 0) (byte "\"") ≡ false → first (drop at s) ≡ some (up_to bare (drop r s))
+  pub bare_first : r < length s → eqb (get_or s r 0) (byte "\"") ≡ false → first (drop at s) ≡ Some (up_to bare (drop r s))
   unfolding first
   bare_first h e =
       let u = unread s r (get_or s r 0) h refl in
-      ap first_of (sym g.is ∙ u) ∙ ap some (not_quote (get_or s r 0) (drop (r + 1) s) e) ∙ ap (λ l. some (up_to bare l)) (sym u)
+      ap first_of (sym g.is ∙ u) ∙ ap Some (not_quote (get_or s r 0) (drop (r + 1) s) e) ∙ ap (λ l. Some (up_to bare l)) (sym u)
 
 -- an argument that is parted is taken
-pub takes : (s : List ℕ) (at : ℕ) (out : List ℕ) (w : ℕ) (c : Cut) (out' : List ℕ) (p : Part) → first (drop at s) ≡ some p → out' ≡ sets out w p.part
+pub takes : (s : List ℕ) (at : ℕ) (out : List ℕ) (w : ℕ) (c : Cut) (out' : List ℕ) (p : Part) → first (drop at s) ≡ Some p → out' ≡ sets out w p.part
     → c.written ≡ w + length p.part → drop c.at s ≡ p.rest → c.at ≤ length s → c.written + at ≤ w + c.at → Took s at out w c out'
 takes s at out w c out' p f b n r i h = record {
   argument = p.part;
-  is = f ∙ ap (λ (l : List ℕ). some (part p.part l)) (sym r);
+  is = f ∙ ap (λ (l : List ℕ). Some (part p.part l)) (sym r);
   bytes = b;
   count = n;
   inside = i;
@@ -195,7 +195,7 @@ module _ (line : List ℕ) (at i : ℕ) (out ends : List ℕ) (count w : ℕ) (g
   }
 
   -- no argument more; nine
-  pub no_more : count < 9 → first (drop i line) ≡ none → PartedAll line at count out ends
+  pub no_more : count < 9 → first (drop i line) ≡ None → PartedAll line at count out ends
   unfolding arguments_up_to
   no_more h e =
       let k : 9 - count ≡ suc (9 - (count + 1)) = omega arith in

@@ -1,8 +1,8 @@
 -- An escape read at a time is what the rules read byte by byte. Assumes nothing.
+use Rattle.std.specs.Prelude.{Option, None, Some}
 use mathlib.Core.Path.{◌≡◌, refl, ap, ◌∙◌}
 use mathlib.Core.Bool.{Bool, true, false}
 use mathlib.Core.List.{List, [], ◌∷◌}
-use mathlib.Core.Option.{Option, none, some}
 use Prim.Native.Nat.{ℕ, zero, suc, ◌-◌}
 use native.Mathlib.Omega.{arith}
 use lib.Dec.{leb, leb-zero, leb-suc-suc, leb-suc-zero}
@@ -40,13 +40,13 @@ module _ (u : List (List ℕ)) (e : Escape) (room : ℕ) (rs : List Register) wh
   same_enter_by true l = refl
   same_enter_by false l = refl
 
-  same_kind : (k : Kind) (n : Name) (l : List ℕ) → enter (some (text n k l)) (at_escape u e room rs) ≡ enter (some (text n k l)) (scan_outside u room rs)
+  same_kind : (k : Kind) (n : Name) (l : List ℕ) → enter (Some (text n k l)) (at_escape u e room rs) ≡ enter (Some (text n k l)) (scan_outside u room rs)
   same_kind Macro n l = refl
   same_kind String n l = same_enter_by (leb (length u) 8) l
 
   same_enter : (t : Option Text) → enter t (at_escape u e room rs) ≡ enter t (scan_outside u room rs)
-  same_enter none = refl
-  same_enter (some t) = same_kind t.kind t.name t.bytes
+  same_enter None = refl
+  same_enter (Some t) = same_kind t.kind t.name t.bytes
 
 same_show : (r : Reference) (u : List (List ℕ)) (e : Escape) (room : ℕ) (rs : List Register) → show_it r (at_escape u e room rs) ≡ show_it r (scan_outside u room rs)
 same_show (value x) u e room rs = same_write_by u e room x.1 (leb (length (decimal x.0)) room) (decimal x.0)

@@ -36,10 +36,14 @@ module _ (l es : List ℕ) (count : ℕ) (a : Arguments l es count) (k : ℕ) wh
   taken = let h = a.ends_long in length-take-le count es (omega (arith, a.few))
 
   -- one that is there, and one that is not
-  pub argument_is : k < count → get_or (arguments_of l es count) k [] ≡ take (get_or es k 0 - begin_of es k) (drop (begin_of es k) l)
+  argument_is : k < count → get_or (arguments_of l es count) k [] ≡ take (get_or es k 0 - begin_of es k) (drop (begin_of es k) l)
   argument_is h =
       part 0 (take count es) l k (omega (arith, taken)) ∙ ap (λ (b : ℕ). take (get_or (take count es) k 0 - b) (drop b l)) (begins count es k h)
       ∙ ap (λ (e : ℕ). take (e - begin_of es k) (drop (begin_of es k) l)) (get_or-take count es k 0 h)
+
+  -- the same by the numbers of the code
+  pub argument_part : k < count → {b e : ℕ} → b ≡ begin_of es k → e ≡ get_or es k 0 → get_or (arguments_of l es count) k [] ≡ take (e - b) (drop b l)
+  argument_part h p q = rw (p, q) (argument_is h)
 
   pub argument_none : count ≤ k → get_or (arguments_of l es count) k [] ≡ []
   argument_none h = get_or-eq_default (arguments_of l es count) [] (omega (arith, cut_length 0 (take count es) l, taken))

@@ -7,13 +7,14 @@ use lib.ListN.{length, take, drop, get_or}
 use lib.Seq.{drop-drop}
 use lib.Dec.{leb}
 use borrow.Author.Tests.{le-leb, lt-leb}
+use Rattle.rules.specs.declared.Refusal.TheVariants.{DeepString}
 use Rattle.rules.specs.declared.Register.{Register}
 use Rattle.rules.specs.declared.Mode.{Mode}
 use Rattle.rules.specs.Escapes.{Surroundings, slash, written_before, next_byte, run}
 use Rattle.scan.specs.declared.escapes.Reading.{Reading}
 use Rattle.scan.specs.Escapes.Readings.{action_in, lone, ReadingIs}
 use Rattle.scan.specs.Output.Runs.{scan_outside, from, run_action, total, if_left}
-use Rattle.scan.specs.Output.Writes.{Passed, Stops}
+use Rattle.scan.specs.Output.Writes.{Passed}
 use Rattle.scan.specs.Expansion.Expansion.{BytesFilled, ReadOver, ReadEscape, StopsIn}
 use Rattle.scan.proofs.output.Places.{unread, nothing}
 use Rattle.scan.proofs.expansion.Escapes.{from_escape}
@@ -33,9 +34,6 @@ filled_by : {text : List ℕ} {at left written limit : ℕ} {out : List ℕ} {i 
 filled_by p = record { room = p.room; more = p.more; kept = p.kept }
 
 module _ {text : List ℕ} {at left written limit : ℕ} {out : List ℕ} where
-  pub next_stops : (m : Mode) {k : ℕ} {out' : List ℕ} → Stops text at left written limit out k out' → StopsIn m text at left written limit out k out'
-  next_stops m s = record { is = λ w u rs. s.is w m u rs; long = s.long }
-
   module _ {i l n : ℕ} {out' : List ℕ} (p : Passed text at left written limit out i l n out') where
     pub next_over : length text ≤ i → ReadOver text at left written limit out l n out'
     next_over h = record {
@@ -53,7 +51,7 @@ module _ {text : List ℕ} {at left written limit : ℕ} {out : List ℕ} where
           p.is w m u rs ∙ ap (λ t. written_before (take n out') (from w m l (t ∷ u) (limit - n) rs)) (unread text i 92 h b)
           ∙ ap (written_before (take n out')) (from_escape w m u (limit - n) rs (drop (i + 1) text) l (r.end - (i + 1)) (action_in r.what) e.is)
 
-      pub next_cut : l < r.end - i → StopsIn m text at left written limit out 4 out'
+      pub next_cut : l < r.end - i → StopsIn m text at left written limit out DeepString out'
       next_cut k = record {
         is = λ w u rs. escape w u rs ∙ rw (lt-leb (suc (r.end - (i + 1))) l (omega (arith, e.low)));
         long = p.room.long;

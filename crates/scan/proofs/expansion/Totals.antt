@@ -6,11 +6,12 @@ use native.Mathlib.Omega.{arith}
 use lib.ListN.{length, take, drop, get_or, set}
 use borrow.Author.Tests.{ne_eqb, le-leb, lt-leb}
 use Rattle.rules.specs.Bytes.{backslash, first_where}
+use Rattle.rules.specs.declared.Refusal.TheVariants.{LongLine, DeepString}
 use Rattle.rules.specs.declared.Register.{Register}
 use Rattle.rules.specs.declared.Mode.{Mode}
 use Rattle.rules.specs.Escapes.{Surroundings, Scanned, scanned, scan_refused, writes, action_of, written_before, run}
 use Rattle.scan.specs.Output.Runs.{from, run_action, total}
-use Rattle.scan.specs.Output.Writes.{Room, Put, Passed, Stops}
+use Rattle.scan.specs.Output.Writes.{Put, Passed, Stops}
 use Rattle.scan.proofs.output.Places.{unread}
 use Rattle.scan.proofs.output.Buffers.{later, put_none, put_one}
 
@@ -55,9 +56,6 @@ module _ (w : Surroundings) (m : Mode) where
 
 -- the text from a place on
 module _ {text : List ℕ} {at left written limit : ℕ} {out : List ℕ} where
-  pub pass_start : at ≤ length text → Room out written limit → Passed text at left written limit out at left written out
-  pass_start h r = record { is = λ w m u rs. refl; low = omega arith; high = h; room = r; more = omega arith; kept = refl }
-
   module _ {i l n : ℕ} {out' : List ℕ} (p : Passed text at left written limit out i l n out') (h : i < length text) where
     -- what is unread there
     here : (w : Surroundings) (m : Mode) (u : List (List ℕ)) (rs : List Register)
@@ -65,7 +63,7 @@ module _ {text : List ℕ} {at left written limit : ℕ} {out : List ℕ} where
     unfolding total
     here w m u rs = p.is w m u rs ∙ ap (λ t. written_before (take n out') (from w m l (t ∷ u) (limit - n) rs)) (unread text i (get_or text i 0) h refl)
 
-    pub stop_left : l ≡ 0 → Stops text at left written limit out 4 out'
+    pub stop_left : l ≡ 0 → Stops text at left written limit out DeepString out'
     stop_left z = record {
       is = λ w m u rs. here w m u rs ∙ ap (λ (k : ℕ). written_before (take n out') (from w m k ((get_or text i 0 ∷ drop (i + 1) text) ∷ u) (limit - n) rs)) z
           ∙ ap (written_before (take n out')) (none_left w m (get_or text i 0) (drop (i + 1) text) u (limit - n) rs);
@@ -81,7 +79,7 @@ module _ {text : List ℕ} {at left written limit : ℕ} {out : List ℕ} where
           here w m u rs ∙ ap (λ (k : ℕ). written_before (take n out') (from w m k ((get_or text i 0 ∷ drop (i + 1) text) ∷ u) (limit - n) rs)) y
           ∙ ap (written_before (take n out')) (plain_byte w m (get_or text i 0) (l - 1) (drop (i + 1) text) u (limit - n) rs b)
 
-      pub stop_room : limit ≤ n → Stops text at left written limit out 3 out'
+      pub stop_room : limit ≤ n → Stops text at left written limit out LongLine out'
       stop_room k = record {
         is = λ w m u rs. copies w m u rs ∙ full_total w m (get_or text i 0 ∷ []) (l - 1) (drop (i + 1) text ∷ u) rs out' n limit p.room.low (omega arith);
         long = p.room.long;

@@ -6,8 +6,7 @@ use native.Mathlib.Omega.{arith}
 use native.Mathlib.Numerals.{add-one}
 use lib.ListN.{length, take, drop, get_or, set, length-set, length-append, take-append-drop}
 use lib.Seq.{take-suc, take_all, take-suc-set, drop-set-lt, drop-drop}
-use Rattle.rules.specs.Bytes.{bytes, backslash, mark, fixed_blank, entry, first_where}
-use borrow.Author.Tests.{ne_eqb}
+use Rattle.rules.specs.Bytes.{bytes, backslash, mark, fixed_blank, entry}
 use Rattle.rules.specs.Escapes.{escaped}
 use Rattle.scan.specs.Output.Writes.{Room, Put}
 
@@ -66,14 +65,7 @@ next_byte_lem : (s : List ℕ) (i : ℕ) → i < length s → take i s ++ get_or
 next_byte_lem s i h = sym (ap (λ (k : ℕ). take k s) (add-one i) ∙ take-suc s i 0 h)
 
 module _ (s : List ℕ) (i : ℕ) {out : List ℕ} {written limit n : ℕ} {out' : List ℕ} where
-  -- a copy goes on, and is whole
-  pub copy_again : i < length s → n < limit → limit ≤ 512 → Put (take i s) out written limit n out' → Put (take (i + 1) s) out written limit (n + 1) (set out' n (get_or s i 0))
-  copy_again h k f p = put_as (next_byte_lem s i h) (put_one (get_or s i 0) p k f)
-
-  pub copy_whole : length s ≤ i → Put (take i s) out written limit n out' → Put s out written limit n out'
-  copy_whole h p = put_as (take_all i s h) p
-
-  -- the same with escapes written back
+  -- writing back with escapes goes on, has no room, and is whole
   pub back_again : {k : ℕ} {out'' : List ℕ} → i < length s → Put (escaped (take i s)) out written limit n out' → Put (escaped (get_or s i 0 ∷ [])) out' n limit k out''
       → Put (escaped (take (i + 1) s)) out written limit k out''
   back_again h p q = put_as (sym (escaped_append (take i s) (get_or s i 0 ∷ [])) ∙ ap escaped (next_byte_lem s i h)) (put_more p q)
@@ -87,20 +79,3 @@ module _ (s : List ℕ) (i : ℕ) {out : List ℕ} {written limit n : ℕ} {out'
 
   pub back_whole : length s ≤ i → Put (escaped (take i s)) out written limit n out' → Put (escaped s) out written limit n out'
   back_whole h p = put_as (ap escaped (take_all i s h)) p
-
--- a byte with its escape written back, by what it is
-pub escaped_slash : escaped (92 ∷ []) ≡ 92 ∷ 101 ∷ []
-unfolding escaped first_where
-escaped_slash = refl
-
-pub escaped_mark : escaped (2 ∷ []) ≡ 92 ∷ 38 ∷ []
-unfolding escaped first_where
-escaped_mark = refl
-
-pub escaped_blank : escaped (3 ∷ []) ≡ 92 ∷ 32 ∷ []
-unfolding escaped first_where
-escaped_blank = refl
-
-pub escaped_other : (b : ℕ) → (b ≡ 92 → ⊥) → (b ≡ 2 → ⊥) → (b ≡ 3 → ⊥) → escaped (b ∷ []) ≡ b ∷ []
-unfolding escaped first_where
-escaped_other b p q r = rw (first_where, ne_eqb b 92 p, first_where, ne_eqb b 2 q, first_where, ne_eqb b 3 r)

@@ -5,7 +5,8 @@ use Rattle.rules.specs.declared.Mode.TheVariants.{Plain, Copy}
 use Rattle.rules.specs.Escapes.{Surroundings, escaped}
 use Rattle.registers.specs.declared.interpolation.Shown.{Shown}
 use Rattle.registers.specs.Interpolation.ReadOnly.{seen_of}
-use Rattle.texts.specs.Table.Table.{texts_of}
+use Rattle.texts.specs.declared.columns.Texts.{Texts}
+use Rattle.texts.specs.Table.Lent.{texts_in}
 
 -- some bytes cut at these places, from a place on
 unfoldable pub cut_at : (from : ℕ) → (ends : List ℕ) → List ℕ → List (List ℕ)
@@ -40,5 +41,5 @@ given_at Plain zero a = a
 given_at Copy zero a = escaped a
 
 -- the surroundings of the rules
-abbrev pub around : Shown → (store firsts seconds kinds lengths : List ℕ) → (texts : ℕ) → (arguments ends : List ℕ) → (count : ℕ) → Surroundings
-around shown store fs ss ks ls texts l es count = record { seen = seen_of shown; texts = texts_of store fs ss ks ls texts; arguments = arguments_of l es count }
+abbrev pub around : Shown → Texts → (arguments ends : List ℕ) → (count : ℕ) → Surroundings
+around shown x l es count = record { seen = seen_of shown; texts = texts_in x; arguments = arguments_of l es count }

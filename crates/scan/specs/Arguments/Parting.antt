@@ -1,13 +1,10 @@
 -- The parts of a line as places in it: the bytes from a place on are `drop at line`. Assumes nothing.
-use Rattle.std.specs.Prelude.{◌≡◌, Bool, List, ℕ, ◌+◌, ◌-◌, ◌≤◌, eqb, length, take, drop, get_or}
-use Rattle.std.proofs.Math.Option.{none, some}
+use Rattle.std.specs.Prelude.{◌≡◌, Bool, List, ℕ, ◌+◌, ◌-◌, ◌≤◌, eqb, length, take, drop, get_or, Option, None, Some}
 use Rattle.std.proofs.lemmas.List.Edits.{sets}
 use Rattle.rules.specs.Bytes.{byte}
 use Rattle.rules.specs.Arguments.{Place, part, after_spaces, up_to, first_word, first, arguments}
 use Rattle.scan.specs.Arguments.Around.{arguments_of, Arguments}
 use Rattle.scan.specs.declared.arguments.Cut.{Cut}
-use Rattle.scan.specs.declared.arguments.Argument.{Argument}
-use Rattle.scan.specs.declared.arguments.Argument.TheVariants.{There, Nothing}
 
 -- the place r behind the spaces at a place
 pub record Spaces (line : List ℕ) (at r : ℕ) : Type 0 where
@@ -42,16 +39,16 @@ pub record Parted (p : Place) (line : List ℕ) (at : ℕ) (out : List ℕ) (wri
 -- an argument is written, and the line goes on where it ends
 pub record Took (line : List ℕ) (at : ℕ) (out : List ℕ) (written : ℕ) (c : Cut) (out' : List ℕ) : Type 0 where
   pub argument : List ℕ
-  pub is : first (drop at line) ≡ some (part argument (drop c.at line))
+  pub is : first (drop at line) ≡ Some (part argument (drop c.at line))
   pub bytes : out' ≡ sets out written argument
   pub count : c.written ≡ written + length argument
   pub inside : c.at ≤ length line
   pub short : c.written + at ≤ written + c.at
 
 -- "Arguments part at spaces": the first from a place on, if there is one; else nothing is written
-abbrev pub ArgumentTaken : (line : List ℕ) (at : ℕ) (out : List ℕ) (written : ℕ) → Argument → (out' : List ℕ) → Type 0
-ArgumentTaken line at out w (There c) out' = Took line at out w c out'
-ArgumentTaken line at out w Nothing out' = (first (drop at line) ≡ none) × (out' ≡ out)
+abbrev pub ArgumentTaken : (line : List ℕ) (at : ℕ) (out : List ℕ) (written : ℕ) → Option Cut → (out' : List ℕ) → Type 0
+ArgumentTaken line at out w (Some c) out' = Took line at out w c out'
+ArgumentTaken line at out w None out' = (first (drop at line) ≡ None) × (out' ≡ out)
 
 -- the arguments of a line are written
 pub record PartedAll (line : List ℕ) (at r : ℕ) (out' ends' : List ℕ) : Type 0 where

@@ -1,5 +1,5 @@
 -- How many bytes an escape is, and what its last byte does: the rules read byte by byte, the code reads an escape at a time. Assumes nothing.
-use Rattle.std.specs.Prelude.{◌≡◌, List, [], ◌∷◌, ℕ, suc, ◌-◌, ◌≤◌, length, drop}
+use Rattle.std.specs.Prelude.{◌≡◌, List, [], ◌∷◌, ℕ, suc, ◌-◌, ◌≤◌, length, drop, None, Some}
 use Rattle.rules.specs.Bytes.{backslash}
 use Rattle.rules.specs.declared.Mode.{Mode}
 use Rattle.rules.specs.declared.Mode.TheVariants.{Plain, Copy}
@@ -8,7 +8,6 @@ use Rattle.scan.specs.declared.escapes.EscapeAction.{EscapeAction}
 use Rattle.scan.specs.declared.escapes.EscapeAction.TheVariants.{Writes, Keeps, Number, Text, Gives, Ends, Bad}
 use Rattle.scan.specs.declared.escapes.Reading.{Reading}
 use Rattle.scan.specs.declared.escapes.Naming.{Naming}
-use Rattle.scan.specs.declared.escapes.Naming.TheVariants.{Named, Cut}
 
 -- a text that ends after a backslash: in copy mode "a lone backslash at the end too, stays"
 abbrev pub lone : Mode → Action
@@ -46,13 +45,7 @@ action_in Bad = unlisted
 
 -- a name of a register or a string, or "cut short in its line or string", read from a place on
 abbrev pub naming_of : Wanted → ℕ → Naming → ℕ × Action
-naming_of w at (Named end n) = (end - at, wants w n)
-naming_of w at (Cut end) = (end - at, unlisted)
-
--- the place after what was read
-abbrev pub end_of : Naming → ℕ
-end_of (Named end n) = end
-end_of (Cut end) = end
+naming_of w at n = (n.end - at, elim n.name [ Some x ↦ wants w x | None ↦ unlisted ])
 
 -- an answer of a reader that stands within an escape at a place of a text
 pub record ReadingIs (m : Mode) (e : Escape) (cut : Action) (text : List ℕ) (at : ℕ) (r : Reading) : Type 0 where
@@ -67,5 +60,5 @@ ReadingIn e text at r = (m : Mode) → ReadingIs m e unlisted text at r
 -- a name's reader, for registers and strings
 pub record NamingIs (text : List ℕ) (at : ℕ) (r : Naming) : Type 0 where
   pub is : (m : Mode) (w : Wanted) → escape_of m (naming w) unlisted (drop at text) ≡ naming_of w at r
-  pub low : at ≤ end_of r
-  pub high : end_of r ≤ length text
+  pub low : at ≤ r.end
+  pub high : r.end ≤ length text

@@ -1,17 +1,18 @@
 -- A text goes over into the expanded line. Assumes nothing.
-use Rattle.std.specs.Prelude.{◌≡◌, List, ◌∷◌, ℕ, ◌≤◌, ◌<◌, length, take, drop, ℤ}
+use Rattle.std.specs.Prelude.{◌≡◌, List, ◌∷◌, ℕ, ◌≤◌, ◌<◌, length, take, drop, Result, Ok, Err}
+use Rattle.rules.specs.declared.Refusal.{Refusal}
 use Rattle.rules.specs.declared.Register.{Register}
+use Rattle.rules.specs.Results.{refusal_number}
 use Rattle.rules.specs.declared.Mode.{Mode}
 use Rattle.rules.specs.Escapes.{Surroundings, scanned, scan_refused, Action}
 use Rattle.rules.specs.Escapes as rules
-use Rattle.registers.specs.Table.Columns.{RegistersInvariant, table_of}
+use Rattle.registers.specs.declared.columns.Registers.{Registers}
+use Rattle.registers.specs.Table.Lent.{registers_in, OnlyValues}
 use Rattle.scan.specs.declared.escapes.EscapeAction.{EscapeAction}
 use Rattle.scan.specs.declared.expansion.NextEscape.{NextEscape}
 use Rattle.scan.specs.declared.expansion.NextEscape.TheVariants as next
 use Rattle.scan.specs.declared.expansion.Progress.{Progress}
-use Rattle.scan.specs.declared.expansion.Progress.TheVariants.{Over, Ended, Refused}
-use Rattle.scan.specs.declared.expansion.Scanned as answer
-use Rattle.scan.specs.declared.expansion.Scanned.TheVariants as scan
+use Rattle.scan.specs.declared.expansion.Progress.TheVariants.{Over, Ended}
 use Rattle.scan.specs.Escapes.Readings.{action_in}
 use Rattle.scan.specs.Output.Runs.{total}
 use Rattle.scan.specs.Output.Writes.{Room}
@@ -37,54 +38,54 @@ pub record ReadEscape (m : Mode) (text : List ℕ) (at left written limit : ℕ)
   pub high : end ≤ length text
 
 -- what the rules make of the text is this refusal
-pub record StopsIn (m : Mode) (text : List ℕ) (at left written limit : ℕ) (out : List ℕ) (k : ℕ) (out' : List ℕ) : Type 0 where
-  pub is : (w : Surroundings) (u : List (List ℕ)) (rs : List Register) → total w m out written limit left (drop at text ∷ u) rs ≡ scan_refused k rs
+pub record StopsIn (m : Mode) (text : List ℕ) (at left written limit : ℕ) (out : List ℕ) (e : Refusal) (out' : List ℕ) : Type 0 where
+  pub is : (w : Surroundings) (u : List (List ℕ)) (rs : List Register) → total w m out written limit left (drop at text ∷ u) rs ≡ scan_refused (refusal_number e) rs
   pub long : length out' ≡ 512
 
 -- the bytes up to an escape, and the escape
-abbrev pub NextIs : NextEscape → Mode → (text : List ℕ) → (at left written limit : ℕ) → (out out' : List ℕ) → Type 0
-NextIs (next.Over l n) m text at left written limit out out' = ReadOver text at left written limit out l n out'
-NextIs (next.Escape end l n what) m text at left written limit out out' = ReadEscape m text at left written limit out end l n what out'
-NextIs (next.Refused k) m text at left written limit out out' = StopsIn m text at left written limit out k out'
+abbrev pub NextIs : Result NextEscape Refusal → Mode → (text : List ℕ) → (at left written limit : ℕ) → (out out' : List ℕ) → Type 0
+NextIs (Ok (next.Over l n)) m text at left written limit out out' = ReadOver text at left written limit out l n out'
+NextIs (Ok (next.Escape end l n what)) m text at left written limit out out' = ReadEscape m text at left written limit out end l n what out'
+NextIs (Err e) m text at left written limit out out' = StopsIn m text at left written limit out e out'
 
 -- what an answer says that the rules make of a text and those around it
-abbrev pub progress_of : Progress → Surroundings → Mode → (out : List ℕ) → (limit : ℕ) → (unread : List (List ℕ)) → List Register → rules.Scanned
-progress_of (Over l n) w m out limit u rs = total w m out n limit l u rs
-progress_of (Ended n) w m out limit u rs = scanned (take n out) rs
-progress_of (Refused k) w m out limit u rs = scan_refused k rs
+abbrev pub progress_of : Result Progress Refusal → Surroundings → Mode → (out : List ℕ) → (limit : ℕ) → (unread : List (List ℕ)) → List Register → rules.Scanned
+progress_of (Ok (Over l n)) w m out limit u rs = total w m out n limit l u rs
+progress_of (Ok (Ended n)) w m out limit u rs = scanned (take n out) rs
+progress_of (Err e) w m out limit u rs = scan_refused (refusal_number e) rs
 
-abbrev pub SoundProgress : Progress → (out : List ℕ) → (written limit : ℕ) → (out' : List ℕ) → Type 0
-SoundProgress (Over l n) out written limit out' = BytesFilled out written limit n out'
-SoundProgress (Ended n) out written limit out' = BytesFilled out written limit n out'
-SoundProgress (Refused k) out written limit out' = length out' ≡ 512
+abbrev pub SoundProgress : Result Progress Refusal → (out : List ℕ) → (written limit : ℕ) → (out' : List ℕ) → Type 0
+SoundProgress (Ok (Over l n)) out written limit out' = BytesFilled out written limit n out'
+SoundProgress (Ok (Ended n)) out written limit out' = BytesFilled out written limit n out'
+SoundProgress (Err e) out written limit out' = length out' ≡ 512
 
 -- an escape is carried out as the rules say, in a text that is within as many others as the depth
-pub record CarriedOut (r : Progress) (w : Surroundings) (m : Mode) (a : Action) (depth left : ℕ) (out : List ℕ) (written limit : ℕ) (fs ss : List ℕ) (vs ts : List ℤ) (count : ℕ) (out' : List ℕ) (vs' : List ℤ) : Type 0 where
+pub record CarriedOut (r : Result Progress Refusal) (w : Surroundings) (m : Mode) (a : Action) (depth left : ℕ) (out : List ℕ) (written limit : ℕ) (q q' : Registers) (out' : List ℕ) : Type 0 where
   pub is : (t : List ℕ) (u : List (List ℕ)) → length u ≡ depth
-      → action_behind w m out written limit a left (t ∷ u) (table_of fs ss vs ts count) ≡ progress_of r w m out' limit (t ∷ u) (table_of fs ss vs' ts count)
-  pub table : RegistersInvariant fs ss vs' ts count
+      → action_behind w m out written limit a left (t ∷ u) (registers_in q) ≡ progress_of r w m out' limit (t ∷ u) (registers_in q')
+  pub rest : OnlyValues q q'
   pub sound : SoundProgress r out written limit out'
 
 -- a text is expanded as the rules say, in whatever texts it stands, as many as the depth
-pub record ExpandsTo (r : Progress) (w : Surroundings) (m : Mode) (text : List ℕ) (depth left : ℕ) (out : List ℕ) (written limit : ℕ) (fs ss : List ℕ) (vs ts : List ℤ) (count : ℕ) (out' : List ℕ) (vs' : List ℤ) : Type 0 where
+pub record ExpandsTo (r : Result Progress Refusal) (w : Surroundings) (m : Mode) (text : List ℕ) (depth left : ℕ) (out : List ℕ) (written limit : ℕ) (q q' : Registers) (out' : List ℕ) : Type 0 where
   pub is : (u : List (List ℕ)) → length u ≡ depth
-      → total w m out written limit left (text ∷ u) (table_of fs ss vs ts count) ≡ progress_of r w m out' limit u (table_of fs ss vs' ts count)
-  pub table : RegistersInvariant fs ss vs' ts count
+      → total w m out written limit left (text ∷ u) (registers_in q) ≡ progress_of r w m out' limit u (registers_in q')
+  pub rest : OnlyValues q q'
   pub sound : SoundProgress r out written limit out'
 
 -- the expanded line in the buffer, or a refusal, with the registers after it
-abbrev pub scanned_of : answer.Scanned → (out : List ℕ) → List Register → rules.Scanned
-scanned_of (scan.Line n) out rs = scanned (take n out) rs
-scanned_of (scan.Refused k) out rs = scan_refused k rs
+abbrev pub scanned_of : Result ℕ Refusal → (out : List ℕ) → List Register → rules.Scanned
+scanned_of (Ok n) out rs = scanned (take n out) rs
+scanned_of (Err e) out rs = scan_refused (refusal_number e) rs
 
 -- the bytes behind the line are as they were
-abbrev pub KeptBehind : answer.Scanned → (out out' : List ℕ) → Type 0
-KeptBehind (scan.Line n) out out' = (n ≤ 512) × (drop n out' ≡ drop n out)
-KeptBehind (scan.Refused k) out out' = Unit
+abbrev pub KeptBehind : Result ℕ Refusal → (out out' : List ℕ) → Type 0
+KeptBehind (Ok n) out out' = (n ≤ 512) × (drop n out' ≡ drop n out)
+KeptBehind (Err e) out out' = Unit
 
--- a line is expanded as the rules say, and the registers stay a table
-pub record ScannedTo (r : answer.Scanned) (w : Surroundings) (m : Mode) (prefix : ℕ) (line : List ℕ) (fs ss : List ℕ) (vs ts : List ℤ) (count : ℕ) (out out' : List ℕ) (vs' : List ℤ) : Type 0 where
-  pub is : scanned_of r out' (table_of fs ss vs' ts count) ≡ rules.scan w m (table_of fs ss vs ts count) prefix line
-  pub table : RegistersInvariant fs ss vs' ts count
+-- a line is expanded as the rules say, and of the registers only values change
+pub record ScannedTo (r : Result ℕ Refusal) (w : Surroundings) (m : Mode) (prefix : ℕ) (line : List ℕ) (q q' : Registers) (out out' : List ℕ) : Type 0 where
+  pub is : scanned_of r out' (registers_in q') ≡ rules.scan w m (registers_in q) prefix line
+  pub rest : OnlyValues q q'
   pub kept : KeptBehind r out out'
   pub long : length out' ≡ 512

@@ -1,7 +1,6 @@
 -- The limits of a layout are kept by what requests make of it. Assumes nothing.
-use Rattle.std.specs.Prelude.{◌≡◌, true, false, List, [], ◌∷◌, ℕ, ◌≤◌}
+use Rattle.std.specs.Prelude.{◌≡◌, true, false, List, [], ◌∷◌, ℕ, ◌≤◌, Option, None, Some, unwrap_or, Result, Ok}
 use Rattle.std.proofs.Common.{ap, arith}
-use Rattle.std.proofs.Math.Option.{Option, none, some, get_or}
 use Rattle.rules.specs.Printers.{Printer}
 use Rattle.rules.specs.Laws.Refusals.{Every, every_value, of_value, every, every_of}
 use Rattle.rules.specs.Laws.Settings.{in_range_lem, page_between}
@@ -16,13 +15,13 @@ use Rattle.rules.specs.declared.LineSetting.TheVariants.{Fi, Nf, Ce, In, Ti}
 use Rattle.rules.specs.declared.PageSetting.{PageSetting}
 use Rattle.rules.specs.declared.PageSetting.TheVariants.{Pl, Po, Ll, Ad, Na}
 use Rattle.settings.specs.declared.layout.Layout as own
-use Rattle.settings.specs.declared.layout.NewLayout.{NewLayout}
-use Rattle.settings.specs.declared.layout.NewLayout.TheVariants as new-layout
-use Rattle.settings.specs.Layout.Layouts.{layout_of, new_layout_is, LayoutInvariant}
+use Rattle.rules.specs.declared.Refusal.{Refusal}
+use Rattle.rules.specs.Results.{judged_by}
+use Rattle.settings.specs.Layout.Layouts.{layout_of, LayoutInvariant}
 
 -- what holds of a new layout that is given
-pub of_new : {P : Layout → Type 0} (r : NewLayout) (z : own.Layout) → Every P (new_layout_is r) → r ≡ new-layout.Is z → P (layout_of z)
-of_new r z h e = of_value h (ap new_layout_is e)
+pub of_new : {P : Layout → Type 0} (r : Result own.Layout Refusal) (z : own.Layout) → Every P (judged_by layout_of r) → r ≡ Ok z → P (layout_of z)
+of_new r z h e = of_value h (ap (judged_by layout_of) e)
 
 -- a setting, and the one before, of at most so many cells
 pub record Most (high : ℕ) (v : Setting) : Type 0 where
@@ -67,9 +66,9 @@ module _ (y : Layout) (h : LayoutInvariant y) where
   pub room_most : room_now y ≤ 240
   room_most = omega arith
 
-indent_by : (t : Option ℕ) (n : ℕ) → get_or t 0 ≤ 239 → n ≤ 239 → get_or t n ≤ 239
-indent_by none n h k = k
-indent_by (some m) n h k = h
+indent_by : (t : Option ℕ) (n : ℕ) → unwrap_or t 0 ≤ 239 → n ≤ 239 → unwrap_or t n ≤ 239
+indent_by None n h k = k
+indent_by (Some m) n h k = h
 
 pub indent_most : (y : Layout) → LayoutInvariant y → indent_now y ≤ 239
 indent_most y h = indent_by y.total y.indent.now h.total h.indent

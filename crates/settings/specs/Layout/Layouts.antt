@@ -1,12 +1,13 @@
 -- The settings as a whole, in the rules' terms, and what a request makes of them. Assumes nothing.
-use Rattle.std.specs.Prelude.{◌≡◌, List, ℕ, ◌≤◌, ◌<◌}
-use Rattle.std.proofs.Math.Option.{Option, none, some, get_or}
+use Rattle.std.specs.Prelude.{◌≡◌, List, ℕ, ◌≤◌, ◌<◌, Option, None, Some, unwrap_or, Result}
 use Rattle.measure.specs.declared.Cells.{Cells}
 use Rattle.measure.specs.Pitches.{Sized}
 use Rattle.measure.specs.Counts.{across_of, down_of}
 use Rattle.rules.specs.Printers.{ten_to_the_inch}
 use Rattle.rules.specs.Printers as printers
-use Rattle.rules.specs.Refusals.{Judged, value, bad, ◌>>=◌}
+use Rattle.rules.specs.Refusals.{Judged, value, ◌>>=◌}
+use Rattle.rules.specs.Results.{judged_by}
+use Rattle.rules.specs.declared.Refusal.{Refusal}
 use Rattle.rules.specs.Laws.Refusals.{Every}
 use Rattle.rules.specs.Settings.{Across, Down}
 use Rattle.rules.specs.LayoutSetters.{layout, with_line, with_indent, with_offset}
@@ -18,11 +19,7 @@ use Rattle.rules.specs.declared.PageSetting.{PageSetting}
 use Rattle.settings.specs.declared.lengths.Length.{Length}
 use Rattle.settings.specs.declared.lengths.Length.TheVariants.{Line, Indent, Offset}
 use Rattle.settings.specs.declared.layout.Printer.{Printer}
-use Rattle.settings.specs.declared.layout.Total.{Total}
-use Rattle.settings.specs.declared.layout.Total.TheVariants as total
 use Rattle.settings.specs.declared.layout.Layout.{Layout}
-use Rattle.settings.specs.declared.layout.NewLayout.{NewLayout}
-use Rattle.settings.specs.declared.layout.NewLayout.TheVariants as new-layout
 use Rattle.settings.specs.Lengths.Views.{setting_of, range_of}
 
 -- the rules' printer
@@ -43,9 +40,9 @@ pub record TenToTheInch (p : Printer) : Type 0 where
   pub sound : PrinterInvariant p
 
 -- the ti total, if one is kept
-abbrev pub total_of : Total → Option Across
-total_of (total.Is c) = some (across_of c)
-total_of total.Nothing = none
+abbrev pub total_of : Option Cells → Option Across
+total_of (Some c) = Some (across_of c)
+total_of None = None
 
 -- the rules' layout
 abbrev pub layout_of : Layout → rule.Layout
@@ -61,18 +58,12 @@ pub record LayoutInvariant (y : rule.Layout) : Type 0 where
   pub offset_former : y.offset.former ≤ 120
   pub page_least : 1 ≤ y.page
   pub page_most : y.page ≤ 500
-  pub total : get_or y.total 0 ≤ 239
+  pub total : unwrap_or y.total 0 ≤ 239
 
 -- a layout that is this one of the rules', within the limits
 pub record Laid (r : Layout) (y : rule.Layout) : Type 0 where
   pub is : layout_of r ≡ y
   pub limits : LayoutInvariant (layout_of r)
-
--- a new layout, or a refusal
-abbrev pub new_layout_is : NewLayout → Judged rule.Layout
-new_layout_is (new-layout.Is y) = value (layout_of y)
-new_layout_is new-layout.Malformed = bad 6
-new_layout_is new-layout.OutOfRange = bad 7
 
 -- what a request finds: a sound printer, and a layout within the limits
 pub record LayoutReady (p : Printer) (y : Layout) : Type 0 where
@@ -80,16 +71,16 @@ pub record LayoutReady (p : Printer) (y : Layout) : Type 0 where
   pub limits : LayoutInvariant (layout_of y)
 
 -- what a request gives after its break: a layout within the limits, with the page length as it was, or a refusal
-pub record LineSettingRefines (p : Printer) (q : LineSetting) (y : Layout) (l : List ℕ) (r : NewLayout) : Type 0 where
-  pub is : new_layout_is r ≡ set_line (printer_of p) q l (layout_of y)
-  pub limits : Every LayoutInvariant (new_layout_is r)
-  pub page : Every (λ z. z.page ≡ down_of y.page) (new_layout_is r)
+pub record LineSettingRefines (p : Printer) (q : LineSetting) (y : Layout) (l : List ℕ) (r : Result Layout Refusal) : Type 0 where
+  pub is : judged_by layout_of r ≡ set_line (printer_of p) q l (layout_of y)
+  pub limits : Every LayoutInvariant (judged_by layout_of r)
+  pub page : Every (λ z. z.page ≡ down_of y.page) (judged_by layout_of r)
 
 -- what a request that does not break gives: a layout within the limits, with the page length above the rows used if it was, or a refusal
-pub record PageSettingRefines (p : Printer) (q : PageSetting) (y : Layout) (used : Down) (l : List ℕ) (r : NewLayout) : Type 0 where
-  pub is : new_layout_is r ≡ set_page (printer_of p) q used l (layout_of y)
-  pub limits : Every LayoutInvariant (new_layout_is r)
-  pub above : used < down_of y.page → Every (λ z. used < z.page) (new_layout_is r)
+pub record PageSettingRefines (p : Printer) (q : PageSetting) (y : Layout) (used : Down) (l : List ℕ) (r : Result Layout Refusal) : Type 0 where
+  pub is : judged_by layout_of r ≡ set_page (printer_of p) q used l (layout_of y)
+  pub limits : Every LayoutInvariant (judged_by layout_of r)
+  pub above : used < down_of y.page → Every (λ z. used < z.page) (judged_by layout_of r)
 
 -- one of the three lengths in cells
 abbrev pub length_of : Length → rule.Layout → rule.Setting

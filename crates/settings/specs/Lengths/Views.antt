@@ -1,41 +1,23 @@
 -- What the answers stand for, in the rules' terms, over a pitch. Assumes nothing.
 use Rattle.std.specs.Prelude.{List, ℕ, ℤ}
 use Rattle.measure.specs.declared.Pitch.{Pitch}
-use Rattle.measure.specs.Counts.{across_of, down_of}
+use Rattle.measure.specs.Counts.{across_of}
 use Rattle.rules.specs.Printers.{Printer}
-use Rattle.rules.specs.Refusals.{Judged, value, bad, ◌>>=◌}
+use Rattle.rules.specs.Refusals.{Judged, ◌>>=◌}
 use Rattle.rules.specs.Numbers.{cells, rows, signed}
 use Rattle.rules.specs.Settings as rule
 use Rattle.rules.specs.Acts.{setting}
 use Rattle.settings.specs.declared.lengths.Setting.{Setting}
-use Rattle.settings.specs.declared.lengths.Count.{Count}
-use Rattle.settings.specs.declared.lengths.Count.TheVariants as count
 use Rattle.settings.specs.declared.lengths.Length.{Length}
 use Rattle.settings.specs.declared.lengths.Length.TheVariants.{Line, Indent, Offset}
-use Rattle.settings.specs.declared.lengths.NewSetting.{NewSetting}
-use Rattle.settings.specs.declared.lengths.NewSetting.TheVariants as new-setting
-use Rattle.settings.specs.declared.lengths.NewRows.{NewRows}
-use Rattle.settings.specs.declared.lengths.NewRows.TheVariants as new-rows
-use Rattle.settings.specs.declared.lengths.NewTotal.{NewTotal}
-use Rattle.settings.specs.declared.lengths.NewTotal.TheVariants as new-total
 
 -- the rules' setting
 abbrev pub setting_of : Setting → rule.Setting
 setting_of s = record { now = across_of s.now; former = across_of s.former }
 
--- "7: value out of range"
-abbrev pub count_is : Count → Judged ℕ
-count_is (count.Is n) = value n
-count_is count.Out = bad 7
-
 -- a printer of a pitch: only pl without a number asks for more
 abbrev pub printer : Pitch → (page : ℕ) → Printer
 printer p n = record { pitch = p; line = 0; page = n }
-
-abbrev pub new_setting_is : NewSetting → Judged rule.Setting
-new_setting_is (new-setting.Is s) = value (setting_of s)
-new_setting_is new-setting.Malformed = bad 6
-new_setting_is new-setting.OutOfRange = bad 7
 
 -- "ll 1 to 240 cells, in and the ti total 0 to 239, po 0 to 120"
 abbrev pub range_of : Length → ℤ → Judged ℕ
@@ -46,21 +28,9 @@ range_of Offset = rule.offset_range
 abbrev pub setting_in : Pitch → (ℤ → Judged ℕ) → rule.Setting → List ℕ → Judged rule.Setting
 setting_in p = setting (printer p 0)
 
--- a page length, or a refusal
-abbrev pub new_rows_is : NewRows → Judged ℕ
-new_rows_is (new-rows.Is r) = value (down_of r)
-new_rows_is new-rows.Malformed = bad 6
-new_rows_is new-rows.OutOfRange = bad 7
-
 -- pl with an argument
 abbrev pub page_length_in : Pitch → (used old : ℕ) → List ℕ → Judged ℕ
 page_length_in p used old l = rows p l >>= λ v. rule.page_range used (rule.changed (signed l) old v)
-
--- a ti total, or a refusal
-abbrev pub new_total_is : NewTotal → Judged ℕ
-new_total_is (new-total.Is c) = value (across_of c)
-new_total_is new-total.Malformed = bad 6
-new_total_is new-total.OutOfRange = bad 7
 
 -- ti with an argument
 abbrev pub total_in : Pitch → (indent : ℕ) → List ℕ → Judged ℕ

@@ -2,6 +2,7 @@
 use mathlib.Core.Path.{◌≡◌, refl, sym, ap, ◌∙◌}
 use mathlib.Core.Bool.{Bool, true, false, ◌&&◌}
 use mathlib.Core.List.{List, [], ◌∷◌, ◌++◌}
+use Rattle.std.specs.Prelude.{None, Some, Result, Ok, Err}
 use Prim.Native.Nat.{ℕ, suc, ◌+◌, ◌-◌, ◌≤◌, ◌<◌}
 use native.Mathlib.Numerals.{add-one}
 use native.Mathlib.Omega.{arith}
@@ -10,15 +11,15 @@ use lib.ListN.{length, take, drop, get_or, set, length-set, length-append, lengt
 use lib.Seq.{length-take-le, take-suc-set, take-set-le, drop-set-lt, take-length, take-paste, drop-append-le, length-paste, paste}
 use borrow.Author.Tests.{ltb-true, ltb-false, lt-ltb, le-ltb, lt-leb, le-leb}
 use Rattle.rules.specs.declared.Name.{Name}
-use Rattle.rules.specs.declared.Kind.TheVariants.{String}
+use Rattle.rules.specs.declared.Kind.{Kind}
+use Rattle.rules.specs.declared.Kind.TheVariants.{Macro, String}
+use Rattle.rules.specs.declared.Refusal.{Refusal}
+use Rattle.rules.specs.declared.Refusal.TheVariants.{FullTable}
 use Rattle.rules.specs.Names.{two_bytes}
 use Rattle.rules.specs.Refusals.{value, bad}
 use Rattle.rules.specs.Bytes.{newline}
 use Rattle.rules.specs.Texts.{Text, text, remove, live, define_string_in, open_macro, keep_line_in}
-use Rattle.texts.specs.declared.table.TextPlace.TheVariants.{At, Not}
-use Rattle.texts.specs.declared.table.TextCount.TheVariants.{Set, Full}
-use Rattle.texts.specs.declared.table.KeptLine.TheVariants as kept
-use Rattle.texts.specs.Table.Table.{zip_with, kind_of, text_row, as_pair, names_of, text_rows, total_length, texts_of, TextsInvariant}
+use Rattle.texts.specs.Table.Table.{zip_with, code_of, kind_of_code, text_row, as_pair, names_of, text_rows, total_length, texts_of, TextsInvariant}
 use Rattle.texts.specs.Table.Places.{text_place}
 use Rattle.texts.specs.Table.Changes.{lesser, room_of, TakenOut, Appended, DefinedTo, Opens, body_of, OpenedTo, KeptTo, ClosedTo}
 use Rattle.rules.specs.Columns.{zip_set}
@@ -36,12 +37,9 @@ room_small n = go (ltb n 8192) refl
     go true e = (omega arith, omega (arith, ltb-true n 8192 e))
     go false e = (omega (arith, ltb-false n 8192 e), omega arith)
 
-pub room_left : (room used more : ℕ) → used ≤ room → ltb (room - used) more ≡ ltb room (used + more)
-room_left room used more h = go (ltb (room - used) more) refl
-  where
-    go : (t : Bool) → ltb (room - used) more ≡ t → t ≡ ltb room (used + more)
-    go true e = sym (lt-ltb room (used + more) (omega (arith, ltb-true (room - used) more e)))
-    go false e = sym (le-ltb room (used + more) (omega (arith, ltb-false (room - used) more e)))
+-- "11: .. 65th name .. or live text past 8,192 bytes"
+abbrev full : Result ℕ Refusal
+full = Err FullTable
 
 -- a text behind the last
 
@@ -70,22 +68,22 @@ module _ (st fs ss ks ls : List ℕ) (n : ℕ) (h : TextsInvariant st fs ss ks l
       }
 
   -- the texts are those before, and the part behind them
-  texts_in_lem : (st' : List ℕ) → texts_of st' (set fs n m.first) (set ss n m.second) (set ks n code) (set ls n size) (n + 1)
-      ≡ texts_of st' fs ss ks ls n ++ text m (kind_of code) (take size (drop (total_length (take n ls)) st')) ∷ []
-  texts_in_lem st' = rw rows_in (cut_end (text_rows fs ss ks ls n) (text_row m (as_pair code size)) st' ∙ rw (rows_sizes st fs ss ks ls n h))
+  texts_in_lem : (st' : List ℕ) (d : Kind) → code ≡ code_of d → texts_of st' (set fs n m.first) (set ss n m.second) (set ks n code) (set ls n size) (n + 1)
+      ≡ texts_of st' fs ss ks ls n ++ text m d (take size (drop (total_length (take n ls)) st')) ∷ []
+  texts_in_lem st' d e = rw rows_in (cut_end (text_rows fs ss ks ls n) (text_row m (as_pair code size)) st' ∙ rw (rows_sizes st fs ss ks ls n h, e, kind_of_code d))
 
-pub appended : (st fs ss ks ls : List ℕ) (n : ℕ) → TextsInvariant st fs ss ks ls n → n < 64 → (m : Name) (code : ℕ) (x : List ℕ) → total_length (take n ls) + length x ≤ length st
-    → Appended st fs ss ks ls n m code x (n + 1) (paste st (total_length (take n ls)) x (length x)) (set fs n m.first) (set ss n m.second) (set ks n code) (set ls n (length x))
-appended st fs ss ks ls n h k m code x g =
+pub appended : (st fs ss ks ls : List ℕ) (n : ℕ) → TextsInvariant st fs ss ks ls n → n < 64 → (m : Name) (d : Kind) (x : List ℕ) → total_length (take n ls) + length x ≤ length st
+    → Appended st fs ss ks ls n m d x (n + 1) (paste st (total_length (take n ls)) x (length x)) (set fs n m.first) (set ss n m.second) (set ks n (code_of d)) (set ls n (length x))
+appended st fs ss ks ls n h k m d x g =
     let at : ℕ = total_length (take n ls) in
     let st' = paste st at x (length x) in
     let l : length st' ≡ length st = length-paste st at x (length x) g (omega arith) in
     record {
       more = refl;
-      is = texts_in_lem st fs ss ks ls n h k m code (length x) st'
+      is = texts_in_lem st fs ss ks ls n h k m (code_of d) (length x) st' d refl
           ∙ rw (texts_same st fs ss ks ls n h st' (paste_front st x at (length x) (omega arith) (omega arith)), paste_part st x at (length x) (omega arith) (omega arith), take-length x);
-      lies = lies_in st fs ss ks ls n h k m code (length x) st' l g;
-      size = sizes_in st fs ss ks ls n h k m code (length x);
+      lies = lies_in st fs ss ks ls n h k m (code_of d) (length x) st' l g;
+      size = sizes_in st fs ss ks ls n h k m (code_of d) (length x);
       long = l;
       past = λ p q. paste_past st x at (length x) (omega arith) (omega arith) p q;
     }
@@ -93,7 +91,7 @@ appended st fs ss ks ls n h k m code x g =
 pub closed_macro : (st fs ss ks ls : List ℕ) (n o : ℕ) → TextsInvariant st fs ss ks ls n → Opens st ls n o → (m : Name)
     → ClosedTo st fs ss ks ls n o m (n + 1) (set fs n m.first) (set ss n m.second) (set ks n 0) (set ls n o)
 closed_macro st fs ss ks ls n o h g m =
-    record { is = texts_in_lem st fs ss ks ls n h g.fewer m 0 o st; lies = lies_in st fs ss ks ls n h g.fewer m 0 o st refl g.inside }
+    record { is = texts_in_lem st fs ss ks ls n h g.fewer m 0 o st Macro refl; lies = lies_in st fs ss ks ls n h g.fewer m 0 o st refl g.inside }
 
 -- what the rules judge
 
@@ -127,18 +125,18 @@ module _ (m : Name) (ts us : List Text) (e : remove m ts ≡ us) where
 
 module _ (st fs ss ks ls : List ℕ) (n : ℕ) (h : TextsInvariant st fs ss ks ls n) (m : Name) (x : List ℕ) where
   -- nothing changes
-  refused : bad 11 ≡ define_string_in (room_of (length st)) m x (texts_of st fs ss ks ls n) → DefinedTo st fs ss ks ls n m x Full st fs ss ks ls
+  refused : bad 11 ≡ define_string_in (room_of (length st)) m x (texts_of st fs ss ks ls n) → DefinedTo st fs ss ks ls n m x full st fs ss ks ls
   refused e = record { is = e; lies = h; long = refl; past = λ p q r. refl; kept = (refl, refl, refl, refl, refl) }
 
-  module _ (e : text_place m (names_of fs ss n) ≡ Not) where
-    pub define_65 : 64 ≤ n → DefinedTo st fs ss ks ls n m x Full st fs ss ks ls
+  module _ (e : text_place m (names_of fs ss n) ≡ None) where
+    pub define_65 : 64 ≤ n → DefinedTo st fs ss ks ls n m x full st fs ss ks ls
     define_65 k = refused (define_names (room_of (length st)) m x (texts_of st fs ss ks ls n) (texts_of st fs ss ks ls n) (remove_not st fs ss ks ls n h m e) (omega (arith, texts_length st fs ss ks ls n h)))
 
-    pub define_past : room_of (length st) < total_length (take n ls) + length x → DefinedTo st fs ss ks ls n m x Full st fs ss ks ls
+    pub define_past : room_of (length st) < total_length (take n ls) + length x → DefinedTo st fs ss ks ls n m x full st fs ss ks ls
     define_past k = refused (define_room (room_of (length st)) m x (texts_of st fs ss ks ls n) (texts_of st fs ss ks ls n) (remove_not st fs ss ks ls n h m e) (omega (arith, texts_live st fs ss ks ls n h)))
 
     pub define_new : (r : ℕ) (st' fs' ss' ks' ls' : List ℕ) → n < 64 → total_length (take n ls) + length x ≤ room_of (length st)
-        → Appended st fs ss ks ls n m 1 x r st' fs' ss' ks' ls' → DefinedTo st fs ss ks ls n m x (Set r) st' fs' ss' ks' ls'
+        → Appended st fs ss ks ls n m String x r st' fs' ss' ks' ls' → DefinedTo st fs ss ks ls n m x (Ok r) st' fs' ss' ks' ls'
     define_new r st' fs' ss' ks' ls' k g a =
         record {
           is = define_set (room_of (length st)) m x (texts_of st fs ss ks ls n) (texts_of st fs ss ks ls n) (remove_not st fs ss ks ls n h m e) (texts_of st' fs' ss' ks' ls' r)
@@ -149,7 +147,7 @@ module _ (st fs ss ks ls : List ℕ) (n : ℕ) (h : TextsInvariant st fs ss ks l
           kept = tt;
         }
 
-  module _ (i : ℕ) (e : text_place m (names_of fs ss n) ≡ At i) (st₁ fs₁ ss₁ ks₁ ls₁ : List ℕ) (t : TakenOut st fs ss ks ls n i st₁ fs₁ ss₁ ks₁ ls₁) where
+  module _ (i : ℕ) (e : text_place m (names_of fs ss n) ≡ Some i) (st₁ fs₁ ss₁ ks₁ ls₁ : List ℕ) (t : TakenOut st fs ss ks ls n i st₁ fs₁ ss₁ ks₁ ls₁) where
     -- the other texts
     abbrev others : List Text
     others = texts_of st₁ fs₁ ss₁ ks₁ ls₁ (n - 1)
@@ -163,11 +161,11 @@ module _ (st fs ss ks ls : List ℕ) (n : ℕ) (h : TextsInvariant st fs ss ks l
     others_few : length others < 64
     others_few = omega (arith, texts_length st₁ fs₁ ss₁ ks₁ ls₁ (n - 1) t.lies, found_row st fs ss ks ls n h m i e, h.names.few)
 
-    pub define_over : room_of (length st) < total_length (take n ls) - get_or ls i 0 + length x → DefinedTo st fs ss ks ls n m x Full st fs ss ks ls
+    pub define_over : room_of (length st) < total_length (take n ls) - get_or ls i 0 + length x → DefinedTo st fs ss ks ls n m x full st fs ss ks ls
     define_over k = refused (define_room (room_of (length st)) m x (texts_of st fs ss ks ls n) others others_are (omega (arith, others_live)))
 
     pub define_old : (r : ℕ) (st' fs' ss' ks' ls' : List ℕ) → total_length (take n ls) - get_or ls i 0 + length x ≤ room_of (length st)
-        → Appended st₁ fs₁ ss₁ ks₁ ls₁ (n - 1) m 1 x r st' fs' ss' ks' ls' → DefinedTo st fs ss ks ls n m x (Set r) st' fs' ss' ks' ls'
+        → Appended st₁ fs₁ ss₁ ks₁ ls₁ (n - 1) m String x r st' fs' ss' ks' ls' → DefinedTo st fs ss ks ls n m x (Ok r) st' fs' ss' ks' ls'
     define_old r st' fs' ss' ks' ls' g a =
         record {
           is = define_set (room_of (length st)) m x (texts_of st fs ss ks ls n) others others_are (texts_of st' fs' ss' ks' ls' r) others_few (omega (arith, others_live)) a.is;
@@ -178,7 +176,7 @@ module _ (st fs ss ks ls : List ℕ) (n : ℕ) (h : TextsInvariant st fs ss ks l
         }
 
     -- a macro is opened over the old text
-    pub open_old : OpenedTo st fs ss ks ls n m (Set (n - 1)) st₁ fs₁ ss₁ ks₁ ls₁
+    pub open_old : OpenedTo st fs ss ks ls n m (Ok (n - 1)) st₁ fs₁ ss₁ ks₁ ls₁
     open_old =
         record {
           is = open_set m (texts_of st fs ss ks ls n) others others_are others_few;
@@ -190,13 +188,13 @@ module _ (st fs ss ks ls : List ℕ) (n : ℕ) (h : TextsInvariant st fs ss ks l
         }
 
 -- the law of a refused string needs no text to be taken out: any name that is found can be
-pub define_over_room : (st fs ss ks ls : List ℕ) (n : ℕ) (h : TextsInvariant st fs ss ks ls n) (m : Name) (x : List ℕ) (i : ℕ) → text_place m (names_of fs ss n) ≡ At i
-    → room_of (length st) < total_length (take n ls) - get_or ls i 0 + length x → DefinedTo st fs ss ks ls n m x Full st fs ss ks ls
+pub define_over_room : (st fs ss ks ls : List ℕ) (n : ℕ) (h : TextsInvariant st fs ss ks ls n) (m : Name) (x : List ℕ) (i : ℕ) → text_place m (names_of fs ss n) ≡ Some i
+    → room_of (length st) < total_length (take n ls) - get_or ls i 0 + length x → DefinedTo st fs ss ks ls n m x full st fs ss ks ls
 define_over_room st fs ss ks ls n h m x i e k = define_over st fs ss ks ls n h m x i e _ _ _ _ _ (taken_out st fs ss ks ls n h i (found_row st fs ss ks ls n h m i e)) k
 
-module _ (st fs ss ks ls : List ℕ) (n : ℕ) (h : TextsInvariant st fs ss ks ls n) (m : Name) (e : text_place m (names_of fs ss n) ≡ Not) where
+module _ (st fs ss ks ls : List ℕ) (n : ℕ) (h : TextsInvariant st fs ss ks ls n) (m : Name) (e : text_place m (names_of fs ss n) ≡ None) where
   -- a macro of a new name is opened, or is a 65th
-  pub open_new : n < 64 → OpenedTo st fs ss ks ls n m (Set n) st fs ss ks ls
+  pub open_new : n < 64 → OpenedTo st fs ss ks ls n m (Ok n) st fs ss ks ls
   open_new k =
       record {
         is = open_set m (texts_of st fs ss ks ls n) (texts_of st fs ss ks ls n) (remove_not st fs ss ks ls n h m e) (omega (arith, texts_length st fs ss ks ls n h));
@@ -207,7 +205,7 @@ module _ (st fs ss ks ls : List ℕ) (n : ℕ) (h : TextsInvariant st fs ss ks l
         kept = tt;
       }
 
-  pub open_65 : 64 ≤ n → OpenedTo st fs ss ks ls n m Full st fs ss ks ls
+  pub open_65 : 64 ≤ n → OpenedTo st fs ss ks ls n m full st fs ss ks ls
   open_65 k =
       record {
         is = open_full m (texts_of st fs ss ks ls n) (texts_of st fs ss ks ls n) (remove_not st fs ss ks ls n h m e) (omega (arith, texts_length st fs ss ks ls n h));
@@ -233,7 +231,7 @@ module _ (st ls : List ℕ) (n o : ℕ) (g : Opens st ls n o) (x : List ℕ) whe
   body_long : length (body_of st ls n o) ≡ o
   body_long = length-take-le o (drop (total_length (take n ls)) st) (omega (arith, g.inside, length-drop (total_length (take n ls)) st))
 
-  pub keep_refused : room_of (length st) < total_length (take n ls) + o + (length x + 1) → KeptTo st ls n o x kept.Full st
+  pub keep_refused : room_of (length st) < total_length (take n ls) + o + (length x + 1) → KeptTo st ls n o x full st
   keep_refused k =
       record {
         is = λ fs ss ks h. keep_full (room_of (length st)) (texts_of st fs ss ks ls n) (body_of st ls n o) x (omega (arith, texts_live st fs ss ks ls n h, body_long));
@@ -283,7 +281,7 @@ module _ (st ls : List ℕ) (n o : ℕ) (g : Opens st ls n o) (x : List ℕ) whe
     new_long : length new ≡ length st
     new_long = length-set copied (place + length x) 10 ∙ copied_long
 
-    pub kept_line : KeptTo st ls n o x (kept.Longer (o + (length x + 1))) (set (paste st (total_length (take n ls) + o) x (length x)) (total_length (take n ls) + o + length x) 10)
+    pub kept_line : KeptTo st ls n o x (Ok (o + (length x + 1))) (set (paste st (total_length (take n ls) + o) x (length x)) (total_length (take n ls) + o + length x) 10)
     kept_line =
         record {
           is = λ fs ss ks h. keep_set (room_of (length st)) (texts_of st fs ss ks ls n) (body_of st ls n o) x (body_of new ls n (o + (length x + 1))) (omega (arith, texts_live st fs ss ks ls n h, body_long)) body_is;

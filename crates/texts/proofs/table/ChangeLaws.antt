@@ -2,6 +2,7 @@
 use mathlib.Core.Path.{◌≡◌, refl, sym, ap, ◌∙◌}
 use mathlib.Core.Bool.{Bool, true, false}
 use mathlib.Core.List.{List, [], ◌∷◌, ◌++◌}
+use Rattle.std.specs.Prelude.{Option, None, Some}
 use Prim.Native.Nat.{ℕ, zero, suc, ◌+◌, ◌-◌, ◌≤◌, ◌<◌}
 use native.Mathlib.Numerals.{add-one}
 use native.Mathlib.Omega.{arith}
@@ -11,8 +12,6 @@ use Rattle.rules.specs.declared.Name.{Name}
 use Rattle.rules.specs.Names.{two_bytes, same_name}
 use Rattle.rules.specs.Texts.{Text, text, remove, live}
 use Rattle.rules.specs.Laws.Texts.{remove_first, remove_later}
-use Rattle.texts.specs.declared.table.TextPlace.{TextPlace}
-use Rattle.texts.specs.declared.table.TextPlace.TheVariants.{At, Not}
 use Rattle.texts.specs.Table.Table.{zip_with, TextRow, text_row, as_pair, names_of, text_rows, total_length, cut, texts_of, TextsInvariant}
 use Rattle.texts.specs.Table.Places.{next_text_place, text_place}
 use Rattle.texts.specs.Table.Changes.{without, closed_up, TakenOut}
@@ -61,13 +60,13 @@ cut_live (r ∷ rs) st h =
     omega (arith, length-take-le r.size st (omega arith), cut_live rs (drop r.size st) (omega (arith, length-drop r.size st)))
 
 -- what is left of texts without the one at a name's place
-abbrev remove_in : TextPlace → List Text → List Text
-remove_in (At i) ts = without i ts
-remove_in Not ts = ts
+abbrev remove_in : Option ℕ → List Text → List Text
+remove_in (Some i) ts = without i ts
+remove_in None ts = ts
 
-remove_in_next : (p : TextPlace) (t : Text) (ts : List Text) → remove_in (next_text_place p) (t ∷ ts) ≡ t ∷ remove_in p ts
-remove_in_next (At i) t ts = refl
-remove_in_next Not t ts = refl
+remove_in_next : (p : Option ℕ) (t : Text) (ts : List Text) → remove_in (next_text_place p) (t ∷ ts) ≡ t ∷ remove_in p ts
+remove_in_next (Some i) t ts = refl
+remove_in_next None t ts = refl
 
 -- a name is removed at its place
 pub remove_place : (n : Name) (st : List ℕ) (rs : List TextRow) → remove n (cut st rs) ≡ remove_in (text_place n (names rs)) (cut st rs)
@@ -79,7 +78,7 @@ remove_place n st (r ∷ rs) = go (same_name n r.name) refl (remove_place n (dro
     first = text r.name r.kind (take r.size st)
 
     go : (t : Bool) → same_name n r.name ≡ t → remove n (cut (drop r.size st) rs) ≡ remove_in (text_place n (names rs)) (cut (drop r.size st) rs)
-        → remove n (first ∷ cut (drop r.size st) rs) ≡ remove_in (elim t [ true ↦ At 0 | false ↦ next_text_place (text_place n (names rs)) ]) (first ∷ cut (drop r.size st) rs)
+        → remove n (first ∷ cut (drop r.size st) rs) ≡ remove_in (elim t [ true ↦ Some 0 | false ↦ next_text_place (text_place n (names rs)) ]) (first ∷ cut (drop r.size st) rs)
     go true e ih = remove_first n first (cut (drop r.size st) rs) e
     go false e ih =
         remove_later n first (cut (drop r.size st) rs) e ∙ ap (λ l. first ∷ l) ih
@@ -106,10 +105,10 @@ module _ (st fs ss ks ls : List ℕ) (n : ℕ) (h : TextsInvariant st fs ss ks l
   lies_same st' e = record { names = h.names; kinds_long = h.kinds_long; lengths_long = h.lengths_long; inside = omega (arith, h.inside) }
 
   -- what is left of the texts, if a name is found, and if not
-  pub remove_found : (m : Name) (i : ℕ) → text_place m (names_of fs ss n) ≡ At i → remove m (texts_of st fs ss ks ls n) ≡ without i (texts_of st fs ss ks ls n)
+  pub remove_found : (m : Name) (i : ℕ) → text_place m (names_of fs ss n) ≡ Some i → remove m (texts_of st fs ss ks ls n) ≡ without i (texts_of st fs ss ks ls n)
   remove_found m i e = remove_place m st (text_rows fs ss ks ls n) ∙ rw (rows_names st fs ss ks ls n h, e)
 
-  pub remove_not : (m : Name) → text_place m (names_of fs ss n) ≡ Not → remove m (texts_of st fs ss ks ls n) ≡ texts_of st fs ss ks ls n
+  pub remove_not : (m : Name) → text_place m (names_of fs ss n) ≡ None → remove m (texts_of st fs ss ks ls n) ≡ texts_of st fs ss ks ls n
   remove_not m e = remove_place m st (text_rows fs ss ks ls n) ∙ rw (rows_names st fs ss ks ls n h, e)
 
   -- the text in a row is taken out

@@ -1,76 +1,46 @@
 -- How the checks of lent columns go on at a row. Assumes nothing.
 use mathlib.Core.Path.{◌≡◌, sym, ap, ◌∙◌}
-use mathlib.Core.Bool.{true, false, not, ◌&&◌}
-use mathlib.Core.List.{List}
-use Prim.Native.Nat.{ℕ, suc, ◌+◌, ◌≤◌, ◌<◌}
+use mathlib.Core.Bool.{◌&&◌}
+use mathlib.Core.List.{List, [], ◌∷◌}
+use Prim.Native.Nat.{ℕ, zero, suc, ◌*◌, ◌+◌, ◌-◌, ◌≤◌, ◌<◌}
 use native.Mathlib.Numerals.{add-one}
 use native.Mathlib.Omega.{arith}
 use lib.ListN.{length, take, drop, get_or, drop_of_length-le}
 use lib.Seq.{drop-cons}
-use borrow.Author.Tests.{le-leb, lt-leb}
-use Rattle.rules.specs.declared.Name.{Name}
-use Rattle.rules.specs.Names.{same_name}
+use borrow.Author.Tests.{le-leb}
+use Rattle.std.specs.List.{list_all, range_with_len}
+use Rattle.rules.specs.Names.{two_bytes}
 use Rattle.texts.specs.Table.Table.{names_of, total_length, Names}
-use Rattle.texts.specs.Table.Changes.{room_of}
-use Rattle.texts.specs.Table.Checks.{NameColumns, is_text_table, lacks_name, all_distinct, no_name_twice}
-use Rattle.texts.proofs.table.Lists.{sum_step, sum_mono}
+use Rattle.texts.specs.Table.Checks.{NameColumns, lacks_name, all_distinct, no_name_twice}
+use Rattle.texts.proofs.table.Laws.{names_of_length, names_of_at}
 
--- the sum of lengths
-
-module _ (s : ℕ) (ls : List ℕ) (n : ℕ) where
-  pub table_many : 64 < n → is_text_table s ls n ≡ false
-  table_many h = rw (lt-leb n 64 h)
-
-  -- the rows before i and the one at i have more than the room already
-  pub table_over : n ≤ 64 → (i left : ℕ) → i < n → total_length (take i ls) + left ≡ room_of s → left < get_or ls i 0 → is_text_table s ls n ≡ false
-  table_over k i left h e o =
-      let g : room_of s < total_length (take n ls) = omega (arith, sum_step ls i, sum_mono ls (i + 1) n (omega arith)) in
-      rw (le-leb n 64 k, lt-leb (total_length (take n ls)) (room_of s) g)
-
-  pub table_fits : n ≤ 64 → (i left : ℕ) → i ≡ n → total_length (take i ls) + left ≡ room_of s → is_text_table s ls n ≡ true
-  table_fits k i left h e =
-      let q = ap (λ (m : ℕ). total_length (take m ls)) h in
-      let g : total_length (take n ls) ≤ room_of s = omega arith in
-      rw (le-leb n 64 k, le-leb (total_length (take n ls)) (room_of s) g)
+-- the sum of lengths: so many are far below the greatest number
+pub total_low : (l : List ℕ) → ((i : ℕ) → get_or l i 0 < 65536) → (k : ℕ) → total_length (take k l) ≤ 65536 * k
+unfolding total_length
+total_low l f zero = omega arith
+total_low [] f (suc k) = omega arith
+total_low (x ∷ l) f (suc k) = omega (arith, f 0, total_low l (λ i. f (suc i)) k)
 
 -- names
 
-module _ (n : Name) (l : List Name) (i : ℕ) (d : Name) (h : i < length l) where
-  pub lacks_here : same_name n (get_or l i d) ≡ true → lacks_name n (drop i l) ≡ false
-  unfolding lacks_name
-  lacks_here e = ap (lacks_name n) (drop-cons l i d h) ∙ ap (λ b. not b && lacks_name n (drop (suc i) l)) e
+-- at most 64 rows
+module _ (fs ss : List ℕ) (n : ℕ) (h : NameColumns fs ss) (k : n ≤ 64) where
+  pub names_lie : Names fs ss n
+  names_lie = record { firsts_long = h.firsts_long; seconds_long = h.seconds_long; few = k }
 
-  pub lacks_on : same_name n (get_or l i d) ≡ false → lacks_name n (drop i l) ≡ lacks_name n (drop (i + 1) l)
-  unfolding lacks_name
-  lacks_on e =
-      ap (lacks_name n) (drop-cons l i d h) ∙ ap (λ b. not b && lacks_name n (drop (suc i) l)) e ∙ ap (λ j. lacks_name n (drop j l)) (sym (add-one i))
+  pub twice_few : no_name_twice fs ss n ≡ all_distinct (drop 0 (names_of fs ss n))
+  twice_few = rw (le-leb n 64 k)
 
-pub lacks_end : (n : Name) (l : List Name) (i : ℕ) → length l ≤ i → lacks_name n (drop i l) ≡ true
-unfolding lacks_name
-lacks_end n l i h = rw (drop_of_length-le l h)
-
-module _ (l : List Name) (i : ℕ) (d : Name) (h : i < length l) where
-  distinct_cons : all_distinct (drop i l) ≡ (lacks_name (get_or l i d) (drop (i + 1) l) && all_distinct (drop (i + 1) l))
+  -- the rows of which d are left, each by whether those behind it lack its name
+  pub distinct_rows : (i d : ℕ) → d ≡ n - i → list_all (λ j. lacks_name (two_bytes (get_or fs j 0) (get_or ss j 0)) (drop (j + 1) (names_of fs ss n))) (range_with_len i d) ≡ all_distinct (drop i (names_of fs ss n))
   unfolding all_distinct
-  distinct_cons =
-      ap all_distinct (drop-cons l i d h) ∙ ap (λ j. lacks_name (get_or l i d) (drop j l) && all_distinct (drop j l)) (sym (add-one i))
-
-  pub distinct_on : lacks_name (get_or l i d) (drop (i + 1) l) ≡ true → all_distinct (drop i l) ≡ all_distinct (drop (i + 1) l)
-  distinct_on e = distinct_cons ∙ ap (λ b. b && all_distinct (drop (i + 1) l)) e
-
-  pub distinct_stop : lacks_name (get_or l i d) (drop (i + 1) l) ≡ false → all_distinct (drop i l) ≡ false
-  distinct_stop e = distinct_cons ∙ ap (λ b. b && all_distinct (drop (i + 1) l)) e
-
-pub distinct_end : (l : List Name) (i : ℕ) → length l ≤ i → all_distinct (drop i l) ≡ true
-unfolding all_distinct
-distinct_end l i h = rw (drop_of_length-le l h)
-
--- columns that hold a table of so many
-pub names_of_lem : (fs ss : List ℕ) (n : ℕ) → NameColumns fs ss → n ≤ 64 → Names fs ss n
-names_of_lem fs ss n h k = record { firsts_long = h.firsts_long; seconds_long = h.seconds_long; few = k }
-
-pub twice_many : (fs ss : List ℕ) (n : ℕ) → 64 < n → no_name_twice fs ss n ≡ false
-twice_many fs ss n h = rw (lt-leb n 64 h)
-
-pub twice_few : (fs ss : List ℕ) (n : ℕ) → n ≤ 64 → no_name_twice fs ss n ≡ all_distinct (names_of fs ss n)
-twice_few fs ss n h = rw (le-leb n 64 h)
+  distinct_rows i zero e =
+      let past : length (names_of fs ss n) ≤ i = omega (arith, names_of_length fs ss n names_lie) in
+      rw (drop_of_length-le (names_of fs ss n) past)
+  distinct_rows i (suc d) e =
+      let l = names_of fs ss n in
+      let c : drop i l ≡ get_or l i (two_bytes 0 0) ∷ drop (suc i) l = drop-cons l i (two_bytes 0 0) (omega (arith, names_of_length fs ss n names_lie)) in
+      ap (λ b. lacks_name (two_bytes (get_or fs i 0) (get_or ss i 0)) (drop (i + 1) l) && b) (distinct_rows (i + 1) d (omega arith))
+      ∙ ap (λ w. lacks_name w (drop (i + 1) l) && all_distinct (drop (i + 1) l)) (sym (names_of_at fs ss n names_lie i (omega arith)))
+      ∙ ap (λ j. lacks_name (get_or l i (two_bytes 0 0)) (drop j l) && all_distinct (drop j l)) (add-one i)
+      ∙ sym (ap all_distinct c)

@@ -1,84 +1,77 @@
 -- Laws of the table: the place of a name, and the text that stands there. Assumes nothing.
+use Rattle.std.specs.Prelude.{Option, None, Some}
 use mathlib.Core.Path.{◌≡◌, refl, sym, ap, ◌∙◌, subst}
-use mathlib.Core.Bool.{Bool, true, false}
+use mathlib.Core.Bool.{Bool, true, false, not, ◌&&◌, cond}
+use Rattle.std.specs.List.{list_all, position_from, range_with_len}
 use mathlib.Core.List.{List, [], ◌∷◌}
-use mathlib.Core.Option.{Option, none, some}
-use Prim.Native.Nat.{ℕ, zero, suc, ◌+◌, ◌≤◌, ◌<◌}
+use Prim.Native.Nat.{ℕ, zero, suc, ◌+◌, ◌-◌, ◌≤◌, ◌<◌}
 use native.Mathlib.Numerals.{add-one}
 use native.Mathlib.Omega.{arith}
-use lib.Dec.{eqb}
 use lib.ListN.{length, take, drop, get_or, drop_of_length-le}
 use lib.Seq.{drop-cons, drop-drop, length-take-le, get_or-take, take-take}
-use borrow.Author.Tests.{eq-eqb, ne_eqb}
 use Rattle.rules.specs.declared.Name.{Name}
-use Rattle.rules.specs.declared.Kind.TheVariants.{String}
 use Rattle.rules.specs.Names.{two_bytes, same_name}
 use Rattle.rules.specs.Laws.Names.{same_one}
 use Rattle.rules.specs.Texts.{Text, text, text_of}
 use Rattle.rules.specs.Laws.Texts.{found_first, found_later}
-use Rattle.texts.specs.declared.table.TextPlace.{TextPlace}
-use Rattle.texts.specs.declared.table.TextPlace.TheVariants.{At, Not}
 use Rattle.texts.specs.Table.Table.{zip_with, kind_of, TextRow, text_row, as_pair, names_of, text_rows, total_length, cut, texts_of, Names, TextsInvariant}
 use Rattle.texts.specs.Table.Places.{next_text_place, text_place}
+use Rattle.texts.specs.Table.Checks.{lacks_name}
 use Rattle.rules.specs.Columns.{zip_at, zip_length}
 use Rattle.texts.proofs.table.Lists.{sum_step, sum_mono}
-
--- the bytes of two names
-
-pub same_second : (n : Name) (a b : ℕ) → n.first ≡ a → eqb n.second b ≡ same_name n (two_bytes a b)
-same_second n a b e = rw (eq-eqb n.first a e)
-
-pub other_first : (n : Name) (a b : ℕ) → (n.first ≡ a → ⊥) → false ≡ same_name n (two_bytes a b)
-other_first n a b e = rw (ne_eqb n.first a e)
 
 -- places
 
 -- a place, so many rows further down
-abbrev pub further : ℕ → TextPlace → TextPlace
-further i (At k) = At (i + k)
-further i Not = Not
+abbrev pub further : ℕ → Option ℕ → Option ℕ
+further i (Some k) = Some (i + k)
+further i None = None
 
-further_next : (i : ℕ) (p : TextPlace) → further i (next_text_place p) ≡ further (i + 1) p
-further_next i (At k) = ap At (omega arith)
-further_next i Not = refl
+further_next : (i : ℕ) (p : Option ℕ) → further i (next_text_place p) ≡ further (i + 1) p
+further_next i (Some k) = ap Some (omega arith)
+further_next i None = refl
 
-pub further_0 : (p : TextPlace) → further 0 p ≡ p
-further_0 (At k) = ap At (omega arith)
-further_0 Not = refl
+pub further_0 : (p : Option ℕ) → further 0 p ≡ p
+further_0 (Some k) = ap Some (omega arith)
+further_0 None = refl
 
 -- how the search goes on at a row
 module _ (n : Name) (l : List Name) (i : ℕ) (d : Name) (h : i < length l) where
-  pub place_here : same_name n (get_or l i d) ≡ true → further i (text_place n (drop i l)) ≡ At i
+  place_here : same_name n (get_or l i d) ≡ true → further i (text_place n (drop i l)) ≡ Some i
   unfolding text_place
-  place_here e = rw (drop-cons l i d, text_place, e) (ap At (omega arith))
+  place_here e = rw (drop-cons l i d, text_place, e) (ap Some (omega arith))
 
-  pub place_on : same_name n (get_or l i d) ≡ false → further i (text_place n (drop i l)) ≡ further (i + 1) (text_place n (drop (i + 1) l))
+  place_on : same_name n (get_or l i d) ≡ false → further i (text_place n (drop i l)) ≡ further (i + 1) (text_place n (drop (i + 1) l))
   unfolding text_place
   place_on e = rw (drop-cons l i d, text_place, e) (further_next i (text_place n (drop (suc i) l)) ∙ ap (λ j. further (i + 1) (text_place n (drop j l))) (sym (add-one i)))
 
-pub place_end : (n : Name) (l : List Name) (i : ℕ) → length l ≤ i → further i (text_place n (drop i l)) ≡ Not
+place_end : (n : Name) (l : List Name) (i : ℕ) → length l ≤ i → further i (text_place n (drop i l)) ≡ None
 unfolding text_place
 place_end n l i h = rw (drop_of_length-le l h)
 
 -- a name that has a place stands in a row
-abbrev pub Stands : List Name → TextPlace → Type 0
-Stands l (At i) = i < length l
-Stands l Not = Unit
+abbrev pub Stands : List Name → Option ℕ → Type 0
+Stands l (Some i) = i < length l
+Stands l None = Unit
 
-stands_next : (m : Name) (l : List Name) (p : TextPlace) → Stands l p → Stands (m ∷ l) (next_text_place p)
-stands_next m l (At i) h = omega arith
-stands_next m l Not h = tt
+stands_next : (m : Name) (l : List Name) (p : Option ℕ) → Stands l p → Stands (m ∷ l) (next_text_place p)
+stands_next m l (Some i) h = omega arith
+stands_next m l None h = tt
 
 pub stands : (n : Name) (l : List Name) → Stands l (text_place n l)
 unfolding text_place
 stands n [] = tt
 stands n (m ∷ l) = go (same_name n m) (stands_next m l (text_place n l) (stands n l))
   where
-    go : (t : Bool) → Stands (m ∷ l) (next_text_place (text_place n l)) → Stands (m ∷ l) (elim t [ true ↦ At 0 | false ↦ next_text_place (text_place n l) ])
+    go : (t : Bool) → Stands (m ∷ l) (next_text_place (text_place n l)) → Stands (m ∷ l) (elim t [ true ↦ Some 0 | false ↦ next_text_place (text_place n l) ])
     go true i = omega arith
     go false i = i
 
 -- the columns of names
+
+-- whether the row at i has a name
+abbrev pub row_has : (fs ss : List ℕ) → Name → ℕ → Bool
+row_has fs ss m i = same_name m (two_bytes (get_or fs i 0) (get_or ss i 0))
 
 module _ (fs ss : List ℕ) (n : ℕ) (h : Names fs ss n) where
   names_same : length fs ≡ length ss
@@ -90,9 +83,34 @@ module _ (fs ss : List ℕ) (n : ℕ) (h : Names fs ss n) where
   pub names_of_at : (i : ℕ) → i < n → get_or (names_of fs ss n) i (two_bytes 0 0) ≡ two_bytes (get_or fs i 0) (get_or ss i 0)
   names_of_at i k = get_or-take n (zip_with two_bytes fs ss) i (two_bytes 0 0) k ∙ zip_at two_bytes fs ss i 0 0 names_same
 
-  -- whether the row at i has a name, by the answer that a comparison gave
-  pub row_same : (m : Name) (i : ℕ) → i < n → (r v : Bool) → r ≡ same_name m (two_bytes (get_or fs i 0) (get_or ss i 0)) → r ≡ v → same_name m (get_or (names_of fs ss n) i (two_bytes 0 0)) ≡ v
-  row_same m i k r v e q = ap (same_name m) (names_of_at i k) ∙ sym e ∙ q
+  module _ (m : Name) where
+    past : (i : ℕ) → n ≤ i → length (names_of fs ss n) ≤ i
+    past i k = omega (arith, names_of_length)
+
+    row_same : (i : ℕ) → i < n → same_name m (get_or (names_of fs ss n) i (two_bytes 0 0)) ≡ row_has fs ss m i
+    row_same i k = ap (same_name m) (names_of_at i k)
+
+    -- a search by rows, of which d are left
+    pub find_rows : (i d : ℕ) → d ≡ n - i → position_from (row_has fs ss m) i (range_with_len i d) ≡ further i (text_place m (drop i (names_of fs ss n)))
+    find_rows i zero e = sym (place_end m (names_of fs ss n) i (past i (omega arith)))
+    find_rows i (suc d) e = go (row_has fs ss m i) (row_same i (omega arith)) (find_rows (i + 1) d (omega arith))
+      where
+        here : i < length (names_of fs ss n)
+        here = omega (arith, names_of_length)
+
+        go : (t : Bool) → same_name m (get_or (names_of fs ss n) i (two_bytes 0 0)) ≡ t
+            → position_from (row_has fs ss m) (i + 1) (range_with_len (i + 1) d) ≡ further (i + 1) (text_place m (drop (i + 1) (names_of fs ss n)))
+            → cond t (Some i) (position_from (row_has fs ss m) (i + 1) (range_with_len (i + 1) d)) ≡ further i (text_place m (drop i (names_of fs ss n)))
+        go true s q = sym (place_here m (names_of fs ss n) i (two_bytes 0 0) here s)
+        go false s q = q ∙ sym (place_on m (names_of fs ss n) i (two_bytes 0 0) here s)
+
+    pub lacks_rows : (i d : ℕ) → d ≡ n - i → list_all (λ j. not (row_has fs ss m j)) (range_with_len i d) ≡ lacks_name m (drop i (names_of fs ss n))
+    unfolding lacks_name
+    lacks_rows i zero e = let p : length (names_of fs ss n) ≤ i = past i (omega arith) in rw (drop_of_length-le (names_of fs ss n) p)
+    lacks_rows i (suc d) e =
+        ap (λ b. not (row_has fs ss m i) && b) (lacks_rows (i + 1) d (omega arith) ∙ ap (λ j. lacks_name m (drop j (names_of fs ss n))) (add-one i))
+        ∙ ap (λ b. not b && lacks_name m (drop (suc i) (names_of fs ss n))) (sym (row_same i (omega arith)))
+        ∙ sym (ap (lacks_name m) (drop-cons (names_of fs ss n) i (two_bytes 0 0) (omega (arith, names_of_length))))
 
 -- rows
 
@@ -127,14 +145,14 @@ sizes_zip (suc n) (m ∷ ns) (k ∷ ks) (l ∷ ls) e f = ap (λ t. l ∷ t) (siz
 abbrev none_row : TextRow
 none_row = text_row (two_bytes 0 0) (as_pair 0 0)
 
-abbrev text_in : Name → TextPlace → (store : List ℕ) → List TextRow → Option Text
-text_in n (At i) st rs = let r = get_or rs i none_row in some (text n r.kind (take r.size (drop (total_length (take i (sizes rs))) st)))
-text_in n Not st rs = none
+abbrev text_in : Name → Option ℕ → (store : List ℕ) → List TextRow → Option Text
+text_in n (Some i) st rs = let r = get_or rs i none_row in Some (text n r.kind (take r.size (drop (total_length (take i (sizes rs))) st)))
+text_in n None st rs = None
 
-text_in_next : (n : Name) (p : TextPlace) (st : List ℕ) (r : TextRow) (rs : List TextRow) → text_in n (next_text_place p) st (r ∷ rs) ≡ text_in n p (drop r.size st) rs
+text_in_next : (n : Name) (p : Option ℕ) (st : List ℕ) (r : TextRow) (rs : List TextRow) → text_in n (next_text_place p) st (r ∷ rs) ≡ text_in n p (drop r.size st) rs
 unfolding total_length
-text_in_next n (At i) st r rs = rw (drop-drop (total_length (take i (sizes rs))) r.size st)
-text_in_next n Not st r rs = refl
+text_in_next n (Some i) st r rs = rw (drop-drop (total_length (take i (sizes rs))) r.size st)
+text_in_next n None st r rs = refl
 
 -- a name is looked up at its place
 pub text_of_place : (n : Name) (st : List ℕ) (rs : List TextRow) → text_of n (cut st rs) ≡ text_in n (text_place n (names rs)) st rs
@@ -146,8 +164,8 @@ text_of_place n st (r ∷ rs) = go (same_name n r.name) refl (text_of_place n (d
     first = text r.name r.kind (take r.size st)
 
     go : (t : Bool) → same_name n r.name ≡ t → text_of n (cut (drop r.size st) rs) ≡ text_in n (text_place n (names rs)) (drop r.size st) rs
-        → text_of n (first ∷ cut (drop r.size st) rs) ≡ text_in n (elim t [ true ↦ At 0 | false ↦ next_text_place (text_place n (names rs)) ]) st (r ∷ rs)
-    go true e ih = found_first n first (cut (drop r.size st) rs) e ∙ ap (λ m. some (text m r.kind (take r.size st))) (sym (same_one n r.name e))
+        → text_of n (first ∷ cut (drop r.size st) rs) ≡ text_in n (elim t [ true ↦ Some 0 | false ↦ next_text_place (text_place n (names rs)) ]) st (r ∷ rs)
+    go true e ih = found_first n first (cut (drop r.size st) rs) e ∙ ap (λ m. Some (text m r.kind (take r.size st))) (sym (same_one n r.name e))
     go false e ih = found_later n first (cut (drop r.size st) rs) e ∙ ih ∙ sym (text_in_next n (text_place n (names rs)) st r rs)
 
 module _ (st fs ss ks ls : List ℕ) (n : ℕ) (h : TextsInvariant st fs ss ks ls n) where
@@ -178,21 +196,16 @@ module _ (st fs ss ks ls : List ℕ) (n : ℕ) (h : TextsInvariant st fs ss ks l
   pub text_inside : (i : ℕ) → i < n → total_length (take i ls) + get_or ls i 0 ≤ length st
   text_inside i k = omega (arith, h.inside, sum_step ls i, sum_mono ls (i + 1) n (omega arith))
 
-  module _ (m : Name) (i : ℕ) (e : text_place m (names_of fs ss n) ≡ At i) where
+  module _ (m : Name) (i : ℕ) (e : text_place m (names_of fs ss n) ≡ Some i) where
     pub found_row : i < n
     found_row = omega (arith, subst (Stands (names_of fs ss n)) e (stands m (names_of fs ss n)), names_of_length fs ss n h.names)
 
     -- the text of a name that is found
-    pub found_text : text_of m (texts_of st fs ss ks ls n) ≡ some (text m (kind_of (get_or ks i 0)) (take (get_or ls i 0) (drop (total_length (take i ls)) st)))
+    pub found_text : text_of m (texts_of st fs ss ks ls n) ≡ Some (text m (kind_of (get_or ks i 0)) (take (get_or ls i 0) (drop (total_length (take i ls)) st)))
     found_text =
         text_of_place m st (text_rows fs ss ks ls n)
         ∙ rw (rows_names, e, rows_sizes, rows_at i found_row, take-take i n ls (omega (arith, found_row)))
 
   -- there is none of a name that is not found
-  pub not_text : (m : Name) → text_place m (names_of fs ss n) ≡ Not → text_of m (texts_of st fs ss ks ls n) ≡ none
+  pub not_text : (m : Name) → text_place m (names_of fs ss n) ≡ None → text_of m (texts_of st fs ss ks ls n) ≡ None
   not_text m e = text_of_place m st (text_rows fs ss ks ls n) ∙ rw (rows_names, e)
-
--- kinds by their codes
-pub kind_string : (k : ℕ) → (k ≡ 0 → ⊥) → String ≡ kind_of k
-kind_string zero h = absurd (h refl)
-kind_string (suc k) h = refl

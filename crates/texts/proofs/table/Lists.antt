@@ -5,8 +5,10 @@ use Prim.Native.Nat.{ℕ, zero, suc, ◌+◌, ◌-◌, ◌≤◌, ◌<◌}
 use native.Mathlib.Nat.{add_assoc, zero-add}
 use native.Mathlib.Numerals.{add-one}
 use native.Mathlib.Omega.{arith}
-use lib.ListN.{length, take, drop, get_or, set, length-drop}
-use lib.Seq.{take-add, take-take, take-nil, drop-drop, get_or-drop, take_at, drop_at, length-take-le, paste, paste-suc, take-paste, drop-paste}
+use lib.ListN.{length, take, drop, get_or}
+use lib.Seq.{take-add, take-take, take-nil, drop-drop, take_at, drop_at, length-take-le, paste, take-paste, drop-paste}
+use Rattle.std.specs.List.{sum}
+use Rattle.std.proofs.lemmas.List.Sums.{sum_by-cons}
 use Rattle.texts.specs.Table.Table.{zip_with, total_length}
 use Rattle.texts.specs.Table.Changes.{without, closed_up}
 
@@ -28,29 +30,23 @@ module _ {A B C : Type 0} (f : A → B → C) where
 -- a column that is closed up
 
 module _ {A : Type 0} where
-  -- the row behind the place is moved to it
-  closed_next : (l : List A) (i k : ℕ) (d : A) → suc i < length l → closed_up l i (suc k) ≡ closed_up (set l i (get_or l (suc i) d)) (suc i) k
+  -- the rows behind the place are copied to it
+  closed_copied : (l : List A) (i k m : ℕ) → m ≡ i + k → m < length l → closed_up l i k ≡ take i l ++ take k (drop (suc i) l) ++ drop m l
   unfolding closed_up
-  closed_next [] i k d h = absurd (omega arith)
-  closed_next (x ∷ []) i k d h = absurd (omega arith)
-  closed_next (x ∷ y ∷ l) zero k d h = refl
-  closed_next (x ∷ y ∷ l) (suc i) k d h = ap (λ t. x ∷ t) (closed_next (y ∷ l) i k d (omega arith))
+  closed_copied [] i k m e h = absurd (omega arith)
+  closed_copied (x ∷ l) (suc i) k zero e h = absurd (omega arith)
+  closed_copied (x ∷ l) (suc i) k (suc m) e h = ap (λ t. x ∷ t) (closed_copied l i k m (omega arith) (omega arith))
+  closed_copied (x ∷ l) zero zero zero e h = refl
+  closed_copied (x ∷ l) zero zero (suc m) e h = absurd (omega arith)
+  closed_copied (x ∷ l) zero (suc k) zero e h = absurd (omega arith)
+  closed_copied (x ∷ []) zero (suc k) (suc m) e h = absurd (omega arith)
+  closed_copied (x ∷ y ∷ l) zero (suc k) (suc m) e h = ap (λ t. y ∷ t) (closed_copied (y ∷ l) zero k m (omega arith) (omega arith))
 
-  -- none is left to move
-  closed_last : (l : List A) (i : ℕ) → closed_up l i 0 ≡ l
-  unfolding closed_up
-  closed_last [] i = refl
-  closed_last (x ∷ l) zero = refl
-  closed_last (x ∷ l) (suc i) = ap (λ t. x ∷ t) (closed_last l i)
-
-  -- the same in the numbers of the loop, which goes from i to n
-  pub closed_step : (l : List A) (i n : ℕ) (d : A) → i < n → n < length l → closed_up l i (n - i) ≡ closed_up (set l i (get_or l (i + 1) d)) (i + 1) (n - (i + 1))
-  closed_step l i n d h k =
-      let e : n - i ≡ suc (n - (i + 1)) = omega arith in
-      rw (e, add-one i) (closed_next l i (n - suc i) d (omega arith))
-
-  pub closed_done : (l : List A) (i n : ℕ) → n ≤ i → closed_up l i (n - i) ≡ l
-  closed_done l i n h = let e : n - i ≡ 0 = omega arith in rw e (closed_last l i)
+  -- the same in the numbers of the code
+  pub closed_paste : (l : List A) (i n : ℕ) → i < n → n ≤ length l → paste l i (drop (i + 1) l) (n - (i + 1)) ≡ closed_up l i (n - 1 - i)
+  closed_paste l i n h k =
+      let e : n - (i + 1) ≡ n - 1 - i = omega arith in
+      rw (e, add-one i) (sym (closed_copied l i (n - 1 - i) (i + (n - 1 - i)) refl (omega arith)))
 
   pub closed_length : (l : List A) (i k : ℕ) → length (closed_up l i k) ≡ length l
   unfolding closed_up
@@ -119,26 +115,6 @@ module _ {A : Type 0} where
 
 -- bytes that are copied down
 
--- what is read ahead of the place that is written is as it was
-read_ahead : (d : List ℕ) (to from j : ℕ) → to ≤ from → from + j < length d → get_or (paste d to (drop from d) j) (from + j) 0 ≡ get_or d (from + j) 0
-read_ahead d to from j h k =
-    let e : from + j ≡ (to + j) + (from - to) = omega arith in
-    let s : j ≤ length (drop from d) = omega (arith, length-drop from d) in
-    let p : to ≤ length d = omega arith in
-    rw (e, ← get_or-drop (to + j) (paste d to (drop from d) j) (from - to) 0, drop-paste d to (drop from d) j p s) (get_or-drop (to + j) d (from - to) 0)
-
--- one byte more moves down
-pub move_step : (d : List ℕ) (to from j : ℕ) → to ≤ from → from + j < length d
-    → set (paste d to (drop from d) j) (to + j) (get_or (paste d to (drop from d) j) (from + j) 0) ≡ paste d to (drop from d) (j + 1)
-move_step d to from j h k =
-    let s : j < length (drop from d) = omega (arith, length-drop from d) in
-    let w : to + j < length d = omega arith in
-    rw (read_ahead d to from j h k, ← get_or-drop from d j 0, add-one j) (paste-suc d to (drop from d) j 0 w s)
-
--- one byte more is copied
-pub copy_step : (d : List ℕ) (at : ℕ) (s : List ℕ) (j : ℕ) → at + j < length d → j < length s → set (paste d at s j) (at + j) (get_or s j 0) ≡ paste d at s (j + 1)
-copy_step d at s j h k = rw (add-one j) (paste-suc d at s j 0 h k)
-
 -- sums
 
 pub sum_append : (xs ys : List ℕ) → total_length (xs ++ ys) ≡ total_length xs + total_length ys
@@ -161,6 +137,12 @@ pub sum_mono : (l : List ℕ) (i j : ℕ) → i ≤ j → total_length (take i l
 sum_mono l i j h =
     let e : j ≡ i + (j - i) = omega arith in
     rw (e, take-add i (j - i) l, sum_append (take i l) (take (j - i) (drop i l))) (omega arith)
+
+-- it is the sum of std
+pub total_sum : (l : List ℕ) → sum l ≡ total_length l
+unfolding total_length
+total_sum [] = refl
+total_sum (x ∷ l) = sum_by-cons (λ (n : ℕ). n) x l ∙ ap (λ (n : ℕ). x + n) (total_sum l)
 
 -- the sum without one length
 pub sum_without : (l : List ℕ) (i : ℕ) → total_length (without i l) + get_or l i 0 ≡ total_length l

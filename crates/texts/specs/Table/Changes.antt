@@ -1,13 +1,11 @@
 -- What the answers of changes stand for, in the rules' terms, and what they leave as it was. Assumes nothing.
-use Rattle.std.specs.Prelude.{◌≡◌, refl, Bool, true, false, List, [], ◌∷◌, ◌++◌, ℕ, zero, suc, ◌+◌, ◌-◌, ◌≤◌, ◌<◌, ltb, length, take, drop, get_or, set}
+use Rattle.std.specs.Prelude.{◌≡◌, refl, Bool, true, false, List, [], ◌∷◌, ◌++◌, ℕ, zero, suc, ◌+◌, ◌-◌, ◌≤◌, ◌<◌, ltb, length, take, drop, get_or, set, Result, Ok, Err}
 use Rattle.rules.specs.declared.Name.{Name}
-use Rattle.rules.specs.Refusals.{Judged, value, bad}
-use Rattle.rules.specs.Texts.{Text, text, remove, define_string_in, open_macro, keep_line_in, close_macro}
-use Rattle.texts.specs.declared.table.TextCount.{TextCount}
-use Rattle.texts.specs.declared.table.TextCount.TheVariants.{Set, Full}
-use Rattle.texts.specs.declared.table.KeptLine.{KeptLine}
-use Rattle.texts.specs.declared.table.KeptLine.TheVariants as kept
-use Rattle.texts.specs.Table.Table.{kind_of, total_length, texts_of, TextsInvariant}
+use Rattle.rules.specs.declared.Kind.{Kind}
+use Rattle.rules.specs.declared.Refusal.{Refusal}
+use Rattle.rules.specs.Results.{judged_by}
+use Rattle.rules.specs.Texts.{text, remove, define_string_in, open_macro, keep_line_in, close_macro}
+use Rattle.texts.specs.Table.Table.{code_of, total_length, texts_of, TextsInvariant}
 
 -- the lesser of two
 abbrev pub lesser : (less : Bool) → ℕ → ℕ → ℕ
@@ -47,16 +45,16 @@ pub record TakenOut (st fs ss ks ls : List ℕ) (count i : ℕ) (st' fs' ss' ks'
   pub past : SameFrom (total_length (take count ls)) st st'
 
 -- a row is written behind the last
-pub record Entered (fs ss ks ls : List ℕ) (count : ℕ) (name : Name) (code size : ℕ) (fs' ss' ks' ls' : List ℕ) : Type 0 where
+pub record Entered (fs ss ks ls : List ℕ) (count : ℕ) (name : Name) (kind : Kind) (size : ℕ) (fs' ss' ks' ls' : List ℕ) : Type 0 where
   pub firsts : fs' ≡ set fs count name.first
   pub seconds : ss' ≡ set ss count name.second
-  pub kinds : ks' ≡ set ks count code
+  pub kinds : ks' ≡ set ks count (code_of kind)
   pub lengths : ls' ≡ set ls count size
 
 -- a text is put behind the last
-pub record Appended (st fs ss ks ls : List ℕ) (count : ℕ) (name : Name) (code : ℕ) (bytes : List ℕ) (r : ℕ) (st' fs' ss' ks' ls' : List ℕ) : Type 0 where
+pub record Appended (st fs ss ks ls : List ℕ) (count : ℕ) (name : Name) (kind : Kind) (bytes : List ℕ) (r : ℕ) (st' fs' ss' ks' ls' : List ℕ) : Type 0 where
   pub more : r ≡ count + 1
-  pub is : texts_of st' fs' ss' ks' ls' r ≡ texts_of st fs ss ks ls count ++ text name (kind_of code) bytes ∷ []
+  pub is : texts_of st' fs' ss' ks' ls' r ≡ texts_of st fs ss ks ls count ++ text name kind bytes ∷ []
   pub lies : TextsInvariant st' fs' ss' ks' ls' r
   pub size : total_length (take r ls') ≡ total_length (take count ls) + length bytes
   pub long : length st' ≡ length st
@@ -69,27 +67,22 @@ pub record RemovedTo (st fs ss ks ls : List ℕ) (count : ℕ) (name : Name) (r 
   pub long : length st' ≡ length st
   pub past : SameFrom (total_length (take count ls)) st st'
 
--- "11: .. 65th name .. or live text past 8,192 bytes"
-abbrev pub texts_stored : TextCount → (ℕ → List Text) → Judged (List Text)
-texts_stored (Set n) texts = value (texts n)
-texts_stored Full texts = bad 11
-
--- how many texts there are then, of so many before
-abbrev pub text_count_after : TextCount → ℕ → ℕ
-text_count_after (Set n) count = n
-text_count_after Full count = count
+-- how many texts, or bytes of a body, there are then, of so many before
+abbrev pub count_after : Result ℕ Refusal → ℕ → ℕ
+count_after (Ok n) before = n
+count_after (Err f) before = before
 
 -- a refused change changes nothing
-abbrev pub TextsKeptFull : TextCount → (st fs ss ks ls st' fs' ss' ks' ls' : List ℕ) → Type 0
-TextsKeptFull (Set n) st fs ss ks ls st' fs' ss' ks' ls' = Unit
-TextsKeptFull Full st fs ss ks ls st' fs' ss' ks' ls' = (st' ≡ st) × (fs' ≡ fs) × (ss' ≡ ss) × (ks' ≡ ks) × (ls' ≡ ls)
+abbrev pub TextsKeptFull : Result ℕ Refusal → (st fs ss ks ls st' fs' ss' ks' ls' : List ℕ) → Type 0
+TextsKeptFull (Ok n) st fs ss ks ls st' fs' ss' ks' ls' = Unit
+TextsKeptFull (Err f) st fs ss ks ls st' fs' ss' ks' ls' = (st' ≡ st) × (fs' ≡ fs) × (ss' ≡ ss) × (ks' ≡ ks) × (ls' ≡ ls)
 
 -- a string is defined as the rules say; the bytes behind what was live and behind what is live are as they were
-pub record DefinedTo (st fs ss ks ls : List ℕ) (count : ℕ) (name : Name) (bytes : List ℕ) (r : TextCount) (st' fs' ss' ks' ls' : List ℕ) : Type 0 where
-  pub is : texts_stored r (texts_of st' fs' ss' ks' ls') ≡ define_string_in (room_of (length st)) name bytes (texts_of st fs ss ks ls count)
-  pub lies : TextsInvariant st' fs' ss' ks' ls' (text_count_after r count)
+pub record DefinedTo (st fs ss ks ls : List ℕ) (count : ℕ) (name : Name) (bytes : List ℕ) (r : Result ℕ Refusal) (st' fs' ss' ks' ls' : List ℕ) : Type 0 where
+  pub is : judged_by (texts_of st' fs' ss' ks' ls') r ≡ define_string_in (room_of (length st)) name bytes (texts_of st fs ss ks ls count)
+  pub lies : TextsInvariant st' fs' ss' ks' ls' (count_after r count)
   pub long : length st' ≡ length st
-  pub past : (m : ℕ) → total_length (take count ls) ≤ m → total_length (take (text_count_after r count) ls') ≤ m → drop m st' ≡ drop m st
+  pub past : (m : ℕ) → total_length (take count ls) ≤ m → total_length (take (count_after r count) ls') ≤ m → drop m st' ≡ drop m st
   pub kept : TextsKeptFull r st fs ss ks ls st' fs' ss' ks' ls'
 
 -- A definition is open: its body lies directly behind the texts, so many bytes of it, and a row is left for it.
@@ -103,43 +96,33 @@ abbrev pub body_of : (store lengths : List ℕ) → (count opened : ℕ) → Lis
 body_of st ls n o = take o (drop (total_length (take n ls)) st)
 
 -- an empty body is open, if it is not refused
-abbrev pub OpensIf : TextCount → (store lengths : List ℕ) → Type 0
-OpensIf (Set n) st ls = Opens st ls n 0
-OpensIf Full st ls = Unit
+abbrev pub OpensIf : Result ℕ Refusal → (store lengths : List ℕ) → Type 0
+OpensIf (Ok n) st ls = Opens st ls n 0
+OpensIf (Err f) st ls = Unit
 
 -- a macro is opened as the rules say
-pub record OpenedTo (st fs ss ks ls : List ℕ) (count : ℕ) (name : Name) (r : TextCount) (st' fs' ss' ks' ls' : List ℕ) : Type 0 where
-  pub is : texts_stored r (texts_of st' fs' ss' ks' ls') ≡ open_macro name (texts_of st fs ss ks ls count)
-  pub lies : TextsInvariant st' fs' ss' ks' ls' (text_count_after r count)
+pub record OpenedTo (st fs ss ks ls : List ℕ) (count : ℕ) (name : Name) (r : Result ℕ Refusal) (st' fs' ss' ks' ls' : List ℕ) : Type 0 where
+  pub is : judged_by (texts_of st' fs' ss' ks' ls') r ≡ open_macro name (texts_of st fs ss ks ls count)
+  pub lies : TextsInvariant st' fs' ss' ks' ls' (count_after r count)
   pub opens : OpensIf r st' ls'
   pub long : length st' ≡ length st
   pub past : SameFrom (total_length (take count ls)) st st'
   pub kept : TextsKeptFull r st fs ss ks ls st' fs' ss' ks' ls'
 
--- the body of an open definition after a line, or a refusal
-abbrev pub kept_of : KeptLine → (ℕ → List ℕ) → Judged (List ℕ)
-kept_of (kept.Longer n) body = value (body n)
-kept_of kept.Full body = bad 11
-
--- how many bytes it has then, of so many before
-abbrev pub opened_of : KeptLine → ℕ → ℕ
-opened_of (kept.Longer n) o = n
-opened_of kept.Full o = o
-
 -- a refused line changes nothing
-abbrev pub StoreKeptRefused : KeptLine → (st st' : List ℕ) → Type 0
-StoreKeptRefused (kept.Longer n) st st' = Unit
-StoreKeptRefused kept.Full st st' = st' ≡ st
+abbrev pub StoreKeptRefused : Result ℕ Refusal → (st st' : List ℕ) → Type 0
+StoreKeptRefused (Ok n) st st' = Unit
+StoreKeptRefused (Err f) st st' = st' ≡ st
 
 -- a body line is kept as the rules say, and the texts stay as they are
-pub record KeptTo (st ls : List ℕ) (count opened : ℕ) (line : List ℕ) (r : KeptLine) (st' : List ℕ) : Type 0 where
+pub record KeptTo (st ls : List ℕ) (count opened : ℕ) (line : List ℕ) (r : Result ℕ Refusal) (st' : List ℕ) : Type 0 where
   pub is : (fs ss ks : List ℕ) → TextsInvariant st fs ss ks ls count
-      → kept_of r (body_of st' ls count) ≡ keep_line_in (room_of (length st)) (texts_of st fs ss ks ls count) (body_of st ls count opened) line
+      → judged_by (body_of st' ls count) r ≡ keep_line_in (room_of (length st)) (texts_of st fs ss ks ls count) (body_of st ls count opened) line
   pub texts : (fs ss ks : List ℕ) → TextsInvariant st fs ss ks ls count → texts_of st' fs ss ks ls count ≡ texts_of st fs ss ks ls count
   pub lies : (fs ss ks : List ℕ) → TextsInvariant st fs ss ks ls count → TextsInvariant st' fs ss ks ls count
-  pub opens : Opens st' ls count (opened_of r opened)
+  pub opens : Opens st' ls count (count_after r opened)
   pub long : length st' ≡ length st
-  pub past : SameFrom (total_length (take count ls) + opened_of r opened) st st'
+  pub past : SameFrom (total_length (take count ls) + count_after r opened) st st'
   pub kept : StoreKeptRefused r st st'
 
 -- a macro is closed as the rules say

@@ -1,8 +1,7 @@
 -- Whether lent columns are a table of texts: as tests, with the laws that they hold exactly where the table's invariants do. Assumes nothing.
-use Rattle.std.specs.Prelude.{◌≡◌, refl, Bool, true, false, not, ◌&&◌, List, [], ◌∷◌, ℕ, zero, suc, ◌≤◌, leb, ltb, length, take, drop}
+use Rattle.std.specs.Prelude.{◌≡◌, refl, Bool, true, false, not, ◌&&◌, List, [], ◌∷◌, ℕ, zero, suc, ◌≤◌, leb, ltb, length, take, drop, None}
 use Rattle.std.proofs.Common.{sym, ap, ◌∙◌, arith, leb-true, le-leb, ltb-true, ltb-false}
 use Rattle.std.proofs.lemmas.Bool.{false≢true}
-use Rattle.std.proofs.Math.Option.{none}
 use Rattle.rules.specs.declared.Name.{Name}
 use Rattle.rules.specs.Bytes.{first_where}
 use Rattle.rules.specs.Names.{same_name, two_bytes}
@@ -87,7 +86,7 @@ abbrev row_names : List TextRow → List Name
 row_names [] = []
 row_names (r ∷ rs) = r.name ∷ row_names rs
 
-lacks_sound : (n : Name) (st : List ℕ) (rs : List TextRow) → lacks_name n (row_names rs) ≡ true → text_of n (cut st rs) ≡ none
+lacks_sound : (n : Name) (st : List ℕ) (rs : List TextRow) → lacks_name n (row_names rs) ≡ true → text_of n (cut st rs) ≡ None
 unfolding lacks_name cut text_of first_where
 lacks_sound n st [] h = refl
 lacks_sound n st (r ∷ rs) h =
@@ -95,7 +94,7 @@ lacks_sound n st (r ∷ rs) h =
     found_later n (text r.name r.kind (take r.size st)) (cut (drop r.size st) rs) (not_true (same_name n r.name) b.0)
     ∙ lacks_sound n (drop r.size st) rs b.1
 
-lacks_complete : (n : Name) (st : List ℕ) (rs : List TextRow) → text_of n (cut st rs) ≡ none → lacks_name n (row_names rs) ≡ true
+lacks_complete : (n : Name) (st : List ℕ) (rs : List TextRow) → text_of n (cut st rs) ≡ None → lacks_name n (row_names rs) ≡ true
 unfolding lacks_name cut
 lacks_complete n st [] h = refl
 lacks_complete n st (r ∷ rs) h =

@@ -1,5 +1,5 @@
 -- The texts, as a store and the columns of their table stand for them. Assumes nothing.
-use Rattle.std.specs.Prelude.{◌≡◌, List, [], ◌∷◌, ℕ, zero, suc, ◌+◌, ◌≤◌, length, take, drop}
+use Rattle.std.specs.Prelude.{◌≡◌, refl, List, [], ◌∷◌, ℕ, zero, suc, ◌+◌, ◌≤◌, length, take, drop}
 use Rattle.std.proofs.Common.{zero-le}
 use Rattle.rules.specs.declared.Name.{Name}
 use Rattle.rules.specs.declared.Kind.{Kind}
@@ -13,6 +13,16 @@ pub use Rattle.rules.specs.Columns.{names_of, Names}
 abbrev pub kind_of : ℕ → Kind
 kind_of zero = Macro
 kind_of (suc k) = String
+
+-- the code of a kind
+abbrev pub code_of : Kind → ℕ
+code_of Macro = 0
+code_of String = 1
+
+-- Sanity: a kind is read as it was written.
+pub kind_of_code : (k : Kind) → kind_of (code_of k) ≡ k
+kind_of_code Macro = refl
+kind_of_code String = refl
 
 -- what the table says of a text
 pub record TextRow : Type 0 where

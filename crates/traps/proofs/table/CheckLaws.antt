@@ -1,47 +1,26 @@
--- How the check of a lent table goes on at a trap. Assumes nothing.
-use mathlib.Core.Path.{◌≡◌, ap, ◌∙◌}
-use mathlib.Core.Bool.{true, false, not, ◌&&◌}
-use mathlib.Core.List.{List}
-use Prim.Native.Nat.{ℕ, ◌+◌, ◌≤◌, ◌<◌}
-use lib.IntN.{ℤ}
-use lib.ListN.{length, take, drop, get_or}
-use borrow.Author.Tests.{le-leb, lt-leb}
+-- The check of a lent table, trap by trap. Assumes nothing.
+use Rattle.std.specs.Prelude.{◌≡◌, refl, true, not, ◌&&◌, List, [], ◌∷◌, ℕ, ◌+◌, ◌-◌, ◌<◌, ◌≤◌, length, take, drop, ℤ}
+use Rattle.std.proofs.Common.{get_or}
+use Rattle.std.specs.List.{list_all}
+use Rattle.std.proofs.lemmas.List.{at_drop_more, at_drop_all, take_rest}
 use Rattle.rules.specs.declared.Trap.{Trap}
 use Rattle.rules.specs.Numbers.{equal_z}
-use Rattle.traps.specs.declared.table.Planted.{Planted}
-use Rattle.traps.specs.Table.Table.{planted_of}
-use Rattle.traps.specs.Table.TableLaws.{front_next, front_end}
-use Rattle.traps.specs.Table.Checks.{lacks_place, single, is_trap_table}
+use Rattle.traps.specs.Table.Checks.{lacks_place, single}
 
-module _ (l : List Trap) (n i : ℕ) (d : Trap) (h : i < n) (k : n ≤ length l) where
-  pub lacks_here : (p : ℤ) → equal_z p (get_or l i d).place.0 ≡ true → lacks_place p (drop i (take n l)) ≡ false
-  unfolding lacks_place
-  lacks_here p e = ap (lacks_place p) (front_next l n i d h k) ∙ ap (λ b. not b && lacks_place p (drop (i + 1) (take n l))) e
-
-  pub lacks_on : (p : ℤ) → equal_z p (get_or l i d).place.0 ≡ false → lacks_place p (drop i (take n l)) ≡ lacks_place p (drop (i + 1) (take n l))
-  unfolding lacks_place
-  lacks_on p e = ap (lacks_place p) (front_next l n i d h k) ∙ ap (λ b. not b && lacks_place p (drop (i + 1) (take n l))) e
-
-  single_cons : single (drop i (take n l)) ≡ (lacks_place (get_or l i d).place.0 (drop (i + 1) (take n l)) && single (drop (i + 1) (take n l)))
-  unfolding single
-  single_cons = ap single (front_next l n i d h k)
-
-  pub single_on : lacks_place (get_or l i d).place.0 (drop (i + 1) (take n l)) ≡ true → single (drop i (take n l)) ≡ single (drop (i + 1) (take n l))
-  single_on e = single_cons ∙ ap (λ b. b && single (drop (i + 1) (take n l))) e
-
-  pub single_stop : lacks_place (get_or l i d).place.0 (drop (i + 1) (take n l)) ≡ false → single (drop i (take n l)) ≡ false
-  single_stop e = single_cons ∙ ap (λ b. b && single (drop (i + 1) (take n l))) e
-
-pub lacks_end : (l : List Trap) (n i : ℕ) (p : ℤ) → n ≤ i → lacks_place p (drop i (take n l)) ≡ true
+-- No trap of a list has an N: each of them has another.
+pub lacks_all : (p : ℤ) (ts : List Trap) → list_all (λ t. not (equal_z p t.place.0)) ts ≡ lacks_place p ts
 unfolding lacks_place
-lacks_end l n i p h = rw (front_end l n i h)
+lacks_all p [] = refl
+lacks_all p (t ∷ ts) = rw (lacks_all p ts)
 
-pub single_end : (l : List Trap) (n i : ℕ) → n ≤ i → single (drop i (take n l)) ≡ true
+-- No two of the traps from i on have one N: the later ones lack that of the trap at i,
+pub single_next : (ts : List Trap) (i : ℕ) (d : Trap) → i < length ts
+    → single (drop i ts) ≡ (lacks_place (get_or ts i d).place.0 (take (length ts - (i + 1)) (drop (i + 1) ts)) && single (drop (i + 1) ts))
 unfolding single
-single_end l n i h = rw (front_end l n i h)
+single_next ts i d h =
+    rw (take_rest ts (i + 1)) (at_drop_more single ts i d h)
 
-pub table_many : (p : Planted) → 16 < p.count → is_trap_table p ≡ false
-table_many p h = rw (lt-leb p.count 16 h)
-
-pub table_few : (p : Planted) → p.count ≤ 16 → is_trap_table p ≡ single (planted_of p)
-table_few p h = rw (le-leb p.count 16 h)
+-- or there are none.
+pub single_end : (ts : List Trap) (i : ℕ) → length ts ≤ i → single (drop i ts) ≡ true
+unfolding single
+single_end ts i h = at_drop_all single ts i h

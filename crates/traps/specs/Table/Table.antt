@@ -1,16 +1,11 @@
 -- The table as the rules' list of traps, and what its functions answer.
-use Rattle.std.specs.Prelude.{true, false, cond, List, [], ◌∷◌, ◌++◌, ℕ, suc, ◌≤◌, leb, length, take, drop, replicate, ℤ, pos}
-use Rattle.std.proofs.Math.Option.{Option, none, some}
+use Rattle.std.specs.Prelude.{Bool, true, false, List, [], ◌∷◌, ◌++◌, ℕ, suc, ◌≤◌, leb, length, take, drop, replicate, ℤ, pos}
 use Rattle.rules.specs.declared.Name.{Name}
 use Rattle.rules.specs.declared.Trap.{Trap}
+use Rattle.rules.specs.Refusals.{Judged, judge}
 use Rattle.rules.specs.Numbers.{equal_z}
 use Rattle.rules.specs.Traps.{plant}
 use Rattle.traps.specs.declared.table.Planted.{Planted}
-use Rattle.traps.specs.declared.table.Planting.{Planting}
-use Rattle.traps.specs.declared.nearest.TrapRow.{TrapRow}
-use Rattle.traps.specs.declared.nearest.TrapRow.TheVariants.{At, Asleep}
-use Rattle.traps.specs.declared.table.FoundTrap.{FoundTrap}
-use Rattle.traps.specs.declared.table.FoundTrap.TheVariants.{Text, Nothing}
 
 -- what every table keeps to
 abbrev pub TrapsInvariant : Planted → Type 0
@@ -28,13 +23,9 @@ planted_of p = take p.count p.traps
 abbrev pub holding : Planted → List Trap → Planted
 holding p ts = record { traps = ts ++ drop (length ts) p.traps; count = length ts }
 
-abbrev pub row_is : TrapRow → Option ℕ
-row_is (At n) = some n
-row_is Asleep = none
-
-abbrev pub found_is : FoundTrap → Option Name
-found_is (Text n) = some n
-found_is Nothing = none
+-- whether a trap is planted at an N
+abbrev pub stands_for : ℤ → Trap → Bool
+stands_for p t = equal_z p t.place.0
 
 -- the index of the first trap of an N, or else the length
 unfoldable pub index_of : ℤ → List Trap → ℕ
@@ -45,9 +36,9 @@ index_of p (t ∷ ts) = elim (equal_z p t.place.0) [ true ↦ 0 | false ↦ suc 
 abbrev pub without : ℕ → List Trap → List Trap
 without k ts = take k ts ++ drop (suc k) ts
 
--- "at most 16 records": a list of more is not kept, and the table stays as it was
-abbrev pub kept_or : Planted → List Trap → Planting
-kept_or p ts = cond (leb (length ts) 16) (record { full = false; planted = holding p ts }) (record { full = true; planted = p })
+-- "at most 16 records", "11: .. 17th trap": a list of more is not kept
+abbrev pub kept_or : Planted → List Trap → Judged Planted
+kept_or p ts = judge (leb (length ts) 16) 11 (holding p ts)
 
-abbrev pub planting_of : Planted → ℤ → Name → Planting
+abbrev pub planting_of : Planted → ℤ → Name → Judged Planted
 planting_of p place name = kept_or p (plant place name (planted_of p))

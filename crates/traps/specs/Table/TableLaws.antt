@@ -1,49 +1,35 @@
--- Laws of the table: a loop over its front, planting and removing by an index, and what the table holds afterwards. Assumes nothing.
-use Rattle.std.specs.Prelude.{◌≡◌, refl, Bool, true, false, List, [], ◌∷◌, ◌++◌, ℕ, suc, ◌+◌, ◌-◌, ◌≤◌, ◌<◌, ℤ, length, take, drop, get_or, set, leb}
-use Rattle.std.proofs.Common.{sym, ap, ◌∙◌, append-nil, add-one, arith, length-append, length-take, length-drop, length-set, take-append-drop, drop_of_length-le, drop-cons, get_or-take, get_or-drop, length-take-le, take_all, take-take, take-add, drop_at, le-leb, leb-true}
-use Rattle.std.proofs.Math.Option.{none, some}
-use Rattle.std.proofs.Math.Seq.{take-append_seam, append_snoc, paste, paste-suc, length_paste_head}
+-- Laws of the table: what its searches answer, planting and removing by an index, and what the table holds afterwards. Assumes nothing.
+use Rattle.std.specs.Prelude.{◌≡◌, refl, Bool, true, false, List, [], ◌∷◌, ◌++◌, ℕ, suc, ◌+◌, ◌-◌, ◌≤◌, ◌<◌, cond, ltb, ℤ, length, take, drop, set, leb, Option, None, Some, option_map, find, fold, position}
+use Rattle.std.specs.List.{position_or_len}
+use Rattle.std.proofs.Common.{sym, ap, ◌∙◌, append-nil, add-one, arith, length-append, length-take, length-drop, length-set, take-append-drop, drop_of_length-le, length-take-le, take_all, take-take, take-add, drop_at, le-leb, leb-true, ltb-true, ltb-false}
+use Rattle.std.proofs.Math.Seq.{take-append_seam, append_snoc, paste, length_paste_head}
 use Rattle.std.proofs.lemmas.List.{set_split, set-append_left}
+use Rattle.std.proofs.lemmas.List.Recursion.{is_position_or_len}
 use Rattle.std.proofs.lemmas.Bool.{lt-leb}
 use Rattle.rules.specs.declared.Name.{Name}
 use Rattle.rules.specs.declared.Trap.{Trap}
 use Rattle.rules.specs.Numbers.{equal_z}
+use Rattle.rules.specs.Refusals.{value, bad}
 use Rattle.rules.specs.Traps.{row_of, is_row, seen_at, nearer, nearest_trap, plant, remove_trap}
 use Rattle.rules.specs.Laws.Traps.{trap, plant_here, plant_on, remove_here, remove_on, seen_first, seen_later, remove_length}
 use Rattle.traps.specs.declared.table.Planted.{Planted}
-use Rattle.traps.specs.declared.table.Planting.{Planting}
-use Rattle.traps.specs.Table.Table.{TrapsInvariant, planted_of, holding, index_of, without, kept_or, planting_of}
+use Rattle.traps.specs.Table.Table.{TrapsInvariant, planted_of, holding, stands_for, index_of, without, kept_or, planting_of}
 
--- A loop over the first n of an array is at the next of them,
-pub front_next : {X : Type 0} (l : List X) (n i : ℕ) (d : X) → i < n → n ≤ length l → drop i (take n l) ≡ get_or l i d ∷ drop (i + 1) (take n l)
-front_next l n i d h k =
-    let g : i < length (take n l) = omega (arith, length-take-le n l k) in
-    rw (drop-cons (take n l) i d g, get_or-take n l i d h, add-one i)
-
--- or at the end.
-pub front_end : {X : Type 0} (l : List X) (n i : ℕ) → n ≤ i → drop i (take n l) ≡ []
-front_end l n i h = drop_of_length-le (take n l) {i = i} (omega (arith, length-take n l))
-
--- What the rules' searches make of the trap that the loop is at.
-module _ (l : List Trap) (n i : ℕ) (d : Trap) (h : i < n) (k : n ≤ length l) where
-  pub seen_here : (pl r : ℕ) → is_row r (row_of pl (get_or l i d).place.0) ≡ true → seen_at pl r (drop i (take n l)) ≡ some (get_or l i d).name
-  seen_here pl r e = rw (front_next l n i d h k) (seen_first pl r (get_or l i d) (drop (i + 1) (take n l)) e)
-
-  pub seen_on : (pl r : ℕ) → is_row r (row_of pl (get_or l i d).place.0) ≡ false → seen_at pl r (drop i (take n l)) ≡ seen_at pl r (drop (i + 1) (take n l))
-  seen_on pl r e = rw (front_next l n i d h k) (seen_later pl r (get_or l i d) (drop (i + 1) (take n l)) e)
-
-  pub nearest_on : (pl r best : ℕ)
-      → nearest_trap pl r best (drop i (take n l)) ≡ nearest_trap pl r (nearer r (row_of pl (get_or l i d).place.0) best) (drop (i + 1) (take n l))
-  unfolding nearest_trap
-  nearest_on pl r best = rw (front_next l n i d h k)
-
-pub seen_end : (l : List Trap) (n i pl r : ℕ) → n ≤ i → seen_at pl r (drop i (take n l)) ≡ none
+-- The rules' searches of a list, as the code makes them.
+pub seen_find : (pl r : ℕ) (ts : List Trap) → option_map (λ t. t.name) (find (λ t. is_row r (row_of pl t.place.0)) ts) ≡ seen_at pl r ts
 unfolding seen_at
-seen_end l n i pl r h = rw (front_end l n i h)
+seen_find pl r [] = refl
+seen_find pl r (t ∷ ts) = go (is_row r (row_of pl t.place.0)) refl (seen_find pl r ts)
+  where
+    go : (b : Bool) → is_row r (row_of pl t.place.0) ≡ b → option_map (λ t. t.name) (find (λ t. is_row r (row_of pl t.place.0)) ts) ≡ seen_at pl r ts
+        → option_map (λ t. t.name) (find (λ t. is_row r (row_of pl t.place.0)) (t ∷ ts)) ≡ seen_at pl r (t ∷ ts)
+    go true e ih = rw (seen_first pl r t ts e, e)
+    go false e ih = rw (seen_later pl r t ts e, e) ih
 
-pub nearest_end : (l : List Trap) (n i pl r best : ℕ) → n ≤ i → nearest_trap pl r best (drop i (take n l)) ≡ best
+pub nearest_fold : (pl r best : ℕ) (ts : List Trap) → fold (λ b t. nearer r (row_of pl t.place.0) b) best ts ≡ nearest_trap pl r best ts
 unfolding nearest_trap
-nearest_end l n i pl r best h = rw (front_end l n i h)
+nearest_fold pl r best [] = refl
+nearest_fold pl r best (t ∷ ts) = nearest_fold pl r (nearer r (row_of pl t.place.0) best) ts
 
 -- The index of a trap that has the N, and of one that comes later.
 pub index_here : (p : ℤ) (t : Trap) (ts : List Trap) → equal_z p t.place.0 ≡ true → index_of p (t ∷ ts) ≡ 0
@@ -54,17 +40,29 @@ pub index_on : (p : ℤ) (t : Trap) (ts : List Trap) → equal_z p t.place.0 ≡
 unfolding index_of
 index_on p t ts h = rw (index_of, h)
 
--- The same of the trap that the loop is at.
-module _ (l : List Trap) (n i : ℕ) (d : Trap) (h : i < n) (k : n ≤ length l) where
-  pub index_is : (p : ℤ) → equal_z p (get_or l i d).place.0 ≡ true → i + index_of p (drop i (take n l)) ≡ i
-  index_is p e = rw (front_next l n i d h k, index_here p (get_or l i d) (drop (i + 1) (take n l)) e) (omega arith)
-
-  pub index_after : (p : ℤ) → equal_z p (get_or l i d).place.0 ≡ false → i + index_of p (drop i (take n l)) ≡ (i + 1) + index_of p (drop (i + 1) (take n l))
-  index_after p e = rw (front_next l n i d h k, index_on p (get_or l i d) (drop (i + 1) (take n l)) e) (omega arith)
-
-pub index_end : (l : List Trap) (n i : ℕ) (p : ℤ) → n ≤ i → i + index_of p (drop i (take n l)) ≡ i
+-- What a search of the list for an N answers: the index of its trap,
+index_position : (p : ℤ) (ts : List Trap) → index_of p ts ≡ position_or_len (stands_for p) ts
 unfolding index_of
-index_end l n i p h = rw (front_end l n i h) (omega arith)
+index_position p = is_position_or_len (index_of p) (stands_for p) refl (λ t ts. go t ts (equal_z p t.place.0) refl)
+  where
+    go : (t : Trap) (ts : List Trap) (b : Bool) → equal_z p t.place.0 ≡ b → index_of p (t ∷ ts) ≡ cond (equal_z p t.place.0) 0 (1 + index_of p ts)
+    go t ts true e = rw (index_here p t ts e, e)
+    go t ts false e = rw (index_on p t ts e, e) (omega arith)
+
+pub position_at : (p : ℤ) (ts : List Trap) (k : ℕ) → Some k ≡ position (stands_for p) ts → (k ≡ index_of p ts) × (k < length ts)
+position_at p ts k h = rw (index_position p ts) (go (ltb (position_or_len (stands_for p) ts) (length ts)) refl)
+  where
+    go : (b : Bool) → ltb (position_or_len (stands_for p) ts) (length ts) ≡ b → (k ≡ position_or_len (stands_for p) ts) × (k < length ts)
+    go true e = let q : Some k ≡ Some (position_or_len (stands_for p) ts) = rw e at h in let r : k ≡ position_or_len (stands_for p) ts = cc in (r, omega (arith, ltb-true (position_or_len (stands_for p) ts) (length ts) e))
+    go false e = absurd (let q : Some k ≡ None = rw e at h in cc)
+
+-- or that no trap has it.
+pub position_none : (p : ℤ) (ts : List Trap) → None ≡ position (stands_for p) ts → length ts ≤ index_of p ts
+position_none p ts h = rw (index_position p ts) (go (ltb (position_or_len (stands_for p) ts) (length ts)) refl)
+  where
+    go : (b : Bool) → ltb (position_or_len (stands_for p) ts) (length ts) ≡ b → length ts ≤ position_or_len (stands_for p) ts
+    go true e = absurd (let q : ◌≡◌ {A = Option ℕ} None (Some (position_or_len (stands_for p) ts)) = rw e at h in cc)
+    go false e = omega (arith, ltb-false (position_or_len (stands_for p) ts) (length ts) e)
 
 -- A trap is planted at the index of its N, and removed from it; an index that is the length is a new N, or none.
 pub plant_index : (p : ℤ) (n : Name) (ts : List Trap) → plant p n ts ≡ take (index_of p ts) ts ++ trap p n ∷ drop (suc (index_of p ts)) ts
@@ -96,7 +94,7 @@ holding_list p ts = take-append_seam ts (drop (length ts) p.traps)
 
 -- What `plant` answers where it keeps the list ts of n traps.
 kept : (p : Planted) (ts a : List Trap) (n : ℕ) → length ts ≡ n → n ≤ 16 → a ≡ ts ++ drop n p.traps
-    → ◌≡◌ {A = Planting} (record { full = false; planted = record { traps = a; count = n } }) (kept_or p ts)
+    → value (record { traps = a; count = n }) ≡ kept_or p ts
 kept p ts a n e h f = rw (e, le-leb n 16 h, f)
 
 module _ (p : Planted) (sized : length p.traps ≡ 16) (w : TrapsInvariant p) where
@@ -106,7 +104,7 @@ module _ (p : Planted) (sized : length p.traps ≡ 16) (w : TrapsInvariant p) wh
   module _ (z : ℤ) (n : Name) where
     -- the N is planted already, at index k
     pub plant_old : (k : ℕ) → k ≡ index_of z (planted_of p) → k < p.count
-        → ◌≡◌ {A = Planting} (record { full = false; planted = record { traps = set p.traps k (trap z n); count = p.count } }) (planting_of p z n)
+        → value (record { traps = set p.traps k (trap z n); count = p.count }) ≡ planting_of p z n
     plant_old k e h =
         let ts = planted_of p in
         let l : plant z n ts ≡ set ts k (trap z n) = rw (plant_index z n ts, ← e) (sym (set_split ts k (trap z n) (omega (arith, planted_length)))) in
@@ -125,13 +123,13 @@ module _ (p : Planted) (sized : length p.traps ≡ 16) (w : TrapsInvariant p) wh
     new_length = omega (arith, length-append (planted_of p) (trap z n ∷ []), planted_length)
 
     pub plant_last : (k : ℕ) → k ≡ index_of z (planted_of p) → p.count ≤ k → p.count < 16
-        → ◌≡◌ {A = Planting} (record { full = false; planted = record { traps = set p.traps p.count (trap z n); count = p.count + 1 } }) (planting_of p z n)
+        → value (record { traps = set p.traps p.count (trap z n); count = p.count + 1 }) ≡ planting_of p z n
     plant_last k e h g =
         let f : set p.traps p.count (trap z n) ≡ planted_of p ++ trap z n ∷ [] ++ drop (p.count + 1) p.traps
         = rw (add-one p.count, append_snoc (planted_of p) (trap z n) (drop (suc p.count) p.traps)) (set_split p.traps p.count (trap z n) (omega arith)) in
         rw (new_last k e h) (kept p (planted_of p ++ trap z n ∷ []) (set p.traps p.count (trap z n)) (p.count + 1) new_length (omega arith) f)
 
-    pub plant_full : (k : ℕ) → k ≡ index_of z (planted_of p) → p.count ≤ k → 16 ≤ p.count → ◌≡◌ {A = Planting} (record { full = true; planted = p }) (planting_of p z n)
+    pub plant_full : (k : ℕ) → k ≡ index_of z (planted_of p) → p.count ≤ k → 16 ≤ p.count → bad 11 ≡ planting_of p z n
     plant_full k e h g = rw (new_last k e h, new_length, lt-leb (p.count + 1) 16 (omega arith))
 
   -- nothing stands at the index
@@ -155,21 +153,13 @@ module _ (p : Planted) (sized : length p.traps ≡ 16) (w : TrapsInvariant p) wh
       let k : p.count - 1 ≡ at + m = omega arith in
       rw (f, g, e, k)
 
--- One trap more is at its new place.
-pub close_next : {X : Type 0} (l : List X) (at j : ℕ) (d : X) → at + 1 + j < length l
-    → set (paste l at (drop (at + 1) l) j) (at + j) (get_or l (at + 1 + j) d) ≡ paste l at (drop (at + 1) l) (j + 1)
-close_next l at j d h =
-    let s : j < length (drop (at + 1) l) = omega (arith, length-drop (at + 1) l) in
-    let w : at + j < length l = omega arith in
-    rw (← get_or-drop (at + 1) l j d, add-one j) (paste-suc l at (drop (at + 1) l) j d w s)
-
 -- A table that keeps to its bound still does, whatever is planted or removed.
-pub within_plant : (p : Planted) (z : ℤ) (n : Name) → TrapsInvariant p → TrapsInvariant (planting_of p z n).planted
-within_plant p z n w = go (leb (length (plant z n (planted_of p))) 16) refl
+pub within_plant : (p : Planted) (z : ℤ) (n : Name) (r : Planted) → value r ≡ planting_of p z n → TrapsInvariant r
+within_plant p z n r e = go (leb (length (plant z n (planted_of p))) 16) refl
   where
-    go : (b : Bool) → leb (length (plant z n (planted_of p))) 16 ≡ b → TrapsInvariant (planting_of p z n).planted
-    go true e = rw e (leb-true (length (plant z n (planted_of p))) 16 e)
-    go false e = rw e w
+    go : (b : Bool) → leb (length (plant z n (planted_of p))) 16 ≡ b → TrapsInvariant r
+    go true f = let q : value r ≡ value (holding p (plant z n (planted_of p))) = rw f at e in let k : r ≡ holding p (plant z n (planted_of p)) = cc in rw k (leb-true (length (plant z n (planted_of p))) 16 f)
+    go false f = absurd (let q : value r ≡ bad 11 = rw f at e in cc)
 
 pub traps_within_remove : (p : Planted) (z : ℤ) → TrapsInvariant p → TrapsInvariant (holding p (remove_trap z (planted_of p)))
 traps_within_remove p z w = omega (arith, remove_length z (planted_of p), length-take p.count p.traps)

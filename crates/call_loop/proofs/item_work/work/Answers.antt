@@ -5,11 +5,6 @@ use Rattle.record.specs.Turns.{core_in}
 use Rattle.record.proofs.Turns.{item_worked}
 use Rattle.call_loop.proofs.item_work.work.Goals as goal
 
-pub work-worked-requires : goal.work-worked-requires
-work-worked-requires c =
-    let h = c.requires in
-    record { sound = h.sound; fits = h.fits; quiet = h.quiet; counted = h.counted; long = h.row_long; printer = c.ten_to_the_inch.ensures.sound }
-
 pub returns : goal.returns
 returns c =
     let a = c.args in

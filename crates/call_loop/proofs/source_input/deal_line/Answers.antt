@@ -10,11 +10,6 @@ use Rattle.record.specs.Turns.{core_in}
 use Rattle.record.proofs.Turns.{line_dealt}
 use Rattle.call_loop.proofs.source_input.deal_line.Goals as goal
 
-pub deal-step-requires : goal.deal-step-requires
-deal-step-requires c =
-    let h = c.requires in
-    record { sound = h.sound; items = omega (arith, h.empty); short = h.short; long = h.row_long; printer = c.ten_to_the_inch.ensures.sound }
-
 pub returns : goal.returns
 returns c =
     let a = c.args in

@@ -19,10 +19,6 @@ returns-then-source-eq0 c =
       ap (λ t. t.taken) e,
     )
 
-pub slice-requires : goal.slice-requires
-slice-requires c =
-    let l = c.requires.formed in (omega arith, omega (arith, l.short, l.gathered_long))
-
 pub deal_line-requires : goal.deal_line-requires
 deal_line-requires c =
     let a = c.args in

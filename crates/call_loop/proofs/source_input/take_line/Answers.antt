@@ -5,16 +5,6 @@ use Rattle.record.specs.Turns.{record_of, resting, core_in}
 use Rattle.record.proofs.Taking.{may_deal_ended, more_taken, refused_taken, ended_taken}
 use Rattle.call_loop.proofs.source_input.take_line.Goals as goal
 
-pub gather-got-requires : goal.gather-got-requires
-gather-got-requires c =
-    let h = c.requires.0 in
-    let l = h.formed in
-    record { some = c.requires.1; long = l.gathered_long; short = l.short; numbered = l.numbered; counted = l.counted }
-
-pub slice-requires : goal.slice-requires
-slice-requires c =
-    let d = c.gather-got.ensures in (omega arith, omega (arith, d.short, d.long))
-
 pub deal_line-requires : goal.deal_line-requires
 deal_line-requires c =
     let a = c.args in

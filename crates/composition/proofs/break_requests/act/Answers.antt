@@ -2,7 +2,6 @@
 use mathlib.Core.Path.{ap, ◌∙◌}
 use mathlib.Core.List.{List}
 use Prim.Native.Nat.{ℕ}
-use native.Mathlib.Omega.{arith}
 use Rattle.traps.specs.Table.Table.{planted_of}
 use Rattle.settings.specs.Layout.Layouts.{printer_of}
 use Rattle.line_syntax.specs.Lines.Places.{argument_is}
@@ -10,10 +9,6 @@ use Rattle.composition.specs.PageRows.PageState.{page_state, state_at}
 use Rattle.composition.proofs.page_rows.Work.{same_work}
 use Rattle.composition.specs.BreakRequests.Acting.{act_by, act_by_lem}
 use Rattle.composition.proofs.break_requests.act.Goals as goal
-
-pub act_on-requires : goal.act_on-requires
-act_on-requires c =
-    (record { sound = c.requires.0.sound; items = c.requires.0.items; short = omega arith; long = c.requires.0.long; names = c.requires.0.names }, c.requires.1)
 
 pub returns : goal.returns
 returns c =

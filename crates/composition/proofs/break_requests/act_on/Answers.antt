@@ -4,16 +4,9 @@ use Rattle.rules.specs.Acts.{set_line}
 use Rattle.settings.specs.Layout.Layouts.{printer_of}
 use Rattle.composition.specs.PageRows.PageState.{page_state}
 use Rattle.composition.proofs.page_rows.Settling.{settle_works}
-use Rattle.composition.proofs.page_rows.Work.{stays, same_work}
+use Rattle.composition.proofs.page_rows.Work.{same_work}
 use Rattle.composition.proofs.break_requests.Works.{page_above}
 use Rattle.composition.proofs.break_requests.act_on.Goals as goal
-
-pub returns-in-Br : goal.returns-in-Br
-returns-in-Br c =
-    let a = c.args in let b = c.requires.0 in
-    let d = page_state a.layout a.page a.collected a.cells.now a.stack a.arena.now a.ends.now in
-    rw (c.in-Br.is, c.stay.ensures)
-    (stays a.firsts.now a.seconds.now a.texts a.planted d _ a.page _ a.row.now b.sound b.items b.long (λ ts x. refl))
 
 pub returns-in-Sp : goal.returns-in-Sp
 returns-in-Sp c = rw c.in-Sp.is c.space.ensures

@@ -7,12 +7,6 @@ use Rattle.composition.specs.PageRows.PageState.{page_state}
 use Rattle.composition.proofs.page_rows.Work.{last_of, last_sound, end_is, end_done, end_ejects, stays, same_work}
 use Rattle.composition.proofs.eject.begin_end.Goals as goal
 
-pub break_line-requires : goal.break_line-requires
-break_line-requires c =
-    let a = c.args in
-    let d = page_state a.layout a.page a.collected a.cells.now a.stack a.arena.now a.ends.now in
-    (record { sound = last_sound a.planted d c.requires.sound; items = c.requires.items; short = omega arith; long = c.requires.long; names = c.requires.names }, tt)
-
 pub returns-then-collected : goal.returns-then-collected
 returns-then-collected c =
     let a = c.args in
@@ -24,15 +18,9 @@ pub returns-then-down-eq0 : goal.returns-then-down-eq0
 returns-then-down-eq0 c =
     let a = c.args in
     let d = page_state a.layout a.page a.collected a.cells.now a.stack a.arena.now a.ends.now in
-    rw c.lead_to.ensures
+    rw c.stay.ensures
     (stays a.firsts.now a.seconds.now a.texts a.planted d _ (last_of a.page) _ _ (last_sound a.planted d c.requires.sound) c.requires.items c.requires.long
     (λ ts x. end_done d (planted_of a.planted) ts x c.if-collected.false (omega (arith, c.down.ensures, c.if-down-eq0.true))))
-
-pub eject_last-requires : goal.eject_last-requires
-eject_last-requires c =
-    let a = c.args in
-    let d = page_state a.layout a.page a.collected a.cells.now a.stack a.arena.now a.ends.now in
-    record { sound = last_sound a.planted d c.requires.sound; items = c.requires.items; short = omega arith; long = c.requires.long; names = c.requires.names }
 
 pub returns : goal.returns
 returns c =

@@ -18,7 +18,7 @@ pub returns-then-from-page : goal.returns-then-from-page
 returns-then-from-page c =
     let a = c.args in
     let d = page_state a.layout a.page a.collected a.cells.now a.stack a.arena.now a.ends.now in
-    rw c.lead_to.ensures
+    rw c.stay.ensures
     (stays a.firsts.now a.seconds.now a.texts a.planted d _ a.page _ _ c.requires.sound c.requires.items c.requires.long (λ ts x. eject_other d (planted_of a.planted) ts x a.from (ne_eqb _ _ c.if-from-page.true)))
 
 pub blank-requires : goal.blank-requires

@@ -2,7 +2,6 @@
 use mathlib.Core.Path.{◌≡◌, sym, ap, ◌∙◌, subst}
 use mathlib.Core.Bool.{Bool, false}
 use mathlib.Core.List.{List, []}
-use Prim.Native.Nat.{◌≤◌}
 use native.Mathlib.Omega.{arith}
 use Rattle.measure.specs.Counts.{across_of}
 use Rattle.rules.specs.Filling.{Word, words, leads, gap_after}
@@ -15,7 +14,7 @@ use Rattle.page.proofs.springs.Stacks.{fits_few}
 use Rattle.composition.specs.PageRows.PageState.{page_state, state_at}
 use Rattle.composition.specs.Filling.Words.{Follows}
 use Rattle.composition.proofs.filling.Works.{worked_as}
-use Rattle.composition.proofs.filling.Fills.{filled_from, line_behind, line_new, line_none}
+use Rattle.composition.proofs.filling.Fills.{line_behind, line_new, line_none}
 use Rattle.composition.proofs.filling.fill_line.Goals as goal
 use Rattle.composition.proofs.filling.fill_line.Goals.{After-count-gap}
 
@@ -40,46 +39,22 @@ returns-in_default c =
 gap_is : (c : After-count-gap) → c.count-gap.result ≡ gap_after (words (bytes_between c.args.line.now 0 c.args.to))
 gap_is c = c.count-gap.ensures ∙ ap across_of c.gap_after-behind.ensures.value
 
-gap_small : (c : After-count-gap) → c.count-gap.result ≤ 2
-gap_small c = omega (arith, c.count-gap.ensures, c.gap_after-behind.ensures.result_bound)
-
-pub overflow_cast-gap : goal.overflow_cast-gap
-overflow_cast-gap c = record { fits = omega (arith, gap_small c) }
-
-pub fill_placed-requires : goal.fill_placed-requires
-fill_placed-requires c =
-    let b = c.requires.0 in let p = c.place-placed.ensures in (
-      record {
-        sound = record { limits = b.sound.limits; above = b.sound.above; numbered = b.sound.numbered; few = b.sound.few; line = record { long = p.cells.long; few = b.sound.line.few; narrow = b.sound.line.narrow }; indent = b.sound.indent; next = b.sound.next; columns = b.sound.columns };
-        items = b.items;
-        short = b.short;
-        long = b.long;
-        names = b.names;
-      },
-      filled_from _ _ _ _ _ _ _ _ _ _ p c.requires.1 (gap_small (goal.at.fill_placed-requires c).After-count-gap),
-    )
-
 pub returns-then-collected : goal.returns-then-collected
 returns-then-collected c =
     let a = c.args in let p = c.place-placed.ensures in let t = c.if-collected.true in
     let d = page_state a.layout a.page a.collected a.cells.now a.stack a.arena.now a.ends.now in
     let l = bytes_between a.line.now 0 a.to in
-    let e = sym c.next_word.ensures.result_value ∙ ap (words_from a.line.now a.to) c.in-Found.is in
+    let e = sym c.next_word.ensures.result_value ∙ ap (words_from a.line.now a.to) c.in-Some.is in
     let q : leads (words l) ≡ false = subst (λ (v : Bool). Follows v (words l)) t c.requires.2 in
     worked_as _ a.firsts.now a.seconds.now a.texts a.planted d _ a.layout a.collected _ _ _ _ _ c.fill_placed.ensures
     (λ ts x. line_behind ts (planted_of a.planted) a.layout a.page a.collected a.cells.now a.stack a.arena.now a.ends.now c.count-gap.result x l _ (words l) _ _ _ e t q (gap_is (goal.at.returns-then-collected c).After-count-gap)
     (p.is (across_of a.collected.indent) (across_of a.collected.next)))
-
-pub fill_new-requires : goal.fill_new-requires
-fill_new-requires c =
-    let w = rw c.in-Found.is at c.next_word.ensures.good_next in
-    (c.requires.0, record { places = record { long = c.requires.1.long; ordered = omega (arith, w.some); few = omega (arith, w.high, c.requires.1.few) }; high = w.high; few = c.requires.1.few; leads = omega (arith, ap across_of w.gap); small = gap_small (goal.at.fill_new-requires c).After-count-gap }, c.if-collected.false)
 
 pub returns : goal.returns
 returns c =
     let a = c.args in
     let d = page_state a.layout a.page a.collected a.cells.now a.stack a.arena.now a.ends.now in
     let l = bytes_between a.line.now 0 a.to in
-    let e = sym c.next_word.ensures.result_value ∙ ap (words_from a.line.now a.to) c.in-Found.is in
+    let e = sym c.next_word.ensures.result_value ∙ ap (words_from a.line.now a.to) c.in-Some.is in
     worked_as _ a.firsts.now a.seconds.now a.texts a.planted d _ a.layout a.collected a.cells.now _ _ _ _ c.fill_new.ensures
     (λ ts x. line_new ts (planted_of a.planted) a.layout a.page a.collected a.cells.now a.stack a.arena.now a.ends.now c.count-gap.result x l (words l) _ _ _ e c.if-collected.false (gap_is (goal.at.returns c).After-count-gap))

@@ -1,51 +1,26 @@
 -- `composition::filling::fill_new` meets its contract. Assumes nothing.
-use mathlib.Core.Path.{refl, ap}
+use mathlib.Core.Path.{refl}
 use mathlib.Core.Bool.{true}
 use mathlib.Core.List.{◌++◌}
 use native.Mathlib.Omega.{arith}
 use lib.ListN.{replicate}
 use Rattle.measure.specs.Counts.{across_of, cells_across}
 use Rattle.rules.specs.Bytes.{fixed_blank}
-use Rattle.rules.specs.Settings as rule
 use Rattle.rules.specs.Filling.{words}
 use Rattle.traps.specs.Table.Table.{planted_of}
 use Rattle.fill.specs.Words.Parts.{bytes_between}
 use Rattle.settings.specs.Layout.Layouts.{layout_of}
-use Rattle.settings.specs.Layout.LayoutLaws.{indent_most}
 use Rattle.composition.specs.declared.page_rows.Collected.{Collected}
 use Rattle.composition.specs.PageRows.PageState.{page_state}
 use Rattle.composition.specs.Filling.Words.{leading_word}
 use Rattle.composition.proofs.filling.Works.{written_front, worked_as}
-use Rattle.composition.proofs.filling.Fills.{line_begun, filled_from, begun_filled}
+use Rattle.composition.proofs.filling.Fills.{line_begun, begun_filled}
 use Rattle.composition.proofs.filling.fill_new.Goals as goal
-
-pub fill_placed-requires : goal.fill_placed-requires
-fill_placed-requires c =
-    let a = c.args in let b = c.requires.0 in let q = c.requires.1 in
-    let n = c.begin_line-length in let u = c.begun-begun in let r = c.room_now-room in let i = c.indent_now-indent in let p = c.place_others-placed.ensures in (
-      record {
-        sound = record {
-          limits = u.ensures.limits;
-          above = rw (ap (λ (v : rule.Layout). v.page) u.ensures.is) b.sound.above;
-          numbered = b.sound.numbered;
-          few = b.sound.few;
-          line = record { long = p.cells.long; few = n.ensures.places.few; narrow = p.cells.narrow };
-          indent = rw i.ensures (indent_most (layout_of a.layout) b.sound.limits);
-          next = record { plain = refl; most = omega arith };
-          columns = b.sound.columns;
-        };
-        items = b.items;
-        short = b.short;
-        long = b.long;
-        names = b.names;
-      },
-      filled_from _ _ _ _ _ _ _ _ _ _ p (record { long = q.places.long; ordered = q.high; few = q.few }) q.small,
-    )
 
 pub returns : goal.returns
 returns c =
     let a = c.args in let b = c.requires.0 in let q = c.requires.1 in
-    let n = c.begin_line-length in let u = c.begun-begun in let r = c.room_now-room in let i = c.indent_now-indent in let p = c.place_others-placed.ensures in
+    let n = c.begin_line-length in let u = c.begun-begun in let r = c.room_now-room in let i = c.indent_now in let p = c.place_others-placed.ensures in
     let d = page_state a.layout a.page a.collected a.cells.now a.stack a.arena.now a.ends.now in
     let fresh : Collected = record { there = true; indent = i.result; room = r.result; length = n.result; next = cells_across 1 } in
     let bs = bytes_between a.line.now a.found.from a.found.to in

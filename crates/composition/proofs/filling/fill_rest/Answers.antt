@@ -14,11 +14,8 @@ use Rattle.fill.specs.Words.Words.{words_from}
 use Rattle.page.proofs.springs.Stacks.{fits_few}
 use Rattle.composition.specs.PageRows.PageState.{page_state, state_at}
 use Rattle.composition.proofs.filling.Works.{worked_as}
-use Rattle.composition.proofs.filling.Fills.{filled_from, first_gap, behind_filled}
+use Rattle.composition.proofs.filling.Fills.{first_gap, behind_filled}
 use Rattle.composition.proofs.filling.fill_rest.Goals as goal
-
-pub overflow_cast-behind : goal.overflow_cast-behind
-overflow_cast-behind c = record { fits = omega (arith, c.count-behind.ensures, c.requires.2) }
 
 pub returns-in_default : goal.returns-in_default
 unfolding fill
@@ -34,40 +31,22 @@ returns-in_default c =
       long = b.long;
     })
 
-pub fill_placed-requires : goal.fill_placed-requires
-fill_placed-requires c =
-    let b = c.requires.0 in let p = c.place_others-placed.ensures in (
-      record {
-        sound = record { limits = b.sound.limits; above = b.sound.above; numbered = b.sound.numbered; few = b.sound.few; line = record { long = p.cells.long; few = b.sound.line.few; narrow = b.sound.line.narrow }; indent = b.sound.indent; next = b.sound.next; columns = b.sound.columns };
-        items = b.items;
-        short = b.short;
-        long = b.long;
-        names = b.names;
-      },
-      filled_from _ _ _ _ _ _ _ _ _ _ p c.requires.1 (omega (arith, c.count-behind.ensures, c.requires.2)),
-    )
-
 pub returns-then-collected : goal.returns-then-collected
 returns-then-collected c =
     let a = c.args in let p = c.place_others-placed.ensures in
     let d = page_state a.layout a.page a.collected a.cells.now a.stack a.arena.now a.ends.now in
-    let e = sym c.next_word.ensures.result_value ∙ ap (words_from a.line.now a.to) c.in-Found.is in
+    let e = sym c.next_word.ensures.result_value ∙ ap (words_from a.line.now a.to) c.in-Some.is in
     worked_as _ a.firsts.now a.seconds.now a.texts a.planted d _ a.layout a.collected _ _ _ _ _ c.fill_placed.ensures
     (λ ts x. ap (λ (n : ℕ). fill (words (bytes_between a.line.now 0 a.to)) n (state_at ts (planted_of a.planted) d x)) (sym c.count-behind.ensures)
     ∙ ap (λ (v : List Word). fill v c.count-behind.result (state_at ts (planted_of a.planted) d x)) e
     ∙ behind_filled ts (planted_of a.planted) a.layout a.page a.collected a.cells.now a.stack a.arena.now a.ends.now c.count-behind.result x _ _ _ _ c.if-collected.true
     (p.is (across_of a.collected.indent) (across_of a.collected.next) ∙ ap (place (collected_line (across_of a.collected.indent) (across_of a.collected.room) a.cells.now a.collected.length (across_of a.collected.next))) e))
 
-pub fill_new-requires : goal.fill_new-requires
-fill_new-requires c =
-    let w = rw c.in-Found.is at c.next_word.ensures.good_next in
-    (c.requires.0, record { places = record { long = c.requires.1.long; ordered = omega (arith, w.some); few = omega (arith, w.high, c.requires.1.few) }; high = w.high; few = c.requires.1.few; leads = omega arith; small = omega (arith, c.count-behind.ensures, c.requires.2) }, c.if-collected.false)
-
 pub returns : goal.returns
 returns c =
     let a = c.args in
     let d = page_state a.layout a.page a.collected a.cells.now a.stack a.arena.now a.ends.now in
-    let e = sym c.next_word.ensures.result_value ∙ ap (words_from a.line.now a.to) c.in-Found.is in
+    let e = sym c.next_word.ensures.result_value ∙ ap (words_from a.line.now a.to) c.in-Some.is in
     worked_as _ a.firsts.now a.seconds.now a.texts a.planted d _ a.layout a.collected a.cells.now _ _ _ _ c.fill_new.ensures
     (λ ts x. ap (λ (n : ℕ). fill (words (bytes_between a.line.now 0 a.to)) n (state_at ts (planted_of a.planted) d x)) (sym c.count-behind.ensures)
     ∙ ap (λ (v : List Word). fill v c.count-behind.result (state_at ts (planted_of a.planted) d x)) e

@@ -1,7 +1,7 @@
 -- `composition::filling::overflow` meets its contract. Assumes nothing.
+use Rattle.std.specs.Prelude.{Some}
 use mathlib.Core.Path.{refl, ap, ◌∙◌}
 use mathlib.Core.Bool.{true}
-use mathlib.Core.Option.{some}
 use native.Mathlib.Omega.{arith}
 use Rattle.measure.specs.Counts.{across_of}
 use Rattle.rules.specs.Settings as rule
@@ -20,15 +20,6 @@ use Rattle.composition.specs.Filling.Words.{others_held}
 use Rattle.composition.proofs.filling.Works.{written_front, moves_on}
 use Rattle.composition.proofs.filling.Fills.{others_plain, gap_small, line_begun, part_short, overflowed}
 use Rattle.composition.proofs.filling.overflow.Goals as goal
-
-pub begun-begun-requires : goal.begun-begun-requires
-begun-begun-requires c = c.requires.0.sound.limits
-
-pub others_held-held-requires : goal.others_held-held-requires
-others_held-held-requires c = c.requires.1.places
-
-pub slice-rest-requires : goal.slice-rest-requires
-slice-rest-requires c = let p = c.requires.1.places in (p.ordered, omega (arith, p.few, p.long))
 
 pub down-landed-requires : goal.down-landed-requires
 down-landed-requires c =
@@ -56,7 +47,7 @@ returns c =
     w.ensures.upper_bound (w.ensures.written.long ∙ b.long)
     (λ ts x. overflowed ts (planted_of a.planted) a.layout u.result a.page a.collected fresh a.cells.now _ a.line.now a.stack a.arena.now a.ends.now a.o a.gap a.to h.result l.result.now _ x
     u.ensures.is h.ensures l.ensures
-    (ap some (line_begun (layout_of a.layout) i.result r.result _ n.result (across_of g.result) (next_gap ws a.gap) (across_of a.o.gap) (bytes_between a.line.now a.o.from a.o.to) i.ensures r.ensures.is (written_front _ _ _ _ n.ensures.written (omega (arith, n.ensures.places.few, q.collected.long))) (ap across_of g.ensures)))
+    (ap Some (line_begun (layout_of a.layout) i.result r.result _ n.result (across_of g.result) (next_gap ws a.gap) (across_of a.o.gap) (bytes_between a.line.now a.o.from a.o.to) i.ensures r.ensures.is (written_front _ _ _ _ n.ensures.written (omega (arith, n.ensures.places.few, q.collected.long))) (ap across_of g.ensures)))
     refl)
     u.ensures.limits b.sound.numbered b.sound.few
     (record { long = n.ensures.places.long; few = n.ensures.places.few; narrow = omega (arith, r.ensures.most) })

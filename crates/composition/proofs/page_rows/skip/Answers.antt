@@ -15,7 +15,7 @@ returns-then-down-eq0 c =
     let a = c.args in
     let d = page_state a.layout a.page a.collected a.cells.now a.stack a.arena.now a.ends.now in
     let e = sym c.if-down-eq0.true ∙ c.down.ensures ∙ c.blanks-rows.ensures in
-    rw c.lead_to.ensures
+    rw c.stay.ensures
     (stays a.firsts.now a.seconds.now a.texts a.planted d _ a.page _ _ c.requires.sound c.requires.items c.requires.long (λ ts x. skip_is d (planted_of a.planted) ts x a.count.0 0 e c.requires.sound.above))
 
 pub blank-requires : goal.blank-requires

@@ -1,14 +1,12 @@
 -- `composition::text_lines::fresh_line` meets its contract. Assumes nothing.
 use mathlib.Core.Path.{sym, ap, ◌∙◌}
 use Rattle.rules.specs.Filling.{words}
-use Rattle.rules.specs.TextLines.{text_way, TextLineCase, as_it_stands}
+use Rattle.rules.specs.TextLines.{text_way, TextLineCase}
 use Rattle.traps.specs.Table.Table.{planted_of}
 use Rattle.fill.specs.Words.Parts.{bytes_between}
-use Rattle.settings.specs.Layout.Layouts.{layout_of}
 use Rattle.composition.specs.PageRows.PageState.{page_state, state_at}
 use Rattle.composition.specs.Filling.Words.{fresh_way}
 use Rattle.composition.proofs.filling.Works.{worked_as}
-use Rattle.composition.proofs.filling.Fills.{fresh_follows}
 use Rattle.composition.proofs.text_lines.fresh_line.Goals as goal
 
 pub returns-then-stands : goal.returns-then-stands
@@ -16,11 +14,6 @@ returns-then-stands c =
     let a = c.args in let l = bytes_between a.line.now 0 a.to in
     worked_as _ a.firsts.now a.seconds.now a.texts a.planted (page_state a.layout a.page a.collected a.cells.now a.stack a.arena.now a.ends.now) _ a.layout a.collected a.cells.now _ _ _ _ c.stand.ensures
     (λ ts x. ap (λ (w : TextLineCase). text_way w (words l) l (state_at ts (planted_of a.planted) (page_state a.layout a.page a.collected a.cells.now a.stack a.arena.now a.ends.now) x)) (ap fresh_way (sym c.stands.ensures ∙ c.if-stands.true)))
-
-pub fill_line-requires : goal.fill_line-requires
-fill_line-requires c =
-    let a = c.args in
-    (c.requires.0, c.requires.1, fresh_follows a.collected.there (as_it_stands (layout_of a.layout)) (words (bytes_between a.line.now 0 a.to)) (sym c.stands.ensures ∙ c.if-stands.false) c.requires.2)
 
 pub returns : goal.returns
 returns c =

@@ -19,11 +19,6 @@ returns-then-page-eq0 c =
     worked_as _ a.firsts.now a.seconds.now a.texts a.planted (page_state a.layout a.page a.collected a.cells.now a.stack a.arena.now a.ends.now) _ a.layout a.collected a.cells.now _ _ _ _ c.start.ensures
     (λ ts x. text_starts ts (planted_of a.planted) a.layout a.page a.collected a.cells.now a.stack a.arena.now a.ends.now 0 x (bytes_between a.line.now 0 a.to) _ c.slice-bytes.ensures (omega (arith, c.if-page-eq0.true)))
 
-pub blank_line-requires : goal.blank_line-requires
-blank_line-requires c =
-    let b = c.requires.0 in
-    record { sound = b.sound; items = b.items; short = omega (arith, b.sound.line.long); long = b.long; names = b.names }
-
 pub returns-then-is_blank : goal.returns-then-is_blank
 returns-then-is_blank c =
     let a = c.args in

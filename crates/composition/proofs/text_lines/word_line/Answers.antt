@@ -16,9 +16,6 @@ returns-then-breaks_first c =
     worked_as _ a.firsts.now a.seconds.now a.texts a.planted (page_state a.layout a.page a.collected a.cells.now a.stack a.arena.now a.ends.now) _ a.layout a.collected a.cells.now _ _ _ _ c.break_first.ensures
     (λ ts x. ap (λ (w : TextLineCase). text_way w (words l) l (state_at ts (planted_of a.planted) (page_state a.layout a.page a.collected a.cells.now a.stack a.arena.now a.ends.now) x)) (way_breaks a.collected.there (as_it_stands (layout_of a.layout)) (leads (words l)) _ (sym c.breaks_first.ensures ∙ c.if-breaks_first.true)))
 
-pub fresh_line-requires : goal.fresh_line-requires
-fresh_line-requires c = (c.requires.0, c.requires.1, sym c.breaks_first.ensures ∙ c.if-breaks_first.false)
-
 pub returns : goal.returns
 returns c =
     let a = c.args in let l = bytes_between a.line.now 0 a.to in

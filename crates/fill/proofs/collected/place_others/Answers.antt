@@ -1,14 +1,7 @@
 -- `fill::collected::place_others` meets its contract. Assumes nothing.
-use borrow.Author.Rules.{rules}
 use native.Mathlib.Omega.{arith}
 use Rattle.fill.proofs.collected.Placing.{placed_others}
 use Rattle.fill.proofs.collected.place_others.Goals as goal
-
-pub as_cells-gap-requires : goal.as_cells-gap-requires
-as_cells-gap-requires c = omega arith
-
-pub place-requires : goal.place-requires
-place-requires c = rw c.as_cells-gap.ensures (search rules)
 
 pub returns : goal.returns
 returns c =

@@ -1,22 +1,19 @@
--- `fill::collected::put_run` meets its contract. The invariant: what is still to be put from i on. Assumes nothing.
-use borrow.Author.Rules.{rules}
-use mathlib.Core.Path.{◌≡◌, refl, sym, ◌∙◌}
-use native.Mathlib.Omega.{arith}
+-- `fill::collected::put_run` meets its contract. Assumes nothing.
+use Rattle.std.proofs.Common.{rules, ◌≡◌, ◌∙◌, arith, length, replicate}
+use mathlib.Core.Path.{sym, ap}
 use Prim.Native.Nat.{◌+◌, ◌-◌}
-use lib.ListN.{length-set}
-use Rattle.fill.proofs.collected.Writing.{run_more, run_end}
+use lib.ListN.{take, drop, length-replicate, length-drop}
+use lib.Seq.{length-take-le}
+use Rattle.std.proofs.lemmas.Slice.{put_mid-paste}
+use Rattle.fill.proofs.collected.Writing.{paste_sets}
 use Rattle.fill.proofs.collected.put_run.Goals as goal
 
-pub loop-i-init : goal.loop-i-init
-loop-i-init c =
-    let a = c.args in
-    let z : a.at + a.n - a.at ≡ a.n = omega arith in
-    (search rules, search rules, refl, rw z)
-
-pub loop-i-preserved : goal.loop-i-preserved
-loop-i-preserved c =
-    let l = c.loop-i in
-    (search rules, search rules, simp length-set l.invariant.2, l.invariant.3 ∙ run_more l.buffer l.i _ _ c.loop-i-test.true)
-
 pub returns : goal.returns
-returns c = let l = c.loop-i in sym (l.invariant.3 ∙ run_end l.buffer l.i _ _ c.loop-i-test.false)
+returns c =
+    let a = c.args in
+    let n = length-replicate a.n a.byte in
+    let k : a.n ≡ a.at + a.n - a.at = omega arith in
+    let m : length (take (a.at + a.n - a.at) (drop a.at a.buffer.now)) ≡ a.n = length-take-le (a.at + a.n - a.at) (drop a.at a.buffer.now) (omega (arith, length-drop a.at a.buffer.now)) ∙ sym k in
+    let e : c.fill.new.self ≡ replicate a.n a.byte = c.fill.ensures.after (λ y h. search rules) ∙ ap (λ i. replicate i a.byte) m in
+    put_mid-paste a.at (a.at + a.n - a.at) a.buffer.now c.fill.new.self (replicate a.n a.byte) a.n e k (sym n)
+    ∙ paste_sets a.buffer.now (replicate a.n a.byte) a.at a.n (sym n) c.requires

@@ -1,27 +1,14 @@
--- `fill::rows::count_gaps` meets its contract. The invariant: the gaps passed and those from here on. Assumes nothing.
-use borrow.Author.Rules.{rules}
-use mathlib.Core.Path.{sym, ◌∙◌}
-use native.Mathlib.Omega.{arith}
-use Rattle.fill.proofs.unfilled.Spreading.{gaps_more, gaps_other, gaps_end}
+-- `fill::rows::count_gaps` meets its contract. Assumes nothing.
+use Rattle.std.proofs.Common.{rules, ◌∙◌}
+use borrow.Author.Tests.{tests}
+use Rattle.std.proofs.lemmas.Iterator.{YieldsList-from_slice}
+use Rattle.std.proofs.lemmas.Iterator.Consumers.{count_from_yields_List, YieldsList-at}
+use lib.Dec.{eqb}
+use Rattle.std.proofs.lemmas.Iterator.Consumers.{YieldsList-from_filter}
+use Rattle.fill.proofs.unfilled.Spreading.{gaps_is}
 use Rattle.fill.proofs.rows.count_gaps.Goals as goal
-
-pub loop-i-init : goal.loop-i-init
-loop-i-init c = (omega arith, omega arith, omega arith)
-
-pub loop-i-preserved-then-byte-ne-GAP_START : goal.loop-i-preserved-then-byte-ne-GAP_START
-loop-i-preserved-then-byte-ne-GAP_START c =
-    let l = c.loop-i in
-    let a = c.args in
-    (search rules, search rules, l.invariant.2 ∙ gaps_other a.cells.now l.i a.length l.n (omega arith) c.loop-i-test.true c.if-byte-ne-GAP_START.true)
-
-pub loop-i-preserved : goal.loop-i-preserved
-loop-i-preserved c =
-    let l = c.loop-i in
-    let a = c.args in
-    (search rules, search rules, l.invariant.2 ∙ gaps_more a.cells.now l.i a.length l.n (omega arith) c.loop-i-test.true c.if-byte-ne-GAP_START.false)
 
 pub returns : goal.returns
 returns c =
-    let l = c.loop-i in
-    let a = c.args in
-    gaps_end a.cells.now l.i a.length l.n (omega arith) c.loop-i-test.false ∙ sym l.invariant.2
+    count_from_yields_List _ _ c.count.ensures.ran (YieldsList-from_filter _ (λ b. eqb b 4) (YieldsList-at c.filter.ensures.source (YieldsList-from_slice _ c.iter.ensures.rest)) c.filter.ensures.closure (λ x b q k. search (rules, tests)))
+    ∙ rw c.slice.ensures (gaps_is _)

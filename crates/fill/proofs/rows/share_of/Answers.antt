@@ -1,8 +1,6 @@
 -- `fill::rows::share_of` meets its contract. Assumes nothing.
 use mathlib.Core.Path.{sym, ◌∙◌}
 use native.Mathlib.Omega.{arith}
-use Prim.Native.Nat.{◌<◌}
-use native.Mathlib.Nat.{mod-lt}
 use Rattle.fill.proofs.unfilled.Spreading.{share_none, share_some, share_off}
 use Rattle.fill.proofs.rows.share_of.Goals as goal
 
@@ -10,11 +8,6 @@ pub returns-then-k-eq0 : goal.returns-then-k-eq0
 returns-then-k-eq0 c =
     let a = c.args in
     rw c.if-adjusting.true (share_none a.cells.now a.length a.room (omega arith) (sym c.count_gaps-k.ensures ∙ c.if-k-eq0.true))
-
-pub overflow_sub-result : goal.overflow_sub-result
-overflow_sub-result c =
-    let h : 0 < c.count_gaps-k.result = omega arith in
-    omega (arith, mod-lt c.spare-e.result h)
 
 pub returns-then-adjusting : goal.returns-then-adjusting
 returns-then-adjusting c =

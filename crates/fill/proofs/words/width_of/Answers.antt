@@ -1,28 +1,29 @@
--- `fill::words::width_of` meets its contract. The invariant: the cells passed and those from here on. Assumes nothing.
-use borrow.Author.Rules.{rules}
-use mathlib.Core.Path.{sym, ap, ◌∙◌}
-use native.Mathlib.Omega.{arith}
+-- `fill::words::width_of` meets its contract. Assumes nothing.
+use Rattle.std.proofs.Common.{rules, ◌≡◌, ◌∙◌, arith}
+use borrow.Author.Tests.{tests}
+use Rattle.std.proofs.lemmas.Iterator.{YieldsList-from_slice}
+use Rattle.std.proofs.lemmas.Iterator.Consumers.{count_from_yields_List, YieldsList-at}
+use mathlib.Core.Bool.{not}
+use mathlib.Core.Path.{ap}
+use lib.Dec.{eqb}
+use Rattle.std.proofs.lemmas.Iterator.Consumers.{YieldsList-from_filter}
 use Rattle.measure.specs.Counts.{cells_across}
-use Rattle.fill.proofs.words.Words.{width_next, width_done}
+use Rattle.rules.specs.Filling.{width}
+use Rattle.fill.specs.Words.Parts.{bytes_between}
+use Rattle.fill.proofs.words.Words.{width_is}
+use Rattle.fill.proofs.collected.Writing.{part_width}
 use Rattle.fill.proofs.words.width_of.Goals as goal
+use Rattle.fill.proofs.words.width_of.Goals.{After-count-cells}
 
-pub loop-i-init : goal.loop-i-init
-loop-i-init c = (omega arith, omega arith, omega arith, omega arith)
-
-pub overflow_add-n : goal.overflow_add-n
-overflow_add-n c = omega (arith, c.cell_of-n.ensures.upper_bound)
-
-pub loop-i-preserved : goal.loop-i-preserved
-loop-i-preserved c =
-    let l = c.loop-i in
-    let a = c.args in
-    (search rules, search rules, omega (arith, c.cell_of-n.ensures.upper_bound), rw c.cell_of-n.ensures.value (l.invariant.3 ∙ width_next a.line.now l.i a.to l.n (omega arith) c.loop-i-test.true))
+counted : (c : After-count-cells) → c.count-cells.result ≡ width (bytes_between c.args.line.now c.args.at c.args.to)
+counted c =
+    count_from_yields_List _ _ c.count-cells.ensures.ran (YieldsList-from_filter _ (λ b. not (eqb b 2)) (YieldsList-at c.filter.ensures.source (YieldsList-from_slice _ c.iter.ensures.rest)) c.filter.ensures.closure (λ x b q k. search (rules, tests)))
+    ∙ rw c.slice.ensures (width_is _)
 
 pub as_cells-requires : goal.as_cells-requires
-as_cells-requires c = omega arith
+as_cells-requires c =
+    let a = c.args in
+    omega (arith, counted c, part_width a.line.now a.at a.to (omega arith))
 
 pub returns : goal.returns
-returns c =
-    let l = c.loop-i in
-    let a = c.args in
-    c.as_cells.ensures ∙ ap cells_across (width_done a.line.now l.i a.to l.n (omega arith) c.loop-i-test.false ∙ sym l.invariant.3)
+returns c = c.as_cells.ensures ∙ ap cells_across (counted (goal.at.returns c).After-count-cells)

@@ -5,4 +5,4 @@ use Rattle.line_execution.proofs.table_requests.open.Goals as goal
 pub returns : goal.returns
 returns c =
     let a = c.args in
-    opened_line a.printer a.line.now _ _ _ c.arguments-given.ensures c.open_named.result a.opening _ c.argument-name.ensures c.open_named.ensures
+    opened_line a.printer a.line.now _ _ _ c.arguments-given.ensures c.open_named.result _ c.argument-name.ensures c.open_named.ensures

@@ -1,15 +1,13 @@
 -- `number::expression::evaluate` meets its contract. Assumes nothing.
-use mir.Syntax.{w32}
+use Rattle.std.proofs.Common.{arith, rules, w32}
+use Rattle.std.proofs.lemmas.Result.{err_from_is_err_and}
+use mir.Val.{SFits}
 use mir.Facts.{to_z-of_z}
-use borrow.Author.Rules.{sfits_of}
-use native.Mathlib.Omega.{arith}
 use Rattle.number.proofs.expression.Arguments.{none, all}
 use Rattle.number.proofs.expression.evaluate.Goals as goal
 
-pub returns-in_default : goal.returns-in_default
-returns-in_default c = none (rw c.in_default.is at c.expression.ensures)
+pub returns-in_err-v : goal.returns-in_err-v
+returns-in_err-v c = let p = err_from_is_err_and c.from_residual.result c.from_residual.ensures.1 in rw (p.1, p.2) (none c.in_err-v.ensures)
 
 pub returns : goal.returns
-returns c =
-    rw (to_z-of_z {w = w32} (sfits_of c.in-Value.known_told-1-own.given.0.1))
-    (all (rw c.in-Value.is at c.expression.ensures) (omega arith))
+returns c = let f : SFits w32 c.in_ok-v.v = search rules in rw (to_z-of_z f) (all c.in_ok-v.ensures (omega arith))

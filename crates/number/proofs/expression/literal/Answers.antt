@@ -1,53 +1,68 @@
 -- `number::expression::literal` meets its contract: the cases of the rules' literal, by what the calls gave. Assumes nothing.
-use mathlib.Core.Path.{sym, ap, ◌∙◌}
-use Prim.Native.Nat.{ℕ, ◌+◌, ◌<◌}
-use native.Mathlib.Omega.{arith}
-use lib.ListN.{length}
+use Rattle.std.proofs.Common.{arith, ◌≡◌, ◌<◌, get_or, sym, ap, ◌∙◌, rules, pos, w32, w64}
+use mir.Val.{SFits}
+use mir.Facts.{to_z-of_z, to_z_pos}
+use Rattle.std.proofs.lemmas.Result.{err_from_is_err_and}
 use Rattle.measure.specs.Scales.{scale_of, literal_of}
-use Rattle.number.specs.Expression.Reading.{bounded_of, read_of}
-use Rattle.number.proofs.expression.Literals.{Found, found, is_huge, is_empty, further, own_scale, default_scale, letter, bounded_forward}
+use Rattle.rules.specs.Numbers.{within}
+use Rattle.rules.specs.Results.{judged}
+use Rattle.number.proofs.expression.Literals.{Found, found, Scaled, is_huge, is_empty, own_scale, default_scale, letter, literal_small, given_value, refused_value}
 use Rattle.number.proofs.expression.literal.Goals as goal
-use Rattle.number.proofs.expression.literal.Goals.{In-Number}
+use Rattle.number.proofs.expression.literal.Goals.{In_ok-n, After-units_of_literal-units, After-judge, in-Some, in-None}
 
 -- what the reader of digits gave
-given : (c : In-Number) → Found c.args.s.now c.args.at c.in-Number.n c.in-Number.next
-given c =
+given : (c : In_ok-n) → Found c.args.s.now c.args.at c.in_ok-n.n c.in_ok-n.next
+given c = found c.args.s.now c.args.at c.in_ok-n.n c.in_ok-n.next c.requires.0 (sym c.digits_at.ensures ∙ c.in_ok-n.was)
+
+-- the scale, and where it ends
+scale : (c : After-units_of_literal-units) → Found c.args.s.now c.args.at c.in_ok-n.n c.in_ok-n.next
+    → Scaled c.args.s.now c.args.at c.args.pitch c.args.default c.in_ok-n.n c.match-scale_of.scale.0 c.match-scale_of.scale.1
+scale c f =
     let a = c.args in
-    found a.s.now a.at c.in-Number.n c.in-Number.next c.requires.0 (sym c.digits_at.ensures ∙ c.in-Number.is)
+    let n = c.in_ok-n.n in
+    let next = c.in_ok-n.next in
+    let b : scale_of (get_or a.s.now next 0) ≡ c.scale_of.result = ap scale_of (sym c.byte_at.ensures.value) ∙ sym c.scale_of.ensures in
+    elim c.match-scale_of.branch [
+      | in-Some w ↦
+          let e = b ∙ w.in-Some.is in
+          let u = letter c.byte_at.result w.in-Some.scale (sym c.scale_of.ensures ∙ w.in-Some.is) in
+          rw w.scale-is (own_scale a.s.now a.at a.pitch a.default n next f c.if-next-at.false w.in-Some.scale e (omega (arith, c.byte_at.ensures.upper_bound)))
+      | in-None w ↦ rw w.scale-is (default_scale a.s.now a.at a.pitch a.default n next f c.if-next-at.false (b ∙ w.in-None.is))
+    ]
 
-pub returns-in_default : goal.returns-in_default
-returns-in_default c =
+-- what was judged
+units : (c : After-judge) → Found c.args.s.now c.args.at c.in_ok-n.n c.in_ok-n.next → judged c.judge.result ≡ within (pos (literal_of c.args.pitch c.match-scale_of.scale.0 c.in_ok-n.n))
+units c f =
+    let h : c.args.pitch.cell < 256 = search rules in
+    let k : c.args.pitch.row < 256 = search rules in
+    let small = literal_small c.args.pitch c.match-scale_of.scale.0 c.in_ok-n.n h k f.few in
+    c.judge.ensures ∙ ap within (to_z_pos w64 (omega (arith, small)) ∙ ap pos c.units_of_literal-units.ensures)
+
+pub returns-in_err-n-clause-result_value : goal.returns-in_err-n-clause-result_value
+returns-in_err-n-clause-result_value c =
     let a = c.args in
-    record { result_value = is_huge a.s.now a.at a.pitch a.default c.requires.1 (sym c.digits_at.ensures ∙ c.in_default.is); forward = tt }
+    let p = err_from_is_err_and c.from_residual.result c.from_residual.ensures.1 in
+    rw (p.1, p.2) (is_huge a.s.now a.at a.pitch a.default c.requires.1 (sym c.digits_at.ensures ∙ c.in_err-n.was))
 
-pub returns-then-next-at : goal.returns-then-next-at
-returns-then-next-at c =
+pub returns-then-next-at-clause-result_value : goal.returns-then-next-at-clause-result_value
+returns-then-next-at-clause-result_value c =
     let a = c.args in
-    record { result_value = is_empty a.s.now a.at a.pitch a.default c.in-Number.n c.in-Number.next (given (goal.at.returns-then-next-at c).In-Number) c.if-next-at.true; forward = tt }
+    let g = given (goal.at.returns-then-next-at-clause-result_value c).In_ok-n in
+    is_empty a.s.now a.at a.pitch a.default c.in_ok-n.n c.in_ok-n.next g c.if-next-at.true
 
-pub overflow_cast-count : goal.overflow_cast-count
-overflow_cast-count c = record { fits = omega (arith, (given (goal.at.overflow_cast-count c).In-Number).few) }
+pub returns-in_err-value-clause-result_value : goal.returns-in_err-value-clause-result_value
+returns-in_err-value-clause-result_value c =
+    let y = goal.at.returns-in_err-value-clause-result_value c in
+    let p = err_from_is_err_and c.from_residual-in_err-value.result c.from_residual-in_err-value.ensures.1 in
+    rw (p.1, p.2) (refused_value (scale y.After-units_of_literal-units (given y.In_ok-n)) (rw c.in_err-value.was at (units y.After-judge (given y.In_ok-n))))
 
-pub overflow_add-next : goal.overflow_add-next
-overflow_add-next c = omega (arith, (given (goal.at.overflow_add-next c).In-Number).high)
+pub returns-clause-result_value : goal.returns-clause-result_value
+returns-clause-result_value c =
+    let y = goal.at.returns-clause-result_value c in
+    let f : SFits w32 c.in_ok-value.value = search rules in
+    rw (to_z-of_z f) (given_value (scale y.After-units_of_literal-units (given y.In_ok-n)) (rw c.in_ok-value.was at (units y.After-judge (given y.In_ok-n))))
 
-pub returns-in-Some : goal.returns-in-Some
-returns-in-Some c =
-    let a = c.args in
-    let n = c.in-Number.n in
-    let next = c.in-Number.next in
-    let scale = c.in-Some.scale in
-    let e = sym c.scale_of.ensures ∙ c.in-Some.is in
-    let b = letter c.byte_at-letter.result scale e in
-    let w : next < length a.s.now = omega (arith, c.byte_at-letter.ensures.upper_bound) in
-    let h = c.if-next-at.false in
-    let r = c.bounded.ensures ∙ ap (λ (u : ℕ). bounded_of u (next + 1)) c.units_of_literal.ensures in record { result_value = ap (read_of a.s.now) r ∙ own_scale a.s.now a.at a.pitch a.default n next (given (goal.at.returns-in-Some c).In-Number) h scale (ap scale_of (sym c.byte_at-letter.ensures.value) ∙ e) w; forward = bounded_forward (length a.s.now) a.at (literal_of a.pitch scale n) (next + 1) r (omega (arith, further a.s.now a.at a.pitch a.default n next (given (goal.at.returns-in-Some c).In-Number) h)) (omega arith) }
-
-pub returns-in-None : goal.returns-in-None
-returns-in-None c =
-    let a = c.args in
-    let n = c.in-Number.n in
-    let next = c.in-Number.next in
-    let e = sym c.scale_of.ensures ∙ c.in-None.is in
-    let h = c.if-next-at.false in
-    let r = c.bounded-in-None.ensures ∙ ap (λ (u : ℕ). bounded_of u next) c.units_of_literal-in-None.ensures in record { result_value = ap (read_of a.s.now) r ∙ default_scale a.s.now a.at a.pitch a.default n next (given (goal.at.returns-in-None c).In-Number) h (ap scale_of (sym c.byte_at-letter.ensures.value) ∙ e); forward = bounded_forward (length a.s.now) a.at (literal_of a.pitch a.default n) next r (further a.s.now a.at a.pitch a.default n next (given (goal.at.returns-in-None c).In-Number) h) (given (goal.at.returns-in-None c).In-Number).high }
+pub returns-clause-forward : goal.returns-clause-forward
+returns-clause-forward c =
+    let y = goal.at.returns-clause-forward c in
+    let g = scale y.After-units_of_literal-units (given y.In_ok-n) in (g.low, g.high)

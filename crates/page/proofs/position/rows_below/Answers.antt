@@ -1,6 +1,5 @@
 -- `page::position::rows_below` meets its contract: the nearest trap or the page end lies below the rows used. Assumes nothing.
-use mathlib.Core.Path.{◌≡◌, ap, ◌∙◌}
-use native.Mathlib.Omega.{arith}
+use Rattle.std.proofs.Common.{◌≡◌, ap, ◌∙◌, arith}
 use Rattle.measure.specs.Counts.{down_of}
 use Rattle.rules.specs.Traps.{nearest_trap}
 use Rattle.rules.specs.Laws.Traps.{nearest_above, nearest_most}
@@ -21,6 +20,3 @@ pub overflow_cast-down : goal.overflow_cast-down
 overflow_cast-down c =
     let a = c.args in
     record { fits = omega (arith, row (goal.at.overflow_cast-down c).After-down, nearest_most (down_of a.length) (down_of a.page.used) (down_of a.length) (planted_of a.planted), c.requires.short) }
-
-pub returns : goal.returns
-returns c = omega (arith, ap down_of c.rows_down.ensures, row (goal.at.returns c).After-down, c.down-2.ensures)

@@ -1,4 +1,3 @@
-use Prim.Native.Nat.{◌≤◌, ◌-◌}
 use mathlib.Core.Path.{◌≡◌}
 use lib.ListN.{drop}
 use Rattle.registers.specs.Checks.Checks.{all_within, is_bounded}
@@ -6,7 +5,4 @@ use Rattle.registers.proofs.checks.CheckLaws.{pairs_of}
 use Rattle.registers.proofs.checks.is_bounded.Given as goal
 
 abbrev pub invariant-loop-i : goal.invariant-loop-i
-invariant-loop-i l = (l.i ≤ l.count) × (is_bounded l.values l.steps l.count ≡ all_within (drop l.i (pairs_of l.values l.steps l.count)))
-
-abbrev pub decreases-loop-i : goal.decreases-loop-i
-decreases-loop-i l = l.count - l.i
+invariant-loop-i l = is_bounded l.values l.steps l.count ≡ all_within (drop l.i (pairs_of l.values l.steps l.count))

@@ -1,4 +1,4 @@
-use Prim.Native.Nat.{◌+◌, ◌-◌}
+use Prim.Native.Nat.{◌-◌}
 use mathlib.Core.Path.{◌≡◌}
 use lib.ListN.{drop}
 use Rattle.registers.specs.Table.Columns.{names_of}
@@ -6,7 +6,4 @@ use Rattle.registers.specs.Checks.Checks.{in_order, is_register_table}
 use Rattle.registers.proofs.checks.is_table.Given as goal
 
 abbrev pub invariant-loop-next : goal.invariant-loop-next
-invariant-loop-next l = (l.next ≡ l.i + 1) × (is_register_table l.firsts l.seconds l.count ≡ in_order (drop l.i (names_of l.firsts l.seconds l.count)))
-
-abbrev pub decreases-loop-next : goal.decreases-loop-next
-decreases-loop-next l = l.count - l.next
+invariant-loop-next l = is_register_table l.firsts l.seconds l.count ≡ in_order (drop (l.next - 1) (names_of l.firsts l.seconds l.count))

@@ -1,4 +1,3 @@
-use Prim.Native.Nat.{◌≤◌, ◌-◌}
 use mathlib.Core.Path.{◌≡◌}
 use lib.ListN.{drop}
 use Rattle.registers.specs.Table.Columns.{names_of}
@@ -7,7 +6,4 @@ use Rattle.registers.proofs.table.Laws.{further}
 use Rattle.registers.proofs.table.find.Given as goal
 
 abbrev pub invariant-loop-i : goal.invariant-loop-i
-invariant-loop-i l = (l.i ≤ l.count) × (register_place l.name (names_of l.firsts l.seconds l.count) ≡ further l.i (register_place l.name (drop l.i (names_of l.firsts l.seconds l.count))))
-
-abbrev pub decreases-loop-i : goal.decreases-loop-i
-decreases-loop-i l = l.count - l.i
+invariant-loop-i l = register_place l.name (names_of l.firsts l.seconds l.count) ≡ further l.i (register_place l.name (drop l.i (names_of l.firsts l.seconds l.count)))

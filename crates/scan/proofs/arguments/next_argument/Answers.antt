@@ -11,11 +11,6 @@ use Rattle.scan.proofs.arguments.next_argument.Goals as goal
 pub returns-then-i-line : goal.returns-then-i-line
 returns-then-i-line c = (no_first _ _ _ c.skip_spaces-i.ensures (omega arith), refl)
 
-pub quoted_argument-requires : goal.quoted_argument-requires
-quoted_argument-requires c =
-    let s = c.skip_spaces-i.ensures in
-    record { inside = omega arith; long = c.requires.long; short = omega (arith, s.onward, c.requires.short) }
-
 pub returns-then-line-i-eq34 : goal.returns-then-line-i-eq34
 returns-then-line-i-eq34 c =
     let y = c.quoted_argument.ensures in
@@ -23,11 +18,6 @@ returns-then-line-i-eq34 c =
     let a = c.args in
     takes a.line.now a.at a.out.now a.written _ _ (up_to quoted (drop (k.result + 1) a.line.now))
     (quoted_first _ _ _ k.ensures (omega arith) c.if-line-i-eq34.true) y.is y.count y.rest y.inside (omega (arith, y.short, k.ensures.onward))
-
-pub bare_argument-requires : goal.bare_argument-requires
-bare_argument-requires c =
-    let s = c.skip_spaces-i.ensures in
-    record { inside = omega arith; long = c.requires.long; short = omega (arith, s.onward, c.requires.short) }
 
 pub returns : goal.returns
 returns c =

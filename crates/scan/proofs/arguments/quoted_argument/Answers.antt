@@ -1,20 +1,11 @@
 -- `scan::arguments::quoted_argument` meets its contract. Assumes nothing.
 use Prim.Native.Nat.{◌+◌}
-use mathlib.Core.Path.{refl, sym, ◌∙◌}
+use mathlib.Core.Path.{sym, ◌∙◌}
 use native.Mathlib.Omega.{arith}
 use borrow.Author.Tests.{eqb-true, ne_eqb}
 use Rattle.rules.specs.Arguments.{quoted}
 use Rattle.scan.proofs.arguments.Parts.{onward, ends, quoted_turn, quoted_two, quoted_stop, quote_inside, any_end}
 use Rattle.scan.proofs.arguments.quoted_argument.Goals as goal
-
-pub loop-i-init : goal.loop-i-init
-loop-i-init c = (omega arith, c.requires.inside, omega arith, refl)
-
-pub bounds-out-w : goal.bounds-out-w
-bounds-out-w c = omega arith
-
-pub overflow_add-w : goal.overflow_add-w
-overflow_add-w c = omega arith
 
 pub loop-i-preserved-then-b-ne34 : goal.loop-i-preserved-then-b-ne34
 loop-i-preserved-then-b-ne34 c =
@@ -32,17 +23,6 @@ returns-in-loop-i c =
     let a = c.args in
     ends quoted a.line.now a.at a.out.now a.written l.i l.out l.w (l.i + 1) l.invariant.3
     (quoted_stop a.line.now l.i c.loop-i-test.true c.if-b-ne34.false (sym c.quote_at.ensures ∙ c.if-quote_at.false)) (omega arith) (omega arith) (omega arith)
-
-pub bounds-out-w-then-quote_at : goal.bounds-out-w-then-quote_at
-bounds-out-w-then-quote_at c = omega arith
-
-pub overflow_add-w-then-quote_at : goal.overflow_add-w-then-quote_at
-overflow_add-w-then-quote_at c = omega arith
-
-pub overflow_add-i-then-quote_at : goal.overflow_add-i-then-quote_at
-overflow_add-i-then-quote_at c =
-    let l = c.loop-i in
-    omega (arith, quote_inside c.args.line.now (l.i + 1) (sym c.quote_at.ensures ∙ c.if-quote_at.true))
 
 pub loop-i-preserved : goal.loop-i-preserved
 loop-i-preserved c =

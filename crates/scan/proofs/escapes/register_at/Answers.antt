@@ -1,10 +1,6 @@
 -- `scan::escapes::register_at` meets its contract: a sign and a name, or a name. Assumes nothing.
-use Rattle.scan.proofs.escapes.Readers.{is_cut, is_more, up, down, is_still}
-use mathlib.Core.Path.{refl}
+use Rattle.scan.proofs.escapes.Readers.{is_more, up, down, is_still}
 use Rattle.scan.proofs.escapes.register_at.Goals as goal
-
-pub returns-then-text-at : goal.returns-then-text-at
-returns-then-text-at c = λ m. is_cut c.if-text-at.true c.requires refl
 
 pub returns-then-sign-eq43 : goal.returns-then-sign-eq43
 returns-then-sign-eq43 c = λ m. is_more 43 c.if-text-at.false c.if-sign-eq43.true (up m) (c.number_at.ensures m)

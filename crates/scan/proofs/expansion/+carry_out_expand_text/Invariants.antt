@@ -12,8 +12,8 @@ decreases-expand_text l = 2 * (8 - l.depth) + 1
 
 abbrev pub invariant-expand_text-loop-over : goal.invariant-expand_text-loop-over
 invariant-expand_text-loop-over l =
-    Going (around l.shown l.store l.text_firsts l.text_seconds l.kinds l.lengths l.texts l.arguments l.ends l.given) l.mode l.text l.depth l.left
-    l.initial.out l.written l.limit l.firsts l.seconds l.initial.values l.steps l.count l.i l.rest l.n l.out l.values
+    Going (around l.shown l.texts l.arguments l.ends l.given) l.mode l.text l.depth l.left
+    l.initial.out l.written l.limit l.initial.registers l.registers l.i l.rest l.n l.out
 
 abbrev pub decreases-expand_text-loop-over : goal.decreases-expand_text-loop-over
 decreases-expand_text-loop-over l = length l.text - l.i

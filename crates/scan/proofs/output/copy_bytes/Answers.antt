@@ -1,13 +1,20 @@
--- `scan::output::copy_bytes` meets its contract. The invariant: the first i bytes are written. Assumes nothing.
-use Rattle.scan.proofs.output.Buffers.{put_none, copy_again, copy_whole}
+-- `scan::output::copy_bytes` meets its contract: the bytes of a part of the buffer, and those around it. Assumes nothing.
+use mathlib.Core.Path.{refl, ap, ◌∙◌}
+use lib.ListN.{length}
 use native.Mathlib.Omega.{arith}
+use Rattle.std.proofs.lemmas.Slice.{take-put_mid, drop-put_mid, put_mid-paste}
+use Rattle.std.proofs.lemmas.List.Edits.{length-paste}
 use Rattle.scan.proofs.output.copy_bytes.Goals as goal
 
-pub loop-i-init : goal.loop-i-init
-loop-i-init c = (omega arith, omega arith, put_none c.requires)
-
-pub loop-i-preserved : goal.loop-i-preserved
-loop-i-preserved c = let l = c.loop-i in (omega arith, omega arith, copy_again c.args.bytes.now l.i c.loop-i-test.true (omega (arith, c.requires.low)) c.requires.high l.invariant.2)
-
 pub returns : goal.returns
-returns c = copy_whole c.args.bytes.now c.loop-i.i c.loop-i-test.false c.loop-i.invariant.2
+returns c =
+    let a = c.args in
+    let b = a.bytes.now in
+    rw c.copy_from_slice.ensures.after
+    (record {
+      count = refl;
+      fits = omega (arith, c.requires.low);
+      taken = take-put_mid a.written _ a.out.now b _ refl (omega (arith, c.requires.low, c.requires.high));
+      kept = drop-put_mid a.written _ a.out.now b _ (omega arith) (omega (arith, c.requires.low, c.requires.high)) (omega arith);
+      long = ap length (put_mid-paste a.written _ a.out.now b b _ refl refl (omega arith)) ∙ length-paste a.out.now a.written b _ (omega (arith, c.requires.low, c.requires.high)) (omega arith) ∙ c.requires.long;
+    })

@@ -1,21 +1,19 @@
--- `scan::output::write_back` meets its contract. The invariant: the first i bytes are written, with their escapes. Assumes nothing.
-use Rattle.scan.proofs.output.Buffers.{put_none, back_again, back_full, back_whole}
+-- `scan::output::write_back` meets its contract. The invariant: the bytes before this one are written, with their escapes. Assumes nothing.
+use Rattle.scan.proofs.output.Buffers.{put_none, back_again, back_full}
+use Rattle.std.proofs.lemmas.Result.{err_from_is_err_and}
 use Rattle.rules.specs.Escapes.{escaped}
 use native.Mathlib.Omega.{arith}
 use Rattle.scan.proofs.output.write_back.Goals as goal
 
-pub loop-i-init : goal.loop-i-init
+pub loop-byte-init : goal.loop-byte-init
 unfolding escaped
-loop-i-init c = (omega arith, put_none c.requires)
+loop-byte-init c = put_none c.requires
 
-pub put_escaped-requires : goal.put_escaped-requires
-put_escaped-requires c = let p = c.loop-i.invariant.1 in record { long = p.long; low = p.fits; high = c.requires.high }
+pub returns-in_err-n : goal.returns-in_err-n
+returns-in_err-n c =
+    let p = err_from_is_err_and c.from_residual.result c.from_residual.ensures.1 in
+    let f = rw c.in_err-n.was at c.put_escaped.ensures in
+    rw (p.1, p.2) (f.0, back_full c.args.bytes.now c.loop-byte.byte-index (omega arith) c.loop-byte.invariant f.1, f.2)
 
-pub returns-in-Full : goal.returns-in-Full
-returns-in-Full c = let e = c.put_escaped.ensures in let f = rw c.in-Full.is at e in (back_full c.args.bytes.now c.loop-i.i c.loop-i-test.true c.loop-i.invariant.1 f.0, f.1)
-
-pub loop-i-preserved : goal.loop-i-preserved
-loop-i-preserved c = let e = c.put_escaped.ensures in (omega arith, back_again c.args.bytes.now c.loop-i.i c.loop-i-test.true c.loop-i.invariant.1 (rw c.in-To.is at e))
-
-pub returns : goal.returns
-returns c = back_whole c.args.bytes.now c.loop-i.i c.loop-i-test.false c.loop-i.invariant.1
+pub loop-byte-preserved : goal.loop-byte-preserved
+loop-byte-preserved c = back_again c.args.bytes.now c.loop-byte.byte-index (omega arith) c.loop-byte.invariant (rw c.in_ok-n.was at c.put_escaped.ensures)

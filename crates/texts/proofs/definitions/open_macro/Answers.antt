@@ -1,41 +1,52 @@
 -- `texts::definitions::open_macro` meets its contract, by whether the name is found. Assumes nothing.
 use Prim.Native.Nat.{◌<◌}
-use mathlib.Core.Path.{◌≡◌, sym, ◌∙◌}
+use mathlib.Core.Path.{◌≡◌, refl, sym, ◌∙◌}
 use native.Mathlib.Omega.{arith}
-use Rattle.texts.specs.declared.table.TextPlace.TheVariants.{At, Not}
+use Rattle.std.specs.Prelude.{None, Some}
+use Rattle.texts.specs.Table.Lent.{loans_same}
 use Rattle.texts.specs.Table.Table.{names_of}
 use Rattle.texts.specs.Table.Places.{text_place}
 use mathlib.Core.List.{[]}
 use Rattle.texts.proofs.table.Laws.{found_row}
 use Rattle.texts.proofs.definitions.EntryLaws.{open_old, open_new, open_65}
 use Rattle.texts.proofs.definitions.open_macro.Goals as goal
-use Rattle.texts.proofs.definitions.open_macro.Goals.{In-At, In-Not}
+use Rattle.texts.proofs.definitions.open_macro.Goals.{In-Some, In-None}
 
 -- the name's place, and its row
-found : (c : In-At) → text_place c.args.name (names_of c.args.firsts.now c.args.seconds.now c.args.count) ≡ At c.in-At.i
-found c = sym c.find.ensures ∙ c.in-At.is
+found : (c : In-Some) → text_place c.args.name (names_of c.args.texts.now.firsts.now c.args.texts.now.seconds.now c.args.texts.now.count) ≡ Some c.in-Some.i
+found c = sym c.find.ensures ∙ c.in-Some.is
 
-row : (c : In-At) → c.in-At.i < c.args.count
-row c = found_row _ _ _ _ _ _ c.requires c.args.name c.in-At.i (found c)
+row : (c : In-Some) → c.in-Some.i < c.args.texts.now.count
+row c = found_row _ _ _ _ _ _ c.args.texts.now.sound c.args.name c.in-Some.i (found c)
 
 -- it has none
-missing : (c : In-Not) → text_place c.args.name (names_of c.args.firsts.now c.args.seconds.now c.args.count) ≡ Not
-missing c = sym c.find.ensures ∙ c.in-Not.is
+missing : (c : In-None) → text_place c.args.name (names_of c.args.texts.now.firsts.now c.args.texts.now.seconds.now c.args.texts.now.count) ≡ None
+missing c = sym c.find.ensures ∙ c.in-None.is
 
 pub take_out-requires : goal.take_out-requires
-take_out-requires c = (c.requires, row (goal.at.take_out-requires c).In-At)
+take_out-requires c = row (goal.at.take_out-requires c).In-Some
 
-pub overflow_sub-result : goal.overflow_sub-result
-overflow_sub-result c = omega (arith, row (goal.at.overflow_sub-result c).In-At)
+pub returns-then-texts-lt-TABLE_SIZE : goal.returns-then-texts-lt-TABLE_SIZE
+returns-then-texts-lt-TABLE_SIZE c =
+    record {
+      opened = open_new _ _ _ _ _ _ c.args.texts.now.sound c.args.name (missing (goal.at.returns-then-texts-lt-TABLE_SIZE c).In-None) (omega arith);
+      refused = tt;
+      loans = loans_same;
+    }
 
-pub returns-then-count-lt-TABLE_SIZE : goal.returns-then-count-lt-TABLE_SIZE
-returns-then-count-lt-TABLE_SIZE c =
-    open_new _ _ _ _ _ _ c.requires c.args.name (missing (goal.at.returns-then-count-lt-TABLE_SIZE c).In-Not) (omega arith)
+pub returns-in-Some : goal.returns-in-Some
+returns-in-Some c =
+    let o = c.take_out.ensures in
+    record {
+      opened = rw o.less (open_old _ _ _ _ _ _ c.args.texts.now.sound c.args.name [] c.in-Some.i (found (goal.at.returns-in-Some c).In-Some) _ _ _ _ _ o.taken);
+      refused = tt;
+      loans = o.loans;
+    }
 
-pub returns-in-At : goal.returns-in-At
-returns-in-At c =
-    open_old _ _ _ _ _ _ c.requires c.args.name [] c.in-At.i (found (goal.at.returns-in-At c).In-At) _ _ _ _ _ c.take_out.ensures
-
-pub returns-else-count-lt-TABLE_SIZE : goal.returns-else-count-lt-TABLE_SIZE
-returns-else-count-lt-TABLE_SIZE c =
-    open_65 _ _ _ _ _ _ c.requires c.args.name (missing (goal.at.returns-else-count-lt-TABLE_SIZE c).In-Not) (omega arith)
+pub returns-else-texts-lt-TABLE_SIZE : goal.returns-else-texts-lt-TABLE_SIZE
+returns-else-texts-lt-TABLE_SIZE c =
+    record {
+      opened = open_65 _ _ _ _ _ _ c.args.texts.now.sound c.args.name (missing (goal.at.returns-else-texts-lt-TABLE_SIZE c).In-None) (omega arith);
+      refused = refl;
+      loans = loans_same;
+    }

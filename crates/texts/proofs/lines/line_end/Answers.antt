@@ -1,32 +1,14 @@
--- `texts::lines::line_end` meets its contract. The invariant: the first line has i bytes more than the one that begins at i. Assumes nothing.
-use mathlib.Core.Path.{◌≡◌}
-use native.Mathlib.Omega.{arith}
-use lib.ListN.{length, drop}
+-- `texts::lines::line_end` meets its contract: the first line is as long as the place of the first newline. Assumes nothing.
+use Rattle.std.proofs.Common.{◌≡◌, ℕ, List, length, sym, ◌∙◌, arith, rules, tests}
+use Rattle.std.proofs.lemmas.Iterator.{YieldsList-from_slice, IsFirst-from_position, index_from_first}
 use Rattle.texts.specs.Lines.Lines.{first_line}
-use Rattle.texts.proofs.lines.LineLaws.{line_stops, line_goes, line_ends}
+use Rattle.texts.proofs.lines.LineLaws.{line_none, line_stops, line_goes, line_short}
 use Rattle.texts.proofs.lines.line_end.Goals as goal
-
-pub loop-i-init : goal.loop-i-init
-loop-i-init c = (omega arith, omega arith)
-
-pub bounds-text-i : goal.bounds-text-i
-bounds-text-i c = omega arith
-
-pub returns-then-text-i-eq10 : goal.returns-then-text-i-eq10
-returns-then-text-i-eq10 c = let t = c.args.text.now in omega (arith, line_stops t c.loop-i.i c.loop-i-test.true c.if-text-i-eq10.true)
-
-pub overflow_add-i : goal.overflow_add-i
-overflow_add-i c = omega arith
-
-pub loop-i-smaller : goal.loop-i-smaller
-loop-i-smaller c = omega arith
-
-pub loop-i-preserved : goal.loop-i-preserved
-loop-i-preserved c = let t = c.args.text.now in omega (arith, line_goes t c.loop-i.i c.loop-i-test.true c.if-text-i-eq10.false)
 
 pub returns : goal.returns
 returns c =
     let t = c.args.text.now in
-    let e : c.loop-i.i ≡ length t = omega arith in
-    let z : length (first_line (drop c.loop-i.i t)) ≡ 0 = rw e (line_ends t) in
-    omega arith
+    let first = IsFirst-from_position _ _ _ (λ b. b ≡ 10) (λ b. b ≡ 10 → ⊥) c.position.ensures.ran (YieldsList-from_slice t cc) (λ x q k. search (rules, tests)) (λ x q k. search (rules, tests)) in
+    let e = index_from_first (λ (l : List ℕ). length (first_line l)) (λ b. b ≡ 10) (λ b. b ≡ 10 → ⊥) line_none line_stops line_goes t _ first in
+    let is : c.unwrap_or.result ≡ length (first_line t) = c.unwrap_or.ensures ∙ sym e in
+    (is, omega (arith, line_short t))

@@ -1,22 +1,23 @@
 -- `traps::table::plant` meets its contract. Assumes nothing.
-use mathlib.Core.Path.{◌≡◌}
-use native.Mathlib.Omega.{arith}
-use lib.ListN.{length}
-use Rattle.traps.specs.Table.TableLaws.{plant_old, plant_last, plant_full}
+use Rattle.std.proofs.Common.{sym, ◌∙◌, arith, length-take}
+use Rattle.traps.specs.Table.Table.{index_of, planted_of}
+use Rattle.traps.specs.Table.TableLaws.{position_at, position_none, plant_old, plant_last, plant_full}
 use Rattle.traps.proofs.table.plant.Goals as goal
-use Rattle.traps.proofs.table.plant.Goals.{Start}
 
-long : (c : Start) → length c.args.p.traps ≡ 16
-long c = c.well_formed.0.1.1.0.1.0.1
+pub returns-in-Some : goal.returns-in-Some
+returns-in-Some c =
+    let a = c.args in
+    let h = position_at a.place.0 (planted_of a.p) c.in-Some.at (sym c.in-Some.is ∙ c.index_of.ensures) in
+    plant_old a.p (omega arith) c.requires a.place.0 a.name c.in-Some.at h.0 (omega (arith, length-take a.p.count a.p.traps))
 
-pub returns-then-at-count : goal.returns-then-at-count
-returns-then-at-count c =
-    plant_old c.args.p (long (goal.at.returns-then-at-count c).Start) c.requires c.args.place.0 c.args.name c.index_of-at.result c.index_of-at.ensures (omega arith)
-
-pub returns-then-count-lt16 : goal.returns-then-count-lt16
-returns-then-count-lt16 c =
-    plant_last c.args.p (long (goal.at.returns-then-count-lt16 c).Start) c.requires c.args.place.0 c.args.name c.index_of-at.result c.index_of-at.ensures (omega arith) (omega arith)
+pub returns-then-p-eq16 : goal.returns-then-p-eq16
+returns-then-p-eq16 c =
+    let a = c.args in
+    let h = position_none a.place.0 (planted_of a.p) (sym c.in_default.is ∙ c.index_of.ensures) in
+    plant_full a.p (omega arith) c.requires a.place.0 a.name _ (λ i. index_of a.place.0 (planted_of a.p)) (omega (arith, length-take a.p.count a.p.traps)) (omega arith)
 
 pub returns : goal.returns
 returns c =
-    plant_full c.args.p (long (goal.at.returns c).Start) c.requires c.args.place.0 c.args.name c.index_of-at.result c.index_of-at.ensures (omega arith) (omega arith)
+    let a = c.args in
+    let h = position_none a.place.0 (planted_of a.p) (sym c.in_default.is ∙ c.index_of.ensures) in
+    plant_last a.p (omega arith) c.requires a.place.0 a.name _ (λ i. index_of a.place.0 (planted_of a.p)) (omega (arith, length-take a.p.count a.p.traps)) (omega arith)

@@ -1,8 +1,0 @@
--- `measure::rows_of` meets its contract. Assumes nothing.
-use borrow.Author.Rules.{sfits_of}
-use Rattle.measure.specs.Rounding.{nearest_of}
-use Rattle.measure.proofs.Signed.{called}
-use Rattle.measure.proofs.rows_of.Goals as goal
-
-pub returns : goal.returns
-returns c = rw (called (nearest_of c.args.pitch.row) c.ranges.units (sfits_of c.nearest.type_inv) c.nearest.ensures)

@@ -1,8 +1,0 @@
--- `number::arithmetic::truth` meets its contract. Assumes nothing.
-use Rattle.number.proofs.arithmetic.truth.Goals as goal
-
-pub returns-then-t : goal.returns-then-t
-returns-then-t c = rw c.if-t.true
-
-pub returns-else-t : goal.returns-else-t
-returns-else-t c = rw c.if-t.false

@@ -1,8 +1,0 @@
--- `page::springs::land_called` meets its contract. Assumes nothing.
-use Rattle.page.proofs.springs.land_called.Goals as goal
-
-pub returns-then-called : goal.returns-then-called
-returns-then-called c = rw c.if-called.true
-
-pub returns : goal.returns
-returns c = rw c.if-called.false

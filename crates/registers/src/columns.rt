@@ -1,0 +1,16 @@
+// The number registers where their columns lie.
+ghost use Rattle.registers.specs.Table.Columns.{RegistersInvariant};
+ghost use Rattle.registers.specs.Table.Single.{RegistersInvariant-prop};
+
+use rules::arrays::{ByteColumn, NumberColumn};
+
+// At most 64, in the order of their names.
+#[derive(Drop)]
+pub struct Registers<'a> {
+    pub firsts: &'a mut ByteColumn,
+    pub seconds: &'a mut ByteColumn,
+    pub values: &'a mut NumberColumn,
+    pub steps: &'a mut NumberColumn,
+    pub count: usize,
+    ghost sound: { RegistersInvariant firsts.now seconds.now values.now steps.now count } by { RegistersInvariant-prop firsts.now seconds.now values.now steps.now count },
+}
