@@ -13,7 +13,7 @@ use rules::arrays::{
 };
 use settings::layout::Printer;
 use state::{Status, WorkOutcome, moved, stay};
-use texts::columns::Texts;
+use texts::columns::TextsRef;
 
 // An item that is no text, taken off the stack: an expanded line, words, a request after its break, or a bp.
 fn resume(
@@ -65,12 +65,12 @@ fn resume(
             moved(outcome, status)
         }
         What::Control(period, name) => {
-            let texts = Texts {
-                store: &mut *store,
-                firsts: &mut *text_firsts,
-                seconds: &mut *text_seconds,
-                kinds: &mut *kinds,
-                lengths: &mut *lengths,
+            let texts = TextsRef {
+                store: &*store,
+                firsts: &*text_firsts,
+                seconds: &*text_seconds,
+                kinds: &*kinds,
+                lengths: &*lengths,
                 count: status.texts,
             };
             let meaning = line_syntax::lines::meaning_of(&texts, name);

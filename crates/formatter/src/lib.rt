@@ -18,7 +18,7 @@ ghost use Rattle.formatter.specs.StoredLines.Works.{StepReady, StepRefines};
 use composition::page_rows::PageOutcome;
 use input_stack::frames::What;
 use page::springs::Way;
-use registers::columns::Registers;
+use registers::columns::RegisterValues;
 use rules::Refusal;
 use rules::arrays::{
     ARGUMENT_COUNT, ByteColumn, LINE_SIZE, LengthColumn, LineBytes, NumberColumn, RowBytes,
@@ -27,7 +27,7 @@ use rules::arrays::{
 use settings::layout::Printer;
 use state::{Status, WorkOutcome, moved, stay};
 use stored_lines::Performed;
-use texts::columns::Texts;
+use texts::columns::TextsRef;
 use texts::lines::Top;
 
 // A source line, as it was taken.
@@ -57,19 +57,19 @@ pub fn deal(
     let opening = status.opening;
     let none = [0u16; ARGUMENT_COUNT];
     let mut out = [0u8; LINE_SIZE];
-    let texts = Texts {
-        store: &mut *store,
-        firsts: &mut *text_firsts,
-        seconds: &mut *text_seconds,
-        kinds: &mut *kinds,
-        lengths: &mut *lengths,
+    let texts = TextsRef {
+        store: &*store,
+        firsts: &*text_firsts,
+        seconds: &*text_seconds,
+        kinds: &*kinds,
+        lengths: &*lengths,
         count: status.texts,
     };
-    let mut registers = Registers {
-        firsts: &mut *firsts,
-        seconds: &mut *seconds,
+    let mut registers = RegisterValues {
+        firsts: &*firsts,
+        seconds: &*seconds,
         values: &mut *values,
-        steps: &mut *steps,
+        steps: &*steps,
         count: status.registers,
     };
     let dealt = line_expansion::read(

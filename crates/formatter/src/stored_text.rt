@@ -11,7 +11,7 @@ ghost use Rattle.formatter.specs.StoredLines.Works.{TextReady, StepRefines};
 
 use super::stored_lines::Performed;
 use page::springs::Way;
-use registers::columns::Registers;
+use registers::columns::RegisterValues;
 use rules::arrays::{
     ARGUMENT_COUNT, ByteColumn, LINE_SIZE, LengthColumn, LineBytes, NumberColumn, RowBytes,
     StackBytes, StackEnds,
@@ -19,7 +19,7 @@ use rules::arrays::{
 use rules::{Name, Refusal};
 use settings::layout::Printer;
 use state::{Status, WorkOutcome, stay};
-use texts::columns::Texts;
+use texts::columns::TextsRef;
 use texts::lines::Top;
 
 // A line of the text on top of the stack, with the arguments of its call.
@@ -53,19 +53,19 @@ fn deal_stored(
     input_stack::stack::load_ends(stack, &*ends, &mut given);
     let mut out = [0u8; LINE_SIZE];
     let arguments = input_stack::stack::top_bytes(stack, &*arena, &*ends);
-    let texts = Texts {
-        store: &mut *store,
-        firsts: &mut *text_firsts,
-        seconds: &mut *text_seconds,
-        kinds: &mut *kinds,
-        lengths: &mut *lengths,
+    let texts = TextsRef {
+        store: &*store,
+        firsts: &*text_firsts,
+        seconds: &*text_seconds,
+        kinds: &*kinds,
+        lengths: &*lengths,
         count: status.texts,
     };
-    let mut registers = Registers {
-        firsts: &mut *firsts,
-        seconds: &mut *seconds,
+    let mut registers = RegisterValues {
+        firsts: &*firsts,
+        seconds: &*seconds,
         values: &mut *values,
-        steps: &mut *steps,
+        steps: &*steps,
         count: status.registers,
     };
     let dealt = line_expansion::read(
@@ -129,12 +129,12 @@ pub fn read_text(
     ensures { let q : WholeState = whole_of status cells.old arena.old ends.old store.old text_firsts.old text_seconds.old kinds.old lengths.old firsts.old seconds.old values.old steps.old in StepRefines (printer_of printer) q stored result.way result.written (whole_of result.status cells.new arena.new ends.new store.new text_firsts.new text_seconds.new kinds.new lengths.new firsts.new seconds.new values.new steps.new) result.stored row.new }
 {
     let stack = status.stack;
-    let texts = Texts {
-        store: &mut *store,
-        firsts: &mut *text_firsts,
-        seconds: &mut *text_seconds,
-        kinds: &mut *kinds,
-        lengths: &mut *lengths,
+    let texts = TextsRef {
+        store: &*store,
+        firsts: &*text_firsts,
+        seconds: &*text_seconds,
+        kinds: &*kinds,
+        lengths: &*lengths,
         count: status.texts,
     };
     let found = texts::table::look_up(&texts, name);

@@ -1,11 +1,12 @@
 // What is left to do with a line, once it is expanded.
 ghost use Rattle.std.specs.Prelude.{◌≡◌, false, length};
-ghost use Rattle.texts.specs.Table.Lent.{OpensIn, ClosedIn};
+ghost use Rattle.texts.specs.Table.Table.{TextsInvariant};
+ghost use Rattle.texts.specs.Table.Changes.{Opens, ClosedTo};
 ghost use Rattle.settings.specs.Layout.Layouts.{printer_of};
 ghost use Rattle.state.specs.Whole.{WholeState, texts_in, StateRefines};
 ghost use Rattle.state.specs.Statuses.{whole_of, StateReady};
 ghost use Rattle.line_expansion.specs.Dealing.{dealt_of, DealtInvariant};
-ghost use Rattle.line_execution.specs.ExpandedLines.Steps.{closed_to, kept_to, LineKeptIn};
+ghost use Rattle.line_execution.specs.ExpandedLines.Steps.{closed_to, kept_to, LineKept};
 
 use line_expansion::Dealt;
 use page::springs::Way;
@@ -15,7 +16,6 @@ use rules::arrays::{
 use rules::{Name, Refusal};
 use settings::layout::Printer;
 use state::{Opening, Status, WorkOutcome};
-use texts::columns::Texts;
 
 // A definition is closed: so many texts, and none open.
 fn closed(texts: usize, status: Status) -> WorkOutcome
@@ -50,20 +50,42 @@ fn kept(answer: Result<usize, Refusal>, status: Status) -> WorkOutcome
 }
 
 // The open definition becomes a text.
-fn close(status: Status, texts: &mut Texts) -> WorkOutcome
-    requires { OpensIn texts.old status.opening.length }
-    ensures { (result ≡ closed_to texts.new.count status) × ClosedIn texts.old status.opening.length status.opening.name texts.new }
+fn close(
+    status: Status,
+    store: &[u8],
+    text_firsts: &mut ByteColumn,
+    text_seconds: &mut ByteColumn,
+    kinds: &mut ByteColumn,
+    lengths: &mut LengthColumn,
+) -> WorkOutcome
+    requires { TextsInvariant store.now text_firsts.old text_seconds.old kinds.old lengths.old status.texts × Opens store.now lengths.old status.texts status.opening.length }
+    ensures { (result ≡ closed_to result.status.texts status) × ClosedTo store.now text_firsts.old text_seconds.old kinds.old lengths.old status.texts status.opening.length status.opening.name result.status.texts text_firsts.new text_seconds.new kinds.new lengths.new }
 {
-    texts::definitions::close_macro(texts, status.opening.length, status.opening.name);
-    closed(texts.count, status)
+    let texts = texts::definitions::close_macro(
+        store,
+        text_firsts,
+        text_seconds,
+        kinds,
+        lengths,
+        status.texts,
+        status.opening.length,
+        status.opening.name,
+    );
+    closed(texts, status)
 }
 
 // A line goes to the end of the open definition.
-fn keep(line: &[u8], status: Status, texts: &mut Texts) -> WorkOutcome
-    requires { OpensIn texts.old status.opening.length }
-    ensures { LineKeptIn status texts.old line.now result texts.new }
+fn keep(line: &[u8], status: Status, store: &mut [u8], lengths: &LengthColumn) -> WorkOutcome
+    requires { Opens store.old lengths.now status.texts status.opening.length }
+    ensures { LineKept status store.old lengths.now line.now result store.new }
 {
-    let answer = texts::definitions::keep_line(texts, status.opening.length, line);
+    let answer = texts::definitions::keep_line(
+        store,
+        lengths,
+        status.texts,
+        status.opening.length,
+        line,
+    );
     kept(answer, status)
 }
 
@@ -95,28 +117,8 @@ pub fn finish(
         Err(refusal) => return state::stay(Way::Refused(refusal), status),
     };
     match dealt {
-        Dealt::Closes => {
-            let mut texts = Texts {
-                store,
-                firsts: text_firsts,
-                seconds: text_seconds,
-                kinds,
-                lengths,
-                count: status.texts,
-            };
-            close(status, &mut texts)
-        }
-        Dealt::Keeps(n) => {
-            let mut texts = Texts {
-                store,
-                firsts: text_firsts,
-                seconds: text_seconds,
-                kinds,
-                lengths,
-                count: status.texts,
-            };
-            keep(&out[..n], status, &mut texts)
-        }
+        Dealt::Closes => close(status, &*store, text_firsts, text_seconds, kinds, lengths),
+        Dealt::Keeps(n) => keep(&out[..n], status, store, &*lengths),
         Dealt::Words(n) => {
             let outcome = composition::text_lines::text_line(
                 out,

@@ -14,8 +14,8 @@ use Rattle.rules.specs.StateSetters.{tables}
 use Rattle.rules.specs.Rows.{Next, goes, refuses}
 use Rattle.rules.specs.TextLines.{text_line}
 use Rattle.rules.specs.ControlLines.{meaning_of, obey, keep_body, body_line, deal}
-use Rattle.registers.specs.declared.columns.Registers.{Registers}
-use Rattle.registers.specs.Table.Lent.{registers_in, OnlyValues}
+use Rattle.registers.specs.declared.columns.RegisterValues.{RegisterValues}
+use Rattle.registers.specs.Table.Lent.{registers_with, OnlyValues}
 use Rattle.rules.specs.declared.Mode.TheVariants.{Plain}
 use Rattle.rules.specs.Requests.{mode_of}
 use Rattle.line_syntax.specs.declared.lines.Meaning.{Meaning}
@@ -75,9 +75,9 @@ DealtInvariant false ts (Ok Nothing) = Unit
 DealtInvariant false ts (Err e) = Unit
 
 -- The line is dealt with as the rules say, once what is left is done.
-pub record DealRefines (r : Result Dealt Refusal) (p : Printer) (y : Layout) (g : Page) (ts : List Text) (opened : Bool) (args : List (List ℕ)) (line : List ℕ) (rg rg' : Registers) (out' : List ℕ) : Type 0 where
+pub record DealRefines (r : Result Dealt Refusal) (p : Printer) (y : Layout) (g : Page) (ts : List Text) (opened : Bool) (args : List (List ℕ)) (line : List ℕ) (rg rg' : RegisterValues) (out' : List ℕ) : Type 0 where
   pub is : (o : Option Definition) → is_there o ≡ opened → (x : State)
-      → dealt_of p r out' (scene y g ts (registers_in rg') o x) ≡ deal p args line (scene y g ts (registers_in rg) o x)
+      → dealt_of p r out' (scene y g ts (registers_with rg') o x) ≡ deal p args line (scene y g ts (registers_with rg) o x)
   pub rest : OnlyValues rg rg'
   pub long : length out' ≡ 512
   pub sound : DealtInvariant opened ts r

@@ -18,8 +18,8 @@ use Rattle.rules.specs.Requests.{mode_of}
 use Rattle.rules.specs.Lines.{line_of, is_closing}
 use Rattle.rules.specs.ControlLines.{Meaning, calls, means_request, nothing, text_meaning, prefix_of, obey, on_scan, keep_body, body_line, control_line, fresh_line, deal}
 use Rattle.rules.specs.ControlLines as control-lines
-use Rattle.registers.specs.declared.columns.Registers.{Registers}
-use Rattle.registers.specs.Table.Lent.{registers_in, OnlyValues, only_none}
+use Rattle.registers.specs.declared.columns.RegisterValues.{RegisterValues}
+use Rattle.registers.specs.Table.Lent.{registers_with, OnlyValues, only_none}
 use Rattle.line_syntax.specs.declared.lines.Meaning as lines
 use Rattle.line_syntax.specs.declared.lines.Meaning.TheVariants as meaning
 use Rattle.line_syntax.specs.Lines.Meanings.{MeaningIs, CallsText, called_means}
@@ -45,24 +45,24 @@ abbrev pub control_as : Result ℕ Refusal → (period : Bool) → Name → line
 control_as (Ok n) q k m = Ok (Control q k m n)
 control_as (Err e) q k m = Err e
 
-module _ (p : Printer) (y : Layout) (g : Page) (ts : List Text) (args : List (List ℕ)) (line : List ℕ) (rg : Registers) where
+module _ (p : Printer) (y : Layout) (g : Page) (ts : List Text) (args : List (List ℕ)) (line : List ℕ) (rg : RegisterValues) where
   abbrev before : Option Definition → State → State
-  before o x = scene y g ts (registers_in rg) o x
+  before o x = scene y g ts (registers_with rg) o x
 
-  abbrev after : (rg' : Registers) → Option Definition → State → State
-  after rg' o x = scene y g ts (registers_in rg') o x
+  abbrev after : (rg' : RegisterValues) → Option Definition → State → State
+  after rg' o x = scene y g ts (registers_with rg') o x
 
   -- an expansion of a part of the line
-  abbrev Expanded : Result ℕ Refusal → Mode → (prefix : ℕ) → List ℕ → (out out' : List ℕ) → Registers → Type 0
+  abbrev Expanded : Result ℕ Refusal → Mode → (prefix : ℕ) → List ℕ → (out out' : List ℕ) → RegisterValues → Type 0
   Expanded r m k l out out' rg' = ScannedTo r (surroundings p y g ts args) m k l rg rg' out out'
 
   -- the same expansion, with its mode, prefix and line known
-  pub expanded_as : (r : Result ℕ Refusal) (m m' : Mode) (j j' : ℕ) (l l' out out' : List ℕ) (rg' : Registers) → m ≡ m' → j ≡ j' → l ≡ l' → Expanded r m j l out out' rg' → Expanded r m' j' l' out out' rg'
+  pub expanded_as : (r : Result ℕ Refusal) (m m' : Mode) (j j' : ℕ) (l l' out out' : List ℕ) (rg' : RegisterValues) → m ≡ m' → j ≡ j' → l ≡ l' → Expanded r m j l out out' rg' → Expanded r m' j' l' out out' rg'
   expanded_as r m m' j j' l l' out out' rg' a b c h =
       subst (λ (v : List ℕ). Expanded r m' j' v out out' rg') c (subst (λ (v : ℕ). Expanded r m' v l out out' rg') b (subst (λ (v : Mode). Expanded r v j l out out' rg') a h))
 
   -- a line of text
-  words_is : (r : Result ℕ Refusal) (out out' : List ℕ) (rg' : Registers) → Expanded r Plain 0 line out out' rg' → line_of line ≡ plain_text line → (x : State)
+  words_is : (r : Result ℕ Refusal) (out out' : List ℕ) (rg' : RegisterValues) → Expanded r Plain 0 line out out' rg' → line_of line ≡ plain_text line → (x : State)
       → dealt_of p (words_as r) out' (after rg' None x) ≡ deal p args line (before None x)
   unfolding deal
   words_is (Ok n) out out' rg' a e x =
@@ -71,7 +71,7 @@ module _ (p : Printer) (y : Layout) (g : Page) (ts : List Text) (args : List (Li
       ap (λ (v : rules.Scanned). on_scan v (before None x) text_line) a.is ∙ sym (ap (λ (l : Line). fresh_line p l args (before None x)) e)
 
   -- a body line that is kept
-  keeps_is : (r : Result ℕ Refusal) (out out' : List ℕ) (rg' : Registers) → Expanded r Copy 0 line out out' rg' → is_closing line ≡ false → (d : Definition) (x : State)
+  keeps_is : (r : Result ℕ Refusal) (out out' : List ℕ) (rg' : RegisterValues) → Expanded r Copy 0 line out out' rg' → is_closing line ≡ false → (d : Definition) (x : State)
       → dealt_of p (kept_as r) out' (after rg' (Some d) x) ≡ deal p args line (before (Some d) x)
   unfolding deal
   keeps_is (Ok n) out out' rg' a e d x =
@@ -80,7 +80,7 @@ module _ (p : Printer) (y : Layout) (g : Page) (ts : List Text) (args : List (Li
       ap (λ (v : rules.Scanned). on_scan v (before (Some d) x) (keep_body p d)) a.is ∙ sym (ap (λ (b : Bool). body_line p b d args line (before (Some d) x)) e)
 
   -- a control line whose name means something
-  control_is : (q : Bool) (k : Name) (rest : List ℕ) (w : Meaning) (m : Mode) (u : lines.Meaning) (r : Result ℕ Refusal) (out out' : List ℕ) (rg' : Registers) → Expanded r m (prefix_of k) rest out out' rg'
+  control_is : (q : Bool) (k : Name) (rest : List ℕ) (w : Meaning) (m : Mode) (u : lines.Meaning) (r : Result ℕ Refusal) (out out' : List ℕ) (rg' : RegisterValues) → Expanded r m (prefix_of k) rest out out' rg'
       → line_of line ≡ control q k rest → text_meaning (text_of k ts) k ≡ w
       → ((s : State) → control_line p w args q k rest s ≡ on_scan (control-lines.expand p args m (prefix_of k) rest s) s (obey p w false q k)) → (x : State)
       → dealt_of p (control_as r q k u) out' (after rg' None x) ≡ deal p args line (before None x)
@@ -94,23 +94,23 @@ module _ (p : Printer) (y : Layout) (g : Page) (ts : List Text) (args : List (Li
       ∙ sym (h (before None x)) ∙ sym (ap (λ (v : Meaning). control_line p v args q k rest (before None x)) f) ∙ sym (ap (λ (l : Line). fresh_line p l args (before None x)) e)
 
   -- what an expansion is within
-  words_sound : (r : Result ℕ Refusal) (m : Mode) (k : ℕ) (l out out' : List ℕ) (rg' : Registers) → Expanded r m k l out out' rg' → DealtInvariant false ts (words_as r)
+  words_sound : (r : Result ℕ Refusal) (m : Mode) (k : ℕ) (l out out' : List ℕ) (rg' : RegisterValues) → Expanded r m k l out out' rg' → DealtInvariant false ts (words_as r)
   words_sound (Ok n) m k l out out' rg' a = a.kept.0
   words_sound (Err i) m k l out out' rg' a = tt
 
-  keeps_sound : (r : Result ℕ Refusal) (m : Mode) (k : ℕ) (l out out' : List ℕ) (rg' : Registers) → Expanded r m k l out out' rg' → DealtInvariant true ts (kept_as r)
+  keeps_sound : (r : Result ℕ Refusal) (m : Mode) (k : ℕ) (l out out' : List ℕ) (rg' : RegisterValues) → Expanded r m k l out out' rg' → DealtInvariant true ts (kept_as r)
   keeps_sound (Ok n) m k l out out' rg' a = a.kept.0
   keeps_sound (Err i) m k l out out' rg' a = tt
 
-  control_sound : (r : Result ℕ Refusal) (m : Mode) (j : ℕ) (l out out' : List ℕ) (rg' : Registers) (q : Bool) (k : Name) (u : lines.Meaning) → Expanded r m j l out out' rg' → MeaningIs ts k (Some u) → DealtInvariant false ts (control_as r q k u)
+  control_sound : (r : Result ℕ Refusal) (m : Mode) (j : ℕ) (l out out' : List ℕ) (rg' : RegisterValues) (q : Bool) (k : Name) (u : lines.Meaning) → Expanded r m j l out out' rg' → MeaningIs ts k (Some u) → DealtInvariant false ts (control_as r q k u)
   control_sound (Ok n) m j l out out' rg' q k u a h = (a.kept.0, h)
   control_sound (Err i) m j l out out' rg' q k u a h = tt
 
-  abbrev Deals : Result Dealt Refusal → Bool → (out' : List ℕ) → Registers → Type 0
+  abbrev Deals : Result Dealt Refusal → Bool → (out' : List ℕ) → RegisterValues → Type 0
   Deals r b out' rg' = DealRefines r p y g ts b args line rg rg' out'
 
   -- a line where no definition is open
-  closed_dealt : (r : Result Dealt Refusal) (out' : List ℕ) (rg' : Registers) → OnlyValues rg rg' → length out' ≡ 512 → DealtInvariant false ts r
+  closed_dealt : (r : Result Dealt Refusal) (out' : List ℕ) (rg' : RegisterValues) → OnlyValues rg rg' → length out' ≡ 512 → DealtInvariant false ts r
       → ((x : State) → dealt_of p r out' (after rg' None x) ≡ deal p args line (before None x)) → Deals r false out' rg'
   closed_dealt r out' rg' t l s h = record { is = go; rest = t; long = l; sound = s }
     where
@@ -119,7 +119,7 @@ module _ (p : Printer) (y : Layout) (g : Page) (ts : List Text) (args : List (Li
       go (Some d) e x = let z : ◌≡◌ {A = ℕ} 0 1 = cc in absurd (omega arith)
 
   -- and where one is
-  open_dealt : (r : Result Dealt Refusal) (out' : List ℕ) (rg' : Registers) → OnlyValues rg rg' → length out' ≡ 512 → DealtInvariant true ts r
+  open_dealt : (r : Result Dealt Refusal) (out' : List ℕ) (rg' : RegisterValues) → OnlyValues rg rg' → length out' ≡ 512 → DealtInvariant true ts r
       → ((d : Definition) (x : State) → dealt_of p r out' (after rg' (Some d) x) ≡ deal p args line (before (Some d) x)) → Deals r true out' rg'
   open_dealt r out' rg' t l s h = record { is = go; rest = t; long = l; sound = s }
     where
@@ -127,26 +127,26 @@ module _ (p : Printer) (y : Layout) (g : Page) (ts : List Text) (args : List (Li
       go None e x = let z : ◌≡◌ {A = ℕ} 0 1 = cc in absurd (omega arith)
       go (Some d) e x = h d x
 
-  pub words_dealt : (r : Result ℕ Refusal) (out out' : List ℕ) (rg' : Registers) → Expanded r Plain 0 line out out' rg' → line_of line ≡ plain_text line → Deals (words_as r) false out' rg'
+  pub words_dealt : (r : Result ℕ Refusal) (out out' : List ℕ) (rg' : RegisterValues) → Expanded r Plain 0 line out out' rg' → line_of line ≡ plain_text line → Deals (words_as r) false out' rg'
   words_dealt r out out' rg' a e = closed_dealt (words_as r) out' rg' a.rest a.long (words_sound r Plain 0 line out out' rg' a) (words_is r out out' rg' a e)
 
-  pub keeps_dealt : (r : Result ℕ Refusal) (out out' : List ℕ) (rg' : Registers) → Expanded r Copy 0 line out out' rg' → is_closing line ≡ false → Deals (kept_as r) true out' rg'
+  pub keeps_dealt : (r : Result ℕ Refusal) (out out' : List ℕ) (rg' : RegisterValues) → Expanded r Copy 0 line out out' rg' → is_closing line ≡ false → Deals (kept_as r) true out' rg'
   keeps_dealt r out out' rg' a e = open_dealt (kept_as r) out' rg' a.rest a.long (keeps_sound r Copy 0 line out out' rg' a) (keeps_is r out out' rg' a e)
 
-  call_dealt : (q : Bool) (k : Name) (rest : List ℕ) (h : Kind) (c : CallsText ts k h) (r : Result ℕ Refusal) (out out' : List ℕ) (rg' : Registers) → Expanded r Plain (prefix_of k) rest out out' rg'
+  call_dealt : (q : Bool) (k : Name) (rest : List ℕ) (h : Kind) (c : CallsText ts k h) (r : Result ℕ Refusal) (out out' : List ℕ) (rg' : RegisterValues) → Expanded r Plain (prefix_of k) rest out out' rg'
       → line_of line ≡ control q k rest → Deals (control_as r q k (meaning.Calls h)) false out' rg'
   call_dealt q k rest h c r out out' rg' a e =
       closed_dealt (control_as r q k (meaning.Calls h)) out' rg' a.rest a.long (control_sound r Plain (prefix_of k) rest out out' rg' q k (meaning.Calls h) a c)
       (control_is q k rest (calls c.text) Plain (meaning.Calls h) r out out' rg' a e (called_means c) (λ s. refl))
 
-  request_dealt : (q : Bool) (k : Name) (rest : List ℕ) (i : Request) → text_meaning (text_of k ts) k ≡ means_request i → (r : Result ℕ Refusal) (out out' : List ℕ) (rg' : Registers)
+  request_dealt : (q : Bool) (k : Name) (rest : List ℕ) (i : Request) → text_meaning (text_of k ts) k ≡ means_request i → (r : Result ℕ Refusal) (out out' : List ℕ) (rg' : RegisterValues)
       → Expanded r (mode_of i) (prefix_of k) rest out out' rg' → line_of line ≡ control q k rest → Deals (control_as r q k (meaning.Requests i)) false out' rg'
   request_dealt q k rest i f r out out' rg' a e =
       closed_dealt (control_as r q k (meaning.Requests i)) out' rg' a.rest a.long (control_sound r (mode_of i) (prefix_of k) rest out out' rg' q k (meaning.Requests i) a f)
       (control_is q k rest (means_request i) (mode_of i) (meaning.Requests i) r out out' rg' a e f (λ s. refl))
 
   -- a control line whose name means something, in either mode
-  pub control_dealt : (q : Bool) (k : Name) (rest : List ℕ) (u : lines.Meaning) → MeaningIs ts k (Some u) → (r : Result ℕ Refusal) (out out' : List ℕ) (rg' : Registers)
+  pub control_dealt : (q : Bool) (k : Name) (rest : List ℕ) (u : lines.Meaning) → MeaningIs ts k (Some u) → (r : Result ℕ Refusal) (out out' : List ℕ) (rg' : RegisterValues)
       → Expanded r (expansion_of u) (prefix_of k) rest out out' rg' → line_of line ≡ control q k rest → Deals (control_as r q k u) false out' rg'
   control_dealt q k rest (meaning.Calls h) c r out out' rg' a e = call_dealt q k rest h c r out out' rg' a e
   control_dealt q k rest (meaning.Requests i) c r out out' rg' a e = request_dealt q k rest i c r out out' rg' a e

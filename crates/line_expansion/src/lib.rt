@@ -6,7 +6,7 @@ ghost use Rattle.page.specs.Position.Landing.{page_of};
 ghost use Rattle.registers.specs.Interpolation.ReadOnly.{seen_of};
 ghost use Rattle.scan.specs.Output.Writes.{Room};
 ghost use Rattle.scan.specs.Expansion.Expansion.{ScannedTo};
-ghost use Rattle.texts.specs.Table.Lent.{texts_in};
+ghost use Rattle.texts.specs.Table.Lent.{texts_at};
 ghost use Rattle.texts.specs.Lines.Lines.{next_line, TopInside};
 ghost use Rattle.state.specs.Whole.{shown_at, surroundings, ShownRanges};
 ghost use Rattle.line_expansion.specs.Dealing.{expansion_of, DealRefines};
@@ -17,12 +17,12 @@ ghost use Rattle.scan.specs.Arguments.Around.{Arguments, arguments_of};
 
 use line_syntax::lines::{Line, Meaning};
 use page::position::Page;
-use registers::columns::Registers;
+use registers::columns::RegisterValues;
 use registers::interpolation::Shown;
 use rules::arrays::{ArgumentEnds, LineBytes};
 use rules::{Mode, Name, Refusal};
 use settings::layout::{Layout, Printer};
-use texts::columns::Texts;
+use texts::columns::TextsRef;
 use texts::lines::Top;
 
 // What is left to do with a line, once it is expanded.
@@ -70,15 +70,15 @@ fn expand(
     printer: Printer,
     layout: Layout,
     page: Page,
-    texts: &Texts,
-    registers: &mut Registers,
+    texts: &TextsRef,
+    registers: &mut RegisterValues,
     arguments: &[u8],
     ends: &ArgumentEnds,
     given: usize,
     out: &mut LineBytes,
 ) -> Result<usize, Refusal>
     requires { ShownRanges (layout_of layout) (page_of page) × Arguments arguments.now ends.now given × Room out.old 0 512 }
-    ensures { ScannedTo result (surroundings (printer_of printer) (layout_of layout) (page_of page) (texts_in texts.now) (arguments_of arguments.now ends.now given)) mode prefix line.now registers.old registers.new out.old out.new }
+    ensures { ScannedTo result (surroundings (printer_of printer) (layout_of layout) (page_of page) (texts_at texts.now) (arguments_of arguments.now ends.now given)) mode prefix line.now registers.old registers.new out.old out.new }
 {
     scan::expansion::expand(
         line,
@@ -100,15 +100,15 @@ fn scan_body(
     printer: Printer,
     layout: Layout,
     page: Page,
-    texts: &Texts,
-    registers: &mut Registers,
+    texts: &TextsRef,
+    registers: &mut RegisterValues,
     arguments: &[u8],
     ends: &ArgumentEnds,
     given: usize,
     out: &mut LineBytes,
 ) -> Result<Dealt, Refusal>
     requires { ShownRanges (layout_of layout) (page_of page) × Arguments arguments.now ends.now given × Room out.old 0 512 }
-    ensures { DealRefines result (printer_of printer) (layout_of layout) (page_of page) (texts_in texts.now) true (arguments_of arguments.now ends.now given) line.now registers.old registers.new out.new }
+    ensures { DealRefines result (printer_of printer) (layout_of layout) (page_of page) (texts_at texts.now) true (arguments_of arguments.now ends.now given) line.now registers.old registers.new out.new }
 {
     if texts::lines::closes_body(line) {
         return Ok(Dealt::Closes);
@@ -149,15 +149,15 @@ fn scan_control(
     printer: Printer,
     layout: Layout,
     page: Page,
-    texts: &Texts,
-    registers: &mut Registers,
+    texts: &TextsRef,
+    registers: &mut RegisterValues,
     arguments: &[u8],
     ends: &ArgumentEnds,
     given: usize,
     out: &mut LineBytes,
 ) -> Result<Dealt, Refusal>
     requires { ShownRanges (layout_of layout) (page_of page) × Arguments arguments.now ends.now given × Room out.old 0 512 × (at ≤ length line.now) × (line_of line.now ≡ control period name (drop at line.now)) }
-    ensures { DealRefines result (printer_of printer) (layout_of layout) (page_of page) (texts_in texts.now) false (arguments_of arguments.now ends.now given) line.now registers.old registers.new out.new }
+    ensures { DealRefines result (printer_of printer) (layout_of layout) (page_of page) (texts_at texts.now) false (arguments_of arguments.now ends.now given) line.now registers.old registers.new out.new }
 {
     let known = line_syntax::lines::meaning_of(texts, name);
     let Some(meaning) = known else {
@@ -186,15 +186,15 @@ fn scan_fresh(
     printer: Printer,
     layout: Layout,
     page: Page,
-    texts: &Texts,
-    registers: &mut Registers,
+    texts: &TextsRef,
+    registers: &mut RegisterValues,
     arguments: &[u8],
     ends: &ArgumentEnds,
     given: usize,
     out: &mut LineBytes,
 ) -> Result<Dealt, Refusal>
     requires { ShownRanges (layout_of layout) (page_of page) × Arguments arguments.now ends.now given × Room out.old 0 512 }
-    ensures { DealRefines result (printer_of printer) (layout_of layout) (page_of page) (texts_in texts.now) false (arguments_of arguments.now ends.now given) line.now registers.old registers.new out.new }
+    ensures { DealRefines result (printer_of printer) (layout_of layout) (page_of page) (texts_at texts.now) false (arguments_of arguments.now ends.now given) line.now registers.old registers.new out.new }
 {
     match line_syntax::lines::line_of(line) {
         Line::Text => {
@@ -230,17 +230,17 @@ pub fn read<'a>(
     printer: Printer,
     layout: Layout,
     page: Page,
-    texts: &'a Texts,
-    registers: &mut Registers,
+    texts: &TextsRef<'a, '_>,
+    registers: &mut RegisterValues,
     arguments: &[u8],
     ends: &ArgumentEnds,
     given: usize,
     out: &mut LineBytes,
 ) -> Result<Dealt, Refusal>
     requires { TopInside source.now texts.now.store.now top × ShownRanges (layout_of layout) (page_of page) × Arguments arguments.now ends.now given × Room out.old 0 512 }
-    ensures { DealRefines result (printer_of printer) (layout_of layout) (page_of page) (texts_in texts.now) opened (arguments_of arguments.now ends.now given) (next_line source.now texts.now.store.now top) registers.old registers.new out.new }
+    ensures { DealRefines result (printer_of printer) (layout_of layout) (page_of page) (texts_at texts.now) opened (arguments_of arguments.now ends.now given) (next_line source.now texts.now.store.now top) registers.old registers.new out.new }
 {
-    let line = texts::lines::next_line(source, &*texts.store, top);
+    let line = texts::lines::next_line(source, texts.store, top);
     if opened {
         return scan_body(
             line, printer, layout, page, texts, registers, arguments, ends, given, out,

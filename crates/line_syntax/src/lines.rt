@@ -3,7 +3,7 @@ ghost use Rattle.std.specs.Prelude.{◌≡◌, [], ◌<◌, ◌≤◌, length, g
 ghost use Rattle.rules.specs.Names.{name_of};
 ghost use Rattle.rules.specs.Results.{judged};
 ghost use Rattle.rules.specs.Requests.{traits, starts_page, mode_of};
-ghost use Rattle.texts.specs.Table.Lent.{texts_in};
+ghost use Rattle.texts.specs.Table.Lent.{texts_at};
 ghost use Rattle.scan.specs.Arguments.Around.{Arguments, arguments_of};
 ghost use Rattle.line_syntax.specs.Lines.Lines.{name_judged, LineIs, ControlIs};
 ghost use Rattle.line_syntax.specs.Lines.Places.{StringAt, ConditionAt};
@@ -12,7 +12,7 @@ ghost use Rattle.line_syntax.specs.Lines.Backs.{RoomForTwo, Behind, PairBehind, 
 
 use rules::arrays::ArgumentEnds;
 use rules::{Breaking, FIXED_BLANK, Kind, MARK, Mode, Name, Refusal, Request};
-use texts::columns::Texts;
+use texts::columns::TextsRef;
 
 // What a line is: text; a control line with a period or not, its name, and the place where its name ends; or ignored.
 #[derive(Clone, Copy, Debug, PartialEq, Eq)]
@@ -116,8 +116,8 @@ pub fn condition_at(line: &[u8], at: usize) -> ConditionPart
 }
 
 // What a name stands for: "User names hide requests".
-pub fn meaning_of(texts: &Texts, name: Name) -> Option<Meaning>
-    ensures { MeaningIs (texts_in texts.now) name result }
+pub fn meaning_of(texts: &TextsRef, name: Name) -> Option<Meaning>
+    ensures { MeaningIs (texts_at texts.now) name result }
 {
     match texts::table::look_up(texts, name) {
         Some(spot) => Some(Meaning::Calls(spot.kind)),

@@ -3,7 +3,7 @@ ghost use Rattle.std.specs.Prelude.{◌≡◌, ◌-◌};
 ghost use Rattle.rules.specs.Registers.{shown};
 ghost use Rattle.registers.specs.Interpolation.ReadOnly.{shows, read_only_of, seen_of, ReferTo};
 
-use super::columns::Registers;
+use super::columns::RegisterValues;
 use rules::{Name, Refusal, Turn};
 
 // The read-only registers: % nl .l .i .p
@@ -56,7 +56,7 @@ fn read(register: ReadOnly, shown: Shown) -> i32
 
 // A reference to any register, by the values that the read-only ones show.
 pub fn refer(
-    registers: &mut Registers,
+    registers: &mut RegisterValues,
     shown: Shown,
     turn: Turn,
     name: Name,

@@ -4,12 +4,12 @@ ghost use Rattle.rules.specs.Numbers.{within as withinBounds};
 ghost use Rattle.rules.specs.Registers.{register_of};
 ghost use Rattle.rules.specs.Results.{judged};
 ghost use Rattle.registers.specs.Table.Columns.{Names, names_of};
-ghost use Rattle.registers.specs.Table.Lent.{registers_in};
+ghost use Rattle.registers.specs.Table.Lent.{registers_at};
 ghost use Rattle.registers.specs.Table.Places.{order_of, order_at, register_place};
 ghost use Rattle.registers.specs.Table.Moves.{inserted};
 ghost use Rattle.registers.specs.Table.Answers.{turned_of, SetTo, StepTo};
 
-use super::columns::Registers;
+use super::columns::{RegisterValues, Registers, RegistersRef};
 use rules::arrays::{ByteColumn, TABLE_SIZE};
 use rules::{Name, Refusal, Register, Turn};
 use std::cmp::Ordering;
@@ -46,17 +46,12 @@ pub fn find(
 }
 
 // The register of a name.
-pub fn look_up(registers: &Registers, name: Name) -> Option<Register>
-    ensures { result ≡ register_of name (registers_in registers.now) }
+pub fn look_up(registers: &RegistersRef, name: Name) -> Option<Register>
+    ensures { result ≡ register_of name (registers_at registers.now) }
 {
-    let values = &*registers.values;
-    let steps = &*registers.steps;
-    match find(
-        &*registers.firsts,
-        &*registers.seconds,
-        registers.count,
-        name,
-    ) {
+    let values = registers.values;
+    let steps = registers.steps;
+    match find(registers.firsts, registers.seconds, registers.count, name) {
         Ok(i) => Some(Register {
             name,
             value: values[i],
@@ -126,15 +121,10 @@ fn turned(turn: Turn, value: i32, step: i32) -> Result<i32, Refusal>
 }
 
 // The value of a user's register after its step; one that is not there gives 0 and is not made.
-pub fn step(registers: &mut Registers, turn: Turn, name: Name) -> Result<i32, Refusal>
+pub fn step(registers: &mut RegisterValues, turn: Turn, name: Name) -> Result<i32, Refusal>
     ensures { StepTo registers.old registers.new turn name result }
 {
-    let found = find(
-        &*registers.firsts,
-        &*registers.seconds,
-        registers.count,
-        name,
-    );
+    let found = find(registers.firsts, registers.seconds, registers.count, name);
     let Ok(i) = found else {
         return Ok(0);
     };

@@ -12,13 +12,21 @@ ghost use Rattle.requests.specs.Definitions.Lent.{ReadyToDefine, ChangesIn, Open
 use input_stack::stack::Stack;
 use rules::arrays::{LineBytes, StackEnds};
 use rules::{Name, Refusal};
-use texts::columns::Texts;
+use texts::columns::{Texts, TextsRef};
 
 // Whether there is a text of a name.
 fn is_text(texts: &Texts, name: Name) -> bool
     ensures { result ≡ is_there (text_of name (texts_in texts.now)) }
 {
-    texts::table::look_up(texts, name).is_some()
+    let texts = TextsRef {
+        store: &*texts.store,
+        firsts: &*texts.firsts,
+        seconds: &*texts.seconds,
+        kinds: &*texts.kinds,
+        lengths: &*texts.lengths,
+        count: texts.count,
+    };
+    texts::table::look_up(&texts, name).is_some()
 }
 
 // rm of a name: "rm of a name with no user text does nothing".

@@ -8,7 +8,7 @@ ghost use Rattle.settings.specs.Layout.Layouts.{printer_of, PrinterInvariant};
 ghost use Rattle.requests.specs.Nr.Registers.{NumbersOf, numbers_of, value_by, numbers_by, assigns_to, assigns};
 ghost use Rattle.requests.specs.Nr.Lent.{AssignsIn};
 
-use registers::columns::Registers;
+use registers::columns::{Registers, RegistersRef};
 use rules::{Name, Refusal};
 use settings::layout::Printer;
 
@@ -30,7 +30,14 @@ fn read_only(name: Name) -> bool
 fn old_numbers(registers: &Registers, name: Name) -> Numbers
     ensures { NumbersOf (register_of name (registers_in registers.now)) result }
 {
-    match registers::table::look_up(registers, name) {
+    let registers = RegistersRef {
+        firsts: &*registers.firsts,
+        seconds: &*registers.seconds,
+        values: &*registers.values,
+        steps: &*registers.steps,
+        count: registers.count,
+    };
+    match registers::table::look_up(&registers, name) {
         Some(register) => Numbers {
             value: register.value,
             step: register.step,

@@ -10,11 +10,11 @@ ghost use Rattle.scan.specs.Expansion.Expansion.{NextIs, CarriedOut, ExpandsTo, 
 
 use super::escapes::EscapeAction;
 use super::output::Copied;
-use registers::columns::Registers;
+use registers::columns::RegisterValues;
 use registers::interpolation::Shown;
 use rules::arrays::{ArgumentEnds, LINE_SIZE, LineBytes};
 use rules::{Kind, Mode, Name, Refusal, Turn};
-use texts::columns::Texts;
+use texts::columns::TextsRef;
 
 // The bytes up to a backslash or the end of the text.
 fn copy_plain(
@@ -104,7 +104,7 @@ enum Acted {
 
 // A reference to a register, written in decimal.
 fn show_register(
-    registers: &mut Registers,
+    registers: &mut RegisterValues,
     shown: Shown,
     turn: Turn,
     name: Name,
@@ -124,7 +124,7 @@ fn show_register(
 const DEPTH_LIMIT: usize = 8;
 
 // A string that is named: its bytes are to be read next. "9: .. a macro named as a string".
-fn enter_string(texts: &Texts, name: Name, depth: usize, written: usize) -> Result<Acted, Refusal>
+fn enter_string(texts: &TextsRef, name: Name, depth: usize, written: usize) -> Result<Acted, Refusal>
     ensures { EnteredTo result texts.now name depth written }
 {
     let found = texts::table::look_up(texts, name);
@@ -177,8 +177,8 @@ fn give_argument(
 
 // What an escape leads to is done.
 fn act(
-    texts: &Texts,
-    registers: &mut Registers,
+    texts: &TextsRef,
+    registers: &mut RegisterValues,
     shown: Shown,
     arguments: &[u8],
     ends: &ArgumentEnds,
@@ -238,8 +238,8 @@ fn carry_out(
     what: EscapeAction,
     depth: usize,
     left: usize,
-    texts: &Texts,
-    registers: &mut Registers,
+    texts: &TextsRef,
+    registers: &mut RegisterValues,
     shown: Shown,
     arguments: &[u8],
     ends: &ArgumentEnds,
@@ -295,8 +295,8 @@ fn expand_text(
     text: &[u8],
     depth: usize,
     left: usize,
-    texts: &Texts,
-    registers: &mut Registers,
+    texts: &TextsRef,
+    registers: &mut RegisterValues,
     shown: Shown,
     arguments: &[u8],
     ends: &ArgumentEnds,
@@ -352,8 +352,8 @@ pub fn expand(
     line: &[u8],
     mode: Mode,
     prefix: usize,
-    texts: &Texts,
-    registers: &mut Registers,
+    texts: &TextsRef,
+    registers: &mut RegisterValues,
     shown: Shown,
     arguments: &[u8],
     ends: &ArgumentEnds,

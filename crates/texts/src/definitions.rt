@@ -1,9 +1,9 @@
 // Strings and macros are defined, in the place of what had their name.
 ghost use Rattle.std.specs.Prelude.{◌≡◌, ◌+◌, ◌<◌, ◌≤◌, ◌-◌, ltb, length, take};
 ghost use Rattle.std.proofs.Math.Seq.{paste};
-ghost use Rattle.texts.specs.Table.Table.{code_of, total_length};
-ghost use Rattle.texts.specs.Table.Changes.{Entered};
-ghost use Rattle.texts.specs.Table.Lent.{AppendedIn, DefinedIn, OpenedIn, OpensIn, KeptIn, ClosedIn};
+ghost use Rattle.texts.specs.Table.Table.{code_of, total_length, TextsInvariant};
+ghost use Rattle.texts.specs.Table.Changes.{Entered, Opens, KeptTo, ClosedTo};
+ghost use Rattle.texts.specs.Table.Lent.{AppendedIn, DefinedIn, OpenedIn};
 
 use super::columns::Texts;
 use rules::arrays::{ByteColumn, LengthColumn, TABLE_SIZE};
@@ -123,37 +123,53 @@ pub fn open_macro(texts: &mut Texts, name: Name) -> Result<(), Refusal>
     }
 }
 
-// Puts a line and its newline behind the body of an open macro; one that is refused changes nothing.
-pub fn keep_line(texts: &mut Texts, opened: usize, line: &[u8]) -> Result<usize, Refusal>
-    requires { OpensIn texts.old opened }
-    ensures { KeptIn texts.old opened line.now result texts.new }
+// Puts a line and its newline behind the body of an open macro; one that is refused changes nothing. No Texts: of the columns it
+// is lent the lengths alone, to be read.
+pub fn keep_line(
+    store: &mut [u8],
+    lengths: &LengthColumn,
+    count: usize,
+    opened: usize,
+    line: &[u8],
+) -> Result<usize, Refusal>
+    requires { Opens store.old lengths.now count opened }
+    ensures { KeptTo store.old lengths.now count opened line.now result store.new }
 {
-    let at = super::table::start_of(&*texts.lengths, texts.count) + opened;
-    let room = super::table::room_of(texts.store.len());
+    let at = super::table::start_of(lengths, count) + opened;
+    let room = super::table::room_of(store.len());
     let more = line.len() + 1;
     if too_long(room, at, more) {
         return Err(Refusal::FullTable);
     }
-    copy_in(&mut *texts.store, at, line);
-    texts.store[at + line.len()] = b'\n';
+    copy_in(store, at, line);
+    store[at + line.len()] = b'\n';
     Ok(opened + more)
 }
 
-// "A macro exists once closed"
-pub fn close_macro(texts: &mut Texts, opened: usize, name: Name)
-    requires { OpensIn texts.old opened }
-    ensures { ClosedIn texts.old opened name texts.new }
+// "A macro exists once closed": so many texts there are then. No Texts: it is lent the store to be read.
+pub fn close_macro(
+    store: &[u8],
+    firsts: &mut ByteColumn,
+    seconds: &mut ByteColumn,
+    kinds: &mut ByteColumn,
+    lengths: &mut LengthColumn,
+    count: usize,
+    opened: usize,
+    name: Name,
+) -> usize
+    requires { (TextsInvariant store.now firsts.old seconds.old kinds.old lengths.old count) × Opens store.now lengths.old count opened }
+    ensures { ClosedTo store.now firsts.old seconds.old kinds.old lengths.old count opened name result firsts.new seconds.new kinds.new lengths.new }
 {
     let size = opened as u16;
     enter(
-        &mut *texts.firsts,
-        &mut *texts.seconds,
-        &mut *texts.kinds,
-        &mut *texts.lengths,
-        texts.count,
+        &mut *firsts,
+        &mut *seconds,
+        &mut *kinds,
+        &mut *lengths,
+        count,
         name,
         Kind::Macro,
         size,
     );
-    texts.count += 1;
+    count + 1
 }

@@ -5,10 +5,10 @@ ghost use Rattle.rules.specs.Texts.{text_of};
 ghost use Rattle.texts.specs.Table.Table.{kind_of, names_of, total_length, Names, TextStarts};
 ghost use Rattle.texts.specs.Table.Places.{text_place, bytes_or};
 ghost use Rattle.texts.specs.Table.Changes.{room_of};
-ghost use Rattle.texts.specs.Table.Lent.{texts_in, FoundIn};
+ghost use Rattle.texts.specs.Table.Lent.{texts_at, FoundIn};
 ghost use Rattle.texts.specs.Table.Checks.{NameColumns, is_text_table, lacks_name, no_name_twice};
 
-use super::columns::Texts;
+use super::columns::TextsRef;
 use rules::arrays::{ByteColumn, LengthColumn, STORE_SIZE, TABLE_SIZE};
 use rules::{Kind, Name};
 
@@ -55,12 +55,12 @@ fn kind_of(code: u8) -> Kind
 }
 
 // The text of a name.
-pub fn look_up(texts: &Texts, name: Name) -> Option<Spot>
+pub fn look_up(texts: &TextsRef, name: Name) -> Option<Spot>
     ensures { FoundIn texts.now name result }
 {
-    let kinds = &*texts.kinds;
-    let lengths = &*texts.lengths;
-    let i = find(&*texts.firsts, &*texts.seconds, texts.count, name)?;
+    let kinds = texts.kinds;
+    let lengths = texts.lengths;
+    let i = find(texts.firsts, texts.seconds, texts.count, name)?;
     Some(Spot {
         kind: kind_of(kinds[i]),
         at: start_of(lengths, i),
@@ -69,8 +69,8 @@ pub fn look_up(texts: &Texts, name: Name) -> Option<Spot>
 }
 
 // "The lookup hands back the string's own bytes in the store, not a copy"; an undefined name has none.
-pub fn text_bytes<'a>(texts: &'a Texts, name: Name) -> &'a [u8]
-    ensures { result.now ≡ bytes_or (text_of name (texts_in texts.now)) }
+pub fn text_bytes<'s>(texts: &TextsRef<'s, '_>, name: Name) -> &'s [u8]
+    ensures { result.now ≡ bytes_or (text_of name (texts_at texts.now)) }
 {
     match look_up(texts, name) {
         Some(spot) => &texts.store[spot.at..spot.at + spot.length],

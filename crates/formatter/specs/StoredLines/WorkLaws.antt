@@ -18,7 +18,7 @@ use Rattle.rules.specs.Rows.{Next}
 use Rattle.rules.specs.Rows as rows
 use Rattle.rules.specs.ControlLines.{deal, deal_again}
 use Rattle.rules.specs.Session.{leave, read_line, work, idle, work_end, step_from, step}
-use Rattle.registers.specs.declared.columns.Registers.{Registers}
+use Rattle.registers.specs.declared.columns.RegisterValues.{RegisterValues}
 use Rattle.registers.specs.Table.Columns.{RegistersInvariant}
 use Rattle.registers.specs.Table.Lent.{OnlyValues}
 use Rattle.scan.specs.Arguments.Around.{arguments_of}
@@ -63,14 +63,14 @@ abbrev pub registered : (firsts seconds : List ℕ) → (values steps : List ℤ
 registered fs ss vs us n q = whole_state q.page_state q.planted q.texts q.opening (register_columns fs ss vs us n)
 
 -- with the registers as they lie in a struct
-abbrev pub lent : Registers → (count : ℕ) → WholeState → WholeState
+abbrev pub lent : RegisterValues → (count : ℕ) → WholeState → WholeState
 lent rg n q = registered rg.firsts.now rg.seconds.now rg.values.now rg.steps.now n q
 
 there_if : (b : Bool) (o : Opening) (t : Texts) → is_there (opened_if b o t) ≡ b
 there_if true o t = refl
 there_if false o t = refl
 
-module _ (q : WholeState) (rg rg' : Registers) {fs ss : List ℕ} {vs us : List ℤ} where
+module _ (q : WholeState) (rg rg' : RegisterValues) {fs ss : List ℕ} {vs us : List ℤ} where
   -- A line that is read, and then acted on, is dealt with.
   pub read_refines : (p : Printer) (args args₀ : List (List ℕ)) (line line₀ out' : List ℕ) (r : Result Dealt Refusal) → args₀ ≡ args → line₀ ≡ line
       → DealRefines r p (layout_of q.page_state.layout) (page_of q.page_state.page) (texts_in q.texts) q.opening.there args₀ line₀ rg rg' out'

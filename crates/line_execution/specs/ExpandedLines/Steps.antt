@@ -1,8 +1,7 @@
 -- What a line of an open definition makes of a status. Assumes nothing.
 use Rattle.std.specs.Prelude.{◌≡◌, true, List, ℕ, Result, Ok, Err}
 use Rattle.rules.specs.declared.Refusal.{Refusal}
-use Rattle.texts.specs.declared.columns.Texts.{Texts}
-use Rattle.texts.specs.Table.Lent.{KeptIn}
+use Rattle.texts.specs.Table.Changes.{KeptTo}
 use Rattle.page.specs.declared.springs.Way.TheVariants.{On, Refused}
 use Rattle.state.specs.declared.Status.{Status}
 use Rattle.state.specs.declared.WorkOutcome.{WorkOutcome}
@@ -18,8 +17,8 @@ abbrev pub kept_to : Result ℕ Refusal → Status → WorkOutcome
 kept_to (Ok n) s = stayed On (with_text_count s.texts (record { there = true; name = s.opening.name; length = n }) s)
 kept_to (Err e) s = stayed (Refused e) s
 
--- the texts answer whether a line is kept, and the step goes by that
-pub record LineKeptIn (s : Status) (t : Texts) (line : List ℕ) (r : WorkOutcome) (t' : Texts) : Type 0 where
+-- the store of texts answers whether a line is kept, and the step goes by that
+pub record LineKept (s : Status) (st ls line : List ℕ) (r : WorkOutcome) (st' : List ℕ) : Type 0 where
   pub answer : Result ℕ Refusal
   pub is : r ≡ kept_to answer s
-  pub kept : KeptIn t s.opening.length line answer t'
+  pub kept : KeptTo st ls s.texts s.opening.length line answer st'

@@ -17,8 +17,8 @@ use Rattle.registers.specs.declared.interpolation.Shown.{Shown}
 use Rattle.rules.specs.declared.Refusal.{Refusal}
 use Rattle.rules.specs.declared.Refusal.TheVariants.{OutOfRange}
 use Rattle.std.proofs.Common.{rules}
-use Rattle.registers.specs.declared.columns.Registers.{Registers}
-use Rattle.registers.specs.Table.Lent.{registers_in}
+use Rattle.registers.specs.declared.columns.RegisterValues.{RegisterValues}
+use Rattle.registers.specs.Table.Lent.{registers_with}
 use Rattle.registers.specs.Table.Answers.{StepTo}
 use Rattle.registers.specs.Interpolation.ReadOnly.{seen_of, ReferTo}
 
@@ -57,18 +57,18 @@ refer_shown s t n rs o e = ap (λ x. refer_by t x (register_of n rs) s rs) e
 
 -- the ways to refer to a register
 
-module _ (t : Registers) (x : Shown) (m : Name) where
+module _ (t : RegisterValues) (x : Shown) (m : Name) where
   module _ (f : Seen → ℤ) (e : Some f ≡ shown m) where
     pub refer_still : ReferTo t t x Still m (Ok (f (seen_of x)))
-    refer_still = record { is = refer_shown (seen_of x) Still m (registers_in t) (Some f) e; kept = tt; rest = search rules }
+    refer_still = record { is = refer_shown (seen_of x) Still m (registers_with t) (Some f) e; kept = tt; rest = search rules }
 
     -- "7: .. a predefined register .. stepped"
     pub refer_up : ReferTo t t x Up m (Err OutOfRange)
-    refer_up = record { is = refer_shown (seen_of x) Up m (registers_in t) (Some f) e; kept = search rules; rest = search rules }
+    refer_up = record { is = refer_shown (seen_of x) Up m (registers_with t) (Some f) e; kept = search rules; rest = search rules }
 
     pub refer_down : ReferTo t t x Down m (Err OutOfRange)
-    refer_down = record { is = refer_shown (seen_of x) Down m (registers_in t) (Some f) e; kept = search rules; rest = search rules }
+    refer_down = record { is = refer_shown (seen_of x) Down m (registers_with t) (Some f) e; kept = search rules; rest = search rules }
 
   -- a name that is none of them steps in the table
-  pub refer_step : (turn : Turn) (r : Result ℤ Refusal) (t' : Registers) → None ≡ shown m → StepTo t t' turn m r → ReferTo t t' x turn m r
-  refer_step turn r t' e s = record { is = s.is (seen_of x) ∙ refer_shown (seen_of x) turn m (registers_in t) None e; kept = s.kept; rest = s.rest }
+  pub refer_step : (turn : Turn) (r : Result ℤ Refusal) (t' : RegisterValues) → None ≡ shown m → StepTo t t' turn m r → ReferTo t t' x turn m r
+  refer_step turn r t' e s = record { is = s.is (seen_of x) ∙ refer_shown (seen_of x) turn m (registers_with t) None e; kept = s.kept; rest = s.rest }

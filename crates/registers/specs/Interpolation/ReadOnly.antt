@@ -8,8 +8,8 @@ use Rattle.rules.specs.Registers.{Seen, step_register}
 use Rattle.registers.specs.declared.interpolation.ReadOnly.{ReadOnly}
 use Rattle.registers.specs.declared.interpolation.ReadOnly.TheVariants.{Page, Rows, Length, Indent, PageLength}
 use Rattle.registers.specs.declared.interpolation.Shown.{Shown}
-use Rattle.registers.specs.declared.columns.Registers.{Registers}
-use Rattle.registers.specs.Table.Lent.{registers_in, SameRows, OnlyValues}
+use Rattle.registers.specs.declared.columns.RegisterValues.{RegisterValues}
+use Rattle.registers.specs.Table.Lent.{registers_with, OnlyValues}
 
 -- what a read-only register shows
 abbrev pub shows : ReadOnly → Seen → ℤ
@@ -29,7 +29,7 @@ abbrev pub seen_of : Shown → Seen
 seen_of s = record { page = s.page; rows = s.rows; line_length = s.length; indent = s.indent; page_length = s.page_length }
 
 -- a reference is made as the rules say, the names and the steps stay, and nothing changes where it is refused
-pub record ReferTo (t t' : Registers) (shown : Shown) (turn : Turn) (name : Name) (r : Result ℤ Refusal) : Type 0 where
-  pub is : judged_by (λ v. (v, registers_in t')) r ≡ step_register (seen_of shown) turn name (registers_in t)
-  pub kept : OnErr r (SameRows t t')
+pub record ReferTo (t t' : RegisterValues) (shown : Shown) (turn : Turn) (name : Name) (r : Result ℤ Refusal) : Type 0 where
+  pub is : judged_by (λ v. (v, registers_with t')) r ≡ step_register (seen_of shown) turn name (registers_with t)
+  pub kept : OnErr r (t'.values.now ≡ t.values.now)
   pub rest : OnlyValues t t'

@@ -15,8 +15,8 @@ use Rattle.rules.specs.Registers.{Reference, step_register, decimal}
 use Rattle.rules.specs.Texts.{Text, text, text_of}
 use Rattle.rules.specs.Escapes.{Surroundings, number, a_string, writes, wants, gives, written_before, follow, next_byte, show_it, enter, run}
 use Rattle.registers.specs.declared.interpolation.Shown.{Shown}
-use Rattle.registers.specs.declared.columns.Registers.{Registers}
-use Rattle.registers.specs.Table.Lent.{registers_in}
+use Rattle.registers.specs.declared.columns.RegisterValues.{RegisterValues}
+use Rattle.registers.specs.Table.Lent.{registers_with}
 use Rattle.registers.specs.Interpolation.ReadOnly.{seen_of, ReferTo}
 use Rattle.scan.specs.declared.expansion.Acted.TheVariants.{Wrote, Enters}
 use Rattle.scan.specs.Output.Runs.{scan_outside, from, run_action, total}
@@ -24,8 +24,8 @@ use Rattle.scan.specs.Output.Writes.{Room, Put}
 use Rattle.scan.specs.Expansion.Acts.{action_behind, ActedTo, ShownTo, EnteredTo}
 use Rattle.rules.specs.declared.Kind.TheVariants.{String}
 use Rattle.texts.specs.declared.table.Spot.{Spot}
-use Rattle.texts.specs.declared.columns.Texts.{Texts}
-use Rattle.texts.specs.Table.Lent.{texts_in, FoundIn}
+use Rattle.texts.specs.declared.columns.TextsRef.{TextsRef}
+use Rattle.texts.specs.Table.Lent.{texts_at, FoundIn}
 use Rattle.texts.specs.Table.Places.{part_of, bytes_or}
 use Rattle.scan.proofs.expansion.Escapes.{before_nothing}
 use Rattle.scan.specs.Arguments.Around.{given_at}
@@ -46,15 +46,15 @@ module _ (w : Surroundings) (m : Mode) (turn : Turn) (name : Name) (left : ℕ) 
       → run_action w m (wants (number turn) name) left u room rs ≡ follow (show_it x (scan_outside u room rs)) (λ s. run w m left (next_byte s.unread s))
   by_reference e = ap (λ x. follow (show_it x (scan_outside u room rs)) (λ s. run w m left (next_byte s.unread s))) (sym e)
 
-module _ {shown : Shown} {q q' : Registers} {turn : Turn} {name : Name} {out : List ℕ} {written limit : ℕ} where
+module _ {shown : Shown} {q q' : RegisterValues} {turn : Turn} {name : Name} {out : List ℕ} {written limit : ℕ} where
   pub shown_is : (v : ℤ) {n : ℕ} {out' : List ℕ} → ReferTo q q' shown turn name (Ok v) → Room out written limit → Put (decimal v) out written limit n out'
       → ShownTo (Ok (Wrote n)) shown q q' turn name out written limit out'
   shown_is v f r p = record {
     is = λ texts arguments m depth.
         let w : Surroundings = record { seen = seen_of shown; texts = texts; arguments = arguments } in
-        let a = acted_writes w m depth (decimal v) (registers_in q') r p in
+        let a = acted_writes w m depth (decimal v) (registers_with q') r p in
         record {
-          is = λ left t u e. ap (written_before (take written out)) (by_reference w m turn name left (t ∷ u) (limit - written) (registers_in q) f.is) ∙ a.is left t u e;
+          is = λ left t u e. ap (written_before (take written out)) (by_reference w m turn name left (t ∷ u) (limit - written) (registers_with q) f.is) ∙ a.is left t u e;
           sound = a.sound;
         };
     rest = f.rest;
@@ -71,12 +71,12 @@ by_text : (w : Surroundings) (m : Mode) (name : Name) (left : ℕ) (u : List (Li
 by_text w m name left u room rs e = ap (λ x. follow (enter x (scan_outside u room rs)) (λ s. run w m left (next_byte s.unread s))) (sym e)
 
 -- a string that is named
-module _ {x : Texts} {name : Name} {depth written : ℕ} where
+module _ {x : TextsRef} {name : Name} {depth written : ℕ} where
   pub entered_none : FoundIn x name None → EnteredTo (Ok (Wrote written)) x name depth written
   unfolding total
   entered_none l = record {
     is = λ seen arguments m out limit rs r.
-        let w : Surroundings = record { seen = seen; texts = texts_in x; arguments = arguments } in
+        let w : Surroundings = record { seen = seen; texts = texts_at x; arguments = arguments } in
         record {
           is = λ left t u e. ap (written_before (take written out)) (by_text w m name left (t ∷ u) (limit - written) rs l.is
               ∙ before_nothing (from w m left (t ∷ u) (limit - written) rs));
@@ -89,7 +89,7 @@ module _ {x : Texts} {name : Name} {depth written : ℕ} where
     unfolding total
     entered_string k h = record {
       is = λ seen arguments m out limit rs r.
-          let w : Surroundings = record { seen = seen; texts = texts_in x; arguments = arguments } in
+          let w : Surroundings = record { seen = seen; texts = texts_at x; arguments = arguments } in
           record {
             is = λ left t u e. ap (written_before (take written out)) (by_text w m name left (t ∷ u) (limit - written) rs (ap (λ k'. Some (text name k' (part_of x.store.now spot))) (sym k) ∙ l.is)
                 ∙ shallow w m name (part_of x.store.now spot) left (t ∷ u) (limit - written) rs (omega arith) ∙ before_nothing (from w m left (part_of x.store.now spot ∷ t ∷ u) (limit - written) rs)

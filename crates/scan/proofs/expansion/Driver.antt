@@ -11,8 +11,8 @@ use Rattle.rules.specs.declared.Name.{Name}
 use Rattle.rules.specs.Texts.{text_of}
 use Rattle.texts.specs.Table.Places.{bytes_or}
 use Rattle.rules.specs.Escapes.{Surroundings, scanned, run, scan, Action}
-use Rattle.registers.specs.declared.columns.Registers.{Registers}
-use Rattle.registers.specs.Table.Lent.{registers_in, OnlyValues, only_none, only_more}
+use Rattle.registers.specs.declared.columns.RegisterValues.{RegisterValues}
+use Rattle.registers.specs.Table.Lent.{registers_with, OnlyValues, only_none, only_more}
 use Rattle.scan.specs.declared.escapes.EscapeAction.{EscapeAction}
 use Rattle.scan.specs.declared.expansion.Acted.TheVariants as acted
 use Rattle.scan.specs.declared.expansion.Progress.{Progress}
@@ -34,7 +34,7 @@ fill_more {out} {written} {limit} {n} {out'} {k} {out''} f g =
     record { room = g.room; more = omega (arith, f.more, g.more); kept = g.kept ∙ later out' out n k g.more f.kept }
 
 -- an escape is carried out by its action, and by the text of the string that it enters
-module _ {w : Surroundings} {m : Mode} {a : Action} {depth left : ℕ} {out : List ℕ} {written limit : ℕ} {q q1 : Registers} {out1 : List ℕ} where
+module _ {w : Surroundings} {m : Mode} {a : Action} {depth left : ℕ} {out : List ℕ} {written limit : ℕ} {q q1 : RegisterValues} {out1 : List ℕ} where
   pub wrote : {n : ℕ} → ActsTo (Ok (acted.Wrote n)) w m out written limit depth a q q1 out1
       → CarriedOut (Ok (Over left n)) w m a depth left out written limit q q1 out1
   wrote x = let s = x.acted.sound in record { is = x.acted.is left; rest = x.rest; sound = record { room = s.0; more = s.1; kept = s.2 } }
@@ -47,47 +47,47 @@ module _ {w : Surroundings} {m : Mode} {a : Action} {depth left : ℕ} {out : Li
       → CarriedOut (Err e) w m a depth left out written limit q q1 out1
   refuses x = record { is = x.acted.is left; rest = x.rest; sound = x.acted.sound }
 
-  pub enters : {name : Name} {p : Result Progress Refusal} {string out2 : List ℕ} {q2 : Registers} → ActsTo (Ok (acted.Enters name)) w m out written limit depth a q q1 out1
+  pub enters : {name : Name} {p : Result Progress Refusal} {string out2 : List ℕ} {q2 : RegisterValues} → ActsTo (Ok (acted.Enters name)) w m out written limit depth a q q1 out1
       → string ≡ bytes_or (text_of name w.texts)
       → ExpandsTo p w m string (depth + 1) left out1 written limit q1 q2 out2
       → CarriedOut p w m a depth left out written limit q q2 out2
   enters x b y = record {
     is = λ t u e.
-        x.acted.is left t u e ∙ ap (λ s. total w m out1 written limit left (s ∷ t ∷ u) (registers_in q1)) (sym b)
+        x.acted.is left t u e ∙ ap (λ s. total w m out1 written limit left (s ∷ t ∷ u) (registers_with q1)) (sym b)
         ∙ y.is (t ∷ u) (omega arith);
     rest = only_more x.rest y.rest;
     sound = rw x.acted.sound.0 at y.sound;
   }
 
 -- what the rules make of the text is what they make of it from i on
-pub record Going (w : Surroundings) (m : Mode) (text : List ℕ) (depth left : ℕ) (out : List ℕ) (written limit : ℕ) (q q' : Registers) (i l n : ℕ) (out' : List ℕ) : Type 0 where
+pub record Going (w : Surroundings) (m : Mode) (text : List ℕ) (depth left : ℕ) (out : List ℕ) (written limit : ℕ) (q q' : RegisterValues) (i l n : ℕ) (out' : List ℕ) : Type 0 where
   pub is : (u : List (List ℕ)) → length u ≡ depth
-      → total w m out written limit left (text ∷ u) (registers_in q) ≡ total w m out' n limit l (drop i text ∷ u) (registers_in q')
+      → total w m out written limit left (text ∷ u) (registers_with q) ≡ total w m out' n limit l (drop i text ∷ u) (registers_with q')
   pub high : i ≤ length text
   pub filled : BytesFilled out written limit n out'
   pub rest : OnlyValues q q'
 
-module _ {w : Surroundings} {m : Mode} {text : List ℕ} {depth left : ℕ} {out : List ℕ} {written limit : ℕ} {q : Registers} where
+module _ {w : Surroundings} {m : Mode} {text : List ℕ} {depth left : ℕ} {out : List ℕ} {written limit : ℕ} {q : RegisterValues} where
   pub start : Room out written limit → Going w m text depth left out written limit q q 0 left written out
   start r = record { is = λ u e. refl; high = omega arith; filled = fill_none r; rest = only_none }
 
-  module _ {i l n : ℕ} {out1 : List ℕ} {q1 : Registers} (g : Going w m text depth left out written limit q q1 i l n out1) where
+  module _ {i l n : ℕ} {out1 : List ℕ} {q1 : RegisterValues} (g : Going w m text depth left out written limit q q1 i l n out1) where
     pub over : {l2 n2 : ℕ} {out2 : List ℕ} → ReadOver text i l n limit out1 l2 n2 out2 → ExpandsTo (Ok (Over l2 n2)) w m text depth left out written limit q q1 out2
-    over r = record { is = λ u e. g.is u e ∙ r.is w m u (registers_in q1); rest = g.rest; sound = fill_more g.filled r.filled }
+    over r = record { is = λ u e. g.is u e ∙ r.is w m u (registers_with q1); rest = g.rest; sound = fill_more g.filled r.filled }
 
     pub stopped : {e : Refusal} {out2 : List ℕ} → StopsIn m text i l n limit out1 e out2 → ExpandsTo (Err e) w m text depth left out written limit q q1 out2
-    stopped s = record { is = λ u e. g.is u e ∙ s.is w u (registers_in q1); rest = g.rest; sound = s.long }
+    stopped s = record { is = λ u e. g.is u e ∙ s.is w u (registers_with q1); rest = g.rest; sound = s.long }
 
     module _ {end l2 n2 : ℕ} {what : EscapeAction} {out2 : List ℕ} (r : ReadEscape m text i l n limit out1 end l2 n2 what out2) where
       -- the action, behind all that is written
       here : (u : List (List ℕ)) → length u ≡ depth
-          → total w m out written limit left (text ∷ u) (registers_in q) ≡ action_behind w m out2 n2 limit (action_in what) l2 (drop end text ∷ u) (registers_in q1)
-      here u e = g.is u e ∙ r.is w u (registers_in q1)
+          → total w m out written limit left (text ∷ u) (registers_with q) ≡ action_behind w m out2 n2 limit (action_in what) l2 (drop end text ∷ u) (registers_with q1)
+      here u e = g.is u e ∙ r.is w u (registers_with q1)
 
       so_far : BytesFilled out written limit n2 out2
       so_far = fill_more g.filled r.filled
 
-      module _ {out3 : List ℕ} {q3 : Registers} where
+      module _ {out3 : List ℕ} {q3 : RegisterValues} where
         pub goes_on : {l3 n3 : ℕ} → CarriedOut (Ok (Over l3 n3)) w m (action_in what) depth l2 out2 n2 limit q1 q3 out3
             → Going w m text depth left out written limit q q3 end l3 n3 out3
         goes_on x = record { is = λ u e. here u e ∙ x.is (drop end text) u e; high = r.high; filled = fill_more so_far x.sound; rest = only_more g.rest x.rest }
@@ -101,15 +101,15 @@ module _ {w : Surroundings} {m : Mode} {text : List ℕ} {depth left : ℕ} {out
         refused x = record { is = λ u e. here u e ∙ x.is (drop end text) u e; rest = only_more g.rest x.rest; sound = x.sound }
 
 -- the whole line
-module _ {w : Surroundings} {m : Mode} {line : List ℕ} {left : ℕ} {out : List ℕ} {limit : ℕ} {q q' : Registers} {out' : List ℕ} where
+module _ {w : Surroundings} {m : Mode} {line : List ℕ} {left : ℕ} {out : List ℕ} {limit : ℕ} {q q' : RegisterValues} {out' : List ℕ} where
   -- what the rules make of it
   whole : (prefix : ℕ) {p : Result Progress Refusal} → limit ≡ 512 - prefix → left ≡ 8192 - prefix → ExpandsTo p w m line 0 left out 0 limit q q' out'
-      → progress_of p w m out' limit [] (registers_in q') ≡ scan w m (registers_in q) prefix line
+      → progress_of p w m out' limit [] (registers_with q') ≡ scan w m (registers_with q) prefix line
   unfolding scan total
   whole prefix f h x =
-      sym (x.is [] refl) ∙ before_nothing (from w m left (line ∷ []) (limit - 0) (registers_in q))
-      ∙ ap (λ (k : ℕ). from w m left (line ∷ []) k (registers_in q)) (let z : limit - 0 ≡ limit = omega arith in z ∙ f)
-      ∙ ap (λ (k : ℕ). from w m k (line ∷ []) (512 - prefix) (registers_in q)) h
+      sym (x.is [] refl) ∙ before_nothing (from w m left (line ∷ []) (limit - 0) (registers_with q))
+      ∙ ap (λ (k : ℕ). from w m left (line ∷ []) k (registers_with q)) (let z : limit - 0 ≡ limit = omega arith in z ∙ f)
+      ∙ ap (λ (k : ℕ). from w m k (line ∷ []) (512 - prefix) (registers_with q)) h
 
   pub line_over : (prefix : ℕ) {l n : ℕ} → limit ≡ 512 - prefix → left ≡ 8192 - prefix → ExpandsTo (Ok (Over l n)) w m line 0 left out 0 limit q q' out'
       → ScannedTo (Ok n) w m prefix line q q' out out'
@@ -121,9 +121,9 @@ module _ {w : Surroundings} {m : Mode} {line : List ℕ} {left : ℕ} {out : Lis
     long = x.sound.room.long;
   }
     where
-      nothing_left : (l n : ℕ) → scanned (take n out') (registers_in q') ≡ total w m out' n limit l [] (registers_in q')
-      nothing_left zero n = ap (λ t. scanned t (registers_in q')) (sym (append-nil (take n out')))
-      nothing_left (suc l) n = ap (λ t. scanned t (registers_in q')) (sym (append-nil (take n out')))
+      nothing_left : (l n : ℕ) → scanned (take n out') (registers_with q') ≡ total w m out' n limit l [] (registers_with q')
+      nothing_left zero n = ap (λ t. scanned t (registers_with q')) (sym (append-nil (take n out')))
+      nothing_left (suc l) n = ap (λ t. scanned t (registers_with q')) (sym (append-nil (take n out')))
 
   pub line_ended : (prefix : ℕ) {n : ℕ} → limit ≡ 512 - prefix → left ≡ 8192 - prefix → ExpandsTo (Ok (Ended n)) w m line 0 left out 0 limit q q' out'
       → ScannedTo (Ok n) w m prefix line q q' out out'

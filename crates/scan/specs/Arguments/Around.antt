@@ -5,8 +5,8 @@ use Rattle.rules.specs.declared.Mode.TheVariants.{Plain, Copy}
 use Rattle.rules.specs.Escapes.{Surroundings, escaped}
 use Rattle.registers.specs.declared.interpolation.Shown.{Shown}
 use Rattle.registers.specs.Interpolation.ReadOnly.{seen_of}
-use Rattle.texts.specs.declared.columns.Texts.{Texts}
-use Rattle.texts.specs.Table.Lent.{texts_in}
+use Rattle.texts.specs.declared.columns.TextsRef.{TextsRef}
+use Rattle.texts.specs.Table.Lent.{texts_at}
 
 -- some bytes cut at these places, from a place on
 unfoldable pub cut_at : (from : ℕ) → (ends : List ℕ) → List ℕ → List (List ℕ)
@@ -41,5 +41,5 @@ given_at Plain zero a = a
 given_at Copy zero a = escaped a
 
 -- the surroundings of the rules
-abbrev pub around : Shown → Texts → (arguments ends : List ℕ) → (count : ℕ) → Surroundings
-around shown x l es count = record { seen = seen_of shown; texts = texts_in x; arguments = arguments_of l es count }
+abbrev pub around : Shown → TextsRef → (arguments ends : List ℕ) → (count : ℕ) → Surroundings
+around shown x l es count = record { seen = seen_of shown; texts = texts_at x; arguments = arguments_of l es count }

@@ -10,11 +10,11 @@ use Rattle.rules.specs.Registers.{Seen}
 use Rattle.rules.specs.Texts.{Text, text_of}
 use Rattle.rules.specs.Escapes.{Surroundings, Scanned, scanned, scan_refused, number, a_string, Action, wants, written_before}
 use Rattle.registers.specs.declared.interpolation.Shown.{Shown}
-use Rattle.registers.specs.declared.columns.Registers.{Registers}
-use Rattle.registers.specs.Table.Lent.{registers_in, OnlyValues}
+use Rattle.registers.specs.declared.columns.RegisterValues.{RegisterValues}
+use Rattle.registers.specs.Table.Lent.{registers_with, OnlyValues}
 use Rattle.registers.specs.Interpolation.ReadOnly.{seen_of}
-use Rattle.texts.specs.declared.columns.Texts.{Texts}
-use Rattle.texts.specs.Table.Lent.{texts_in}
+use Rattle.texts.specs.declared.columns.TextsRef.{TextsRef}
+use Rattle.texts.specs.Table.Lent.{texts_at}
 use Rattle.texts.specs.Table.Places.{bytes_or}
 use Rattle.scan.specs.declared.expansion.Acted.{Acted}
 use Rattle.scan.specs.declared.expansion.Acted.TheVariants.{Wrote, Enters, Ends}
@@ -46,17 +46,17 @@ pub record ActedTo (r : Result Acted Refusal) (w : Surroundings) (m : Mode) (out
   pub sound : SoundActed r out written limit depth out'
 
 -- a register is shown, whatever else the line is expanded with
-pub record ShownTo (r : Result Acted Refusal) (shown : Shown) (q q' : Registers) (turn : Turn) (name : Name) (out : List ℕ) (written limit : ℕ) (out' : List ℕ) : Type 0 where
+pub record ShownTo (r : Result Acted Refusal) (shown : Shown) (q q' : RegisterValues) (turn : Turn) (name : Name) (out : List ℕ) (written limit : ℕ) (out' : List ℕ) : Type 0 where
   pub is : (texts : List Text) (arguments : List (List ℕ)) (m : Mode) (depth : ℕ)
-      → ActedTo r (record { seen = seen_of shown; texts = texts; arguments = arguments }) m out written limit depth (wants (number turn) name) (registers_in q) out' (registers_in q')
+      → ActedTo r (record { seen = seen_of shown; texts = texts; arguments = arguments }) m out written limit depth (wants (number turn) name) (registers_with q) out' (registers_with q')
   pub rest : OnlyValues q q'
 
 -- a string is entered, whatever else the line is expanded with
-pub record EnteredTo (r : Result Acted Refusal) (x : Texts) (name : Name) (depth written : ℕ) : Type 0 where
+pub record EnteredTo (r : Result Acted Refusal) (x : TextsRef) (name : Name) (depth written : ℕ) : Type 0 where
   pub is : (seen : Seen) (arguments : List (List ℕ)) (m : Mode) (out : List ℕ) (limit : ℕ) (rs : List Register) → Room out written limit
-      → ActedTo r (record { seen = seen; texts = texts_in x; arguments = arguments }) m out written limit depth (wants a_string name) rs out rs
+      → ActedTo r (record { seen = seen; texts = texts_at x; arguments = arguments }) m out written limit depth (wants a_string name) rs out rs
 
 -- an action is done as the rules say, and of the registers only values change
-pub record ActsTo (r : Result Acted Refusal) (w : Surroundings) (m : Mode) (out : List ℕ) (written limit depth : ℕ) (a : Action) (q q' : Registers) (out' : List ℕ) : Type 0 where
-  pub acted : ActedTo r w m out written limit depth a (registers_in q) out' (registers_in q')
+pub record ActsTo (r : Result Acted Refusal) (w : Surroundings) (m : Mode) (out : List ℕ) (written limit depth : ℕ) (a : Action) (q q' : RegisterValues) (out' : List ℕ) : Type 0 where
+  pub acted : ActedTo r w m out written limit depth a (registers_with q) out' (registers_with q')
   pub rest : OnlyValues q q'

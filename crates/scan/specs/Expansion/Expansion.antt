@@ -6,8 +6,8 @@ use Rattle.rules.specs.Results.{refusal_number}
 use Rattle.rules.specs.declared.Mode.{Mode}
 use Rattle.rules.specs.Escapes.{Surroundings, scanned, scan_refused, Action}
 use Rattle.rules.specs.Escapes as rules
-use Rattle.registers.specs.declared.columns.Registers.{Registers}
-use Rattle.registers.specs.Table.Lent.{registers_in, OnlyValues}
+use Rattle.registers.specs.declared.columns.RegisterValues.{RegisterValues}
+use Rattle.registers.specs.Table.Lent.{registers_with, OnlyValues}
 use Rattle.scan.specs.declared.escapes.EscapeAction.{EscapeAction}
 use Rattle.scan.specs.declared.expansion.NextEscape.{NextEscape}
 use Rattle.scan.specs.declared.expansion.NextEscape.TheVariants as next
@@ -60,16 +60,16 @@ SoundProgress (Ok (Ended n)) out written limit out' = BytesFilled out written li
 SoundProgress (Err e) out written limit out' = length out' ≡ 512
 
 -- an escape is carried out as the rules say, in a text that is within as many others as the depth
-pub record CarriedOut (r : Result Progress Refusal) (w : Surroundings) (m : Mode) (a : Action) (depth left : ℕ) (out : List ℕ) (written limit : ℕ) (q q' : Registers) (out' : List ℕ) : Type 0 where
+pub record CarriedOut (r : Result Progress Refusal) (w : Surroundings) (m : Mode) (a : Action) (depth left : ℕ) (out : List ℕ) (written limit : ℕ) (q q' : RegisterValues) (out' : List ℕ) : Type 0 where
   pub is : (t : List ℕ) (u : List (List ℕ)) → length u ≡ depth
-      → action_behind w m out written limit a left (t ∷ u) (registers_in q) ≡ progress_of r w m out' limit (t ∷ u) (registers_in q')
+      → action_behind w m out written limit a left (t ∷ u) (registers_with q) ≡ progress_of r w m out' limit (t ∷ u) (registers_with q')
   pub rest : OnlyValues q q'
   pub sound : SoundProgress r out written limit out'
 
 -- a text is expanded as the rules say, in whatever texts it stands, as many as the depth
-pub record ExpandsTo (r : Result Progress Refusal) (w : Surroundings) (m : Mode) (text : List ℕ) (depth left : ℕ) (out : List ℕ) (written limit : ℕ) (q q' : Registers) (out' : List ℕ) : Type 0 where
+pub record ExpandsTo (r : Result Progress Refusal) (w : Surroundings) (m : Mode) (text : List ℕ) (depth left : ℕ) (out : List ℕ) (written limit : ℕ) (q q' : RegisterValues) (out' : List ℕ) : Type 0 where
   pub is : (u : List (List ℕ)) → length u ≡ depth
-      → total w m out written limit left (text ∷ u) (registers_in q) ≡ progress_of r w m out' limit u (registers_in q')
+      → total w m out written limit left (text ∷ u) (registers_with q) ≡ progress_of r w m out' limit u (registers_with q')
   pub rest : OnlyValues q q'
   pub sound : SoundProgress r out written limit out'
 
@@ -84,8 +84,8 @@ KeptBehind (Ok n) out out' = (n ≤ 512) × (drop n out' ≡ drop n out)
 KeptBehind (Err e) out out' = Unit
 
 -- a line is expanded as the rules say, and of the registers only values change
-pub record ScannedTo (r : Result ℕ Refusal) (w : Surroundings) (m : Mode) (prefix : ℕ) (line : List ℕ) (q q' : Registers) (out out' : List ℕ) : Type 0 where
-  pub is : scanned_of r out' (registers_in q') ≡ rules.scan w m (registers_in q) prefix line
+pub record ScannedTo (r : Result ℕ Refusal) (w : Surroundings) (m : Mode) (prefix : ℕ) (line : List ℕ) (q q' : RegisterValues) (out out' : List ℕ) : Type 0 where
+  pub is : scanned_of r out' (registers_with q') ≡ rules.scan w m (registers_with q) prefix line
   pub rest : OnlyValues q q'
   pub kept : KeptBehind r out out'
   pub long : length out' ≡ 512

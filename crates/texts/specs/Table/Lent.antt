@@ -6,6 +6,7 @@ use Rattle.rules.specs.declared.Kind.{Kind}
 use Rattle.rules.specs.declared.Refusal.{Refusal}
 use Rattle.rules.specs.Texts.{Text}
 use Rattle.texts.specs.declared.columns.Texts.{Texts}
+use Rattle.texts.specs.declared.columns.TextsRef.{TextsRef}
 use Rattle.texts.specs.declared.table.Spot.{Spot}
 use Rattle.texts.specs.Table.Table.{texts_of}
 use Rattle.texts.specs.Table.Places.{LookedUp}
@@ -14,6 +15,10 @@ use Rattle.texts.specs.Table.Changes.{TakenOut, Appended, RemovedTo, DefinedTo, 
 -- the texts, as a list
 abbrev pub texts_in : Texts → List Text
 texts_in t = texts_of t.store.now t.firsts.now t.seconds.now t.kinds.now t.lengths.now t.count
+
+-- lent to be read
+abbrev pub texts_at : TextsRef → List Text
+texts_at t = texts_of t.store.now t.firsts.now t.seconds.now t.kinds.now t.lengths.now t.count
 
 -- what is lent before a change and after it, by its ghost names, is the same
 pub record Loans (store firsts seconds kinds lengths store' firsts' seconds' kinds' lengths' : ℕ) : Type 0 where
@@ -50,7 +55,7 @@ counted (Ok u) n = Ok n
 counted (Err f) n = Err f
 
 -- a name is looked up among them
-abbrev pub FoundIn : Texts → Name → Option Spot → Type 0
+abbrev pub FoundIn : TextsRef → Name → Option Spot → Type 0
 FoundIn t n r = LookedUp t.store.now t.firsts.now t.seconds.now t.kinds.now t.lengths.now t.count n r
 
 -- the text in a row is taken out

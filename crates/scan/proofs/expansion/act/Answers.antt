@@ -2,7 +2,7 @@
 use Rattle.scan.proofs.expansion.Actions.{acted_writes, acted_gives}
 use Rattle.scan.specs.Arguments.Around.{around}
 use Rattle.rules.specs.declared.Register.{Register}
-use Rattle.registers.specs.Table.Lent.{registers_in, only_none}
+use Rattle.registers.specs.Table.Lent.{registers_with, only_none}
 use Rattle.rules.specs.Escapes.{Surroundings}
 use mathlib.Core.List.{List, [], ◌∷◌}
 use Rattle.scan.proofs.expansion.act.Goals as goal
@@ -14,7 +14,7 @@ surroundings s =
     s.args.arguments.now s.args.ends.now s.args.given
 
 abbrev registers : Start → List Register
-registers s = registers_in s.args.registers.now
+registers s = registers_with s.args.registers.now
 
 pub returns-in_ok-n-in-Writes : goal.returns-in_ok-n-in-Writes
 returns-in_ok-n-in-Writes c =
