@@ -9,6 +9,7 @@ ghost use Rattle.std.specs.Prelude.{[], ◌≡◌};
 ghost use Rattle.rules.specs.ControlLines as rules;
 ghost use Rattle.rules.specs.Session.{work_end};
 ghost use Rattle.settings.specs.Layout.Layouts.{printer_of};
+ghost use Rattle.line_expansion.specs.Dealing.{numbered};
 ghost use Rattle.composition.specs.PageRows.PageState as page-state;
 ghost use Rattle.composition.specs.PageRows.PageState.{PageState, page_state, PageRefines};
 ghost use Rattle.state.specs.Whole.{WholeState, StateRefines};
@@ -17,6 +18,7 @@ ghost use Rattle.formatter.specs.StoredLines.Works.{StepReady, StepRefines};
 
 use composition::page_rows::PageOutcome;
 use input_stack::frames::What;
+use line_expansion::Dealt;
 use page::springs::Way;
 use registers::columns::RegisterValues;
 use rules::Refusal;
@@ -29,6 +31,13 @@ use state::{Status, WorkOutcome, moved, stay};
 use stored_lines::Performed;
 use texts::columns::TextsRef;
 use texts::lines::Top;
+
+// A line that is refused, by the number of its refusal.
+fn numbered(dealt: Result<Dealt, Refusal>) -> Result<Dealt, u8>
+    ensures { result ≡ numbered dealt }
+{
+    dealt.map_err(|refusal| refusal.number())
+}
 
 // A source line, as it was taken.
 pub fn deal(
@@ -87,7 +96,7 @@ pub fn deal(
         &mut out,
     );
     line_execution::expanded_lines::finish(
-        dealt,
+        numbered(dealt),
         &out,
         printer,
         status,
@@ -183,7 +192,7 @@ pub fn work(
     let opening = status.opening;
     if stack.depth == 0 {
         if opening.there {
-            return stored_lines::counted(stay(Way::Refused(Refusal::OpenMacro), status), stored);
+            return stored_lines::counted(stay(Way::Refused(Refusal::OpenMacro.number()), status), stored);
         }
         let outcome = work_end(
             status,

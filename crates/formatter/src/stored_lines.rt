@@ -76,7 +76,7 @@ pub fn leave(status: Status) -> WorkOutcome
     ensures { result ≡ leaves status }
 {
     if status.opening.there {
-        return stay(Way::Refused(Refusal::OpenMacro), status);
+        return stay(Way::Refused(Refusal::OpenMacro.number()), status);
     }
     stay(Way::On, status)
 }

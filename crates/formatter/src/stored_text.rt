@@ -83,7 +83,7 @@ fn deal_stored(
         &mut out,
     );
     line_execution::expanded_lines::finish(
-        dealt,
+        super::numbered(dealt),
         &out,
         printer,
         status,
@@ -163,7 +163,7 @@ pub fn read_text(
                 );
                 return super::stored_lines::counted(step, stored + 1);
             }
-            super::stored_lines::counted(stay(Way::Refused(Refusal::DeepStack), status), stored)
+            super::stored_lines::counted(stay(Way::Refused(Refusal::DeepStack.number()), status), stored)
         }
         None => super::stored_lines::counted(
             super::stored_lines::leave(state::with_stack(status, input_stack::stack::pop(stack))),

@@ -111,7 +111,7 @@ fn request(
             let answer = requests::definitions::define(
                 line, after_if, stack, &*ends, &mut texts, &mut parts,
             );
-            super::table_steps::changed(answer, texts.count, status)
+            super::table_steps::texts_changed(answer, texts.count, status)
         }
         Request::If => {
             let outcome = composition::no_break_requests::decide(

@@ -45,7 +45,7 @@ fn kept(answer: Result<usize, Refusal>, status: Status) -> WorkOutcome
             };
             state::stay(Way::On, state::with_texts(status, status.texts, opening))
         }
-        Err(refusal) => state::stay(Way::Refused(refusal), status),
+        Err(refusal) => state::stay(Way::Refused(refusal.number()), status),
     }
 }
 
@@ -89,9 +89,9 @@ fn keep(line: &[u8], status: Status, store: &mut [u8], lengths: &LengthColumn) -
     kept(answer, status)
 }
 
-// What is left to do with a line, once it is expanded.
+// What is left to do with a line, once it is expanded, or the number of the refusal that it earned.
 pub fn finish(
-    dealt: Result<Dealt, Refusal>,
+    dealt: Result<Dealt, u8>,
     out: &LineBytes,
     printer: Printer,
     status: Status,
@@ -114,7 +114,7 @@ pub fn finish(
 {
     let dealt = match dealt {
         Ok(dealt) => dealt,
-        Err(refusal) => return state::stay(Way::Refused(refusal), status),
+        Err(number) => return state::stay(Way::Refused(number), status),
     };
     match dealt {
         Dealt::Closes => close(status, &*store, text_firsts, text_seconds, kinds, lengths),

@@ -2,6 +2,7 @@
 ghost use Rattle.std.specs.Prelude.{◌≡◌, false};
 ghost use Rattle.rules.specs.Acts as rule;
 ghost use Rattle.rules.specs.Acts.{settles};
+ghost use Rattle.rules.specs.Results.{refusal_number};
 ghost use Rattle.settings.specs.Layout.Layouts.{printer_of};
 ghost use Rattle.state.specs.Whole.{WholeState, StateRefines};
 ghost use Rattle.page.specs.declared.springs.Way.TheVariants.{Refused};
@@ -9,7 +10,7 @@ ghost use Rattle.state.specs.Steps.{stayed};
 ghost use Rattle.state.specs.Statuses.{whole_of, StateReady};
 ghost use Rattle.texts.specs.Table.Lent.{counted};
 ghost use Rattle.requests.specs.Definitions.Lent.{count_done};
-ghost use Rattle.line_execution.specs.TableSteps.Steps.{assigned_to, planted_to, changed_to, opened_to};
+ghost use Rattle.line_execution.specs.TableSteps.Steps.{assigned_to, planted_to, changed_by, changed_to, opened_to};
 
 use page::springs::Way;
 use registers::columns::Registers;
@@ -24,9 +25,9 @@ use traps::table::Planted;
 
 // A change that is refused closes the session.
 fn refused(refusal: Refusal, status: Status) -> WorkOutcome
-    ensures { result ≡ stayed (Refused refusal) status }
+    ensures { result ≡ stayed (Refused (refusal_number refusal)) status }
 {
-    stay(Way::Refused(refusal), status)
+    stay(Way::Refused(refusal.number()), status)
 }
 
 // After nr, with so many registers. This and the three below stay apart: each sets another part of the status, and a closure at each call is no plainer.
@@ -60,14 +61,24 @@ fn opened(answer: Result<Option<Opened>, Refusal>, status: Status) -> WorkOutcom
     }
 }
 
-// After ds and rm, with so many texts.
-pub fn changed(answer: Result<bool, Refusal>, texts: usize, status: Status) -> WorkOutcome
-    ensures { result ≡ changed_to (count_done answer texts) status }
+// After ds and rm, with so many texts, or the number of the refusal that they earned.
+pub fn changed(answer: Result<bool, u8>, texts: usize, status: Status) -> WorkOutcome
+    ensures { result ≡ changed_by answer texts status }
 {
     match answer {
         Ok(true) => stay(Way::On, with_texts(status, texts, status.opening)),
         Ok(false) => stay(Way::On, status),
-        Err(refusal) => refused(refusal, status),
+        Err(number) => stay(Way::Refused(number), status),
+    }
+}
+
+// The same for the answer that a change of the texts gives.
+pub fn texts_changed(answer: Result<bool, Refusal>, texts: usize, status: Status) -> WorkOutcome
+    ensures { result ≡ changed_to (count_done answer texts) status }
+{
+    match answer {
+        Ok(done) => changed(Ok(done), texts, status),
+        Err(refusal) => changed(Err(refusal.number()), texts, status),
     }
 }
 
@@ -128,7 +139,7 @@ pub fn change(
                 ends,
                 &mut texts,
             );
-            changed(answer, texts.count, status)
+            texts_changed(answer, texts.count, status)
         }
         TableChange::De => {
             let mut texts = Texts {

@@ -12,6 +12,7 @@ use Rattle.rules.specs.Rows.{Next, goes}
 use Rattle.rules.specs.Acts.{on_value}
 use Rattle.rules.specs.ControlLines.{keep_body}
 use Rattle.rules.specs.declared.Refusal.{Refusal}
+use Rattle.rules.specs.Results.{refusal_number}
 use Rattle.texts.specs.Table.Changes.{room_of, body_of, KeptTo, ClosedTo}
 use Rattle.traps.specs.Table.Table.{planted_of}
 use Rattle.input_stack.specs.Stack.Frames.{Frame, frames_of}
@@ -28,7 +29,7 @@ use Rattle.line_expansion.specs.Dealing.{keeps_in, closes_in}
 -- how a body line leads on, and the open definition after it
 abbrev pub kept_way : Result ℕ Refusal → Way
 kept_way (Ok n) = On
-kept_way (Err e) = Refused e
+kept_way (Err e) = Refused (refusal_number e)
 
 abbrev pub opening_kept : Result ℕ Refusal → Opening → Opening
 opening_kept (Ok n) o = record { there = true; name = o.name; length = n }

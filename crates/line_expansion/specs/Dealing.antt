@@ -50,17 +50,22 @@ abbrev pub expansion_of : Meaning → Mode
 expansion_of (meaning.Calls k) = Plain
 expansion_of (meaning.Requests i) = mode_of i
 
--- what is left to do with the expanded line, or its refusal
-abbrev pub dealt_of : Printer → Result Dealt Refusal → (out : List ℕ) → State → Next
+-- a refusal by its number
+abbrev pub numbered : Result Dealt Refusal → Result Dealt ℕ
+numbered (Ok d) = Ok d
+numbered (Err e) = Err (refusal_number e)
+
+-- what is left to do with the expanded line, or the number of its refusal
+abbrev pub dealt_of : Printer → Result Dealt ℕ → (out : List ℕ) → State → Next
 dealt_of p (Ok Closes) out s = closes_in p s.tables.opened s
 dealt_of p (Ok (Keeps n)) out s = keeps_in p s.tables.opened (take n out) s
 dealt_of p (Ok (Words n)) out s = text_line (take n out) s
 dealt_of p (Ok (Control q k m n)) out s = obey p (meaning_of k s) false q k (take n out) s
 dealt_of p (Ok Nothing) out s = goes s
-dealt_of p (Err e) out s = refuses (refusal_number e) s
+dealt_of p (Err n) out s = refuses n s
 
 -- an expanded line within its buffer, and what its name means; where a definition is open, a line is kept or closes it, and nowhere else
-abbrev pub DealtInvariant : (opened : Bool) → List Text → Result Dealt Refusal → Type 0
+abbrev pub DealtInvariant : (opened : Bool) → List Text → Result Dealt ℕ → Type 0
 DealtInvariant true ts (Ok Closes) = Unit
 DealtInvariant true ts (Ok (Keeps n)) = n ≤ 512
 DealtInvariant true ts (Ok (Words n)) = ⊥
@@ -77,7 +82,7 @@ DealtInvariant false ts (Err e) = Unit
 -- The line is dealt with as the rules say, once what is left is done.
 pub record DealRefines (r : Result Dealt Refusal) (p : Printer) (y : Layout) (g : Page) (ts : List Text) (opened : Bool) (args : List (List ℕ)) (line : List ℕ) (rg rg' : RegisterValues) (out' : List ℕ) : Type 0 where
   pub is : (o : Option Definition) → is_there o ≡ opened → (x : State)
-      → dealt_of p r out' (scene y g ts (registers_with rg') o x) ≡ deal p args line (scene y g ts (registers_with rg) o x)
+      → dealt_of p (numbered r) out' (scene y g ts (registers_with rg') o x) ≡ deal p args line (scene y g ts (registers_with rg) o x)
   pub rest : OnlyValues rg rg'
   pub long : length out' ≡ 512
-  pub sound : DealtInvariant opened ts r
+  pub sound : DealtInvariant opened ts (numbered r)

@@ -30,7 +30,7 @@ use Rattle.scan.specs.Expansion.Expansion.{ScannedTo}
 use Rattle.line_expansion.specs.declared.Dealt.{Dealt}
 use Rattle.line_expansion.specs.declared.Dealt.TheVariants.{Closes, Keeps, Words, Control, Nothing}
 use Rattle.state.specs.Whole.{surroundings}
-use Rattle.line_expansion.specs.Dealing.{scene, expansion_of, dealt_of, DealtInvariant, DealRefines}
+use Rattle.line_expansion.specs.Dealing.{scene, expansion_of, numbered, dealt_of, DealtInvariant, DealRefines}
 
 -- what an expansion leads to: a body line, a text line, a control line, or a refusal
 abbrev pub kept_as : Result ℕ Refusal → Result Dealt Refusal
@@ -63,7 +63,7 @@ module _ (p : Printer) (y : Layout) (g : Page) (ts : List Text) (args : List (Li
 
   -- a line of text
   words_is : (r : Result ℕ Refusal) (out out' : List ℕ) (rg' : RegisterValues) → Expanded r Plain 0 line out out' rg' → line_of line ≡ plain_text line → (x : State)
-      → dealt_of p (words_as r) out' (after rg' None x) ≡ deal p args line (before None x)
+      → dealt_of p (numbered (words_as r)) out' (after rg' None x) ≡ deal p args line (before None x)
   unfolding deal
   words_is (Ok n) out out' rg' a e x =
       ap (λ (v : rules.Scanned). on_scan v (before None x) text_line) a.is ∙ sym (ap (λ (l : Line). fresh_line p l args (before None x)) e)
@@ -72,7 +72,7 @@ module _ (p : Printer) (y : Layout) (g : Page) (ts : List Text) (args : List (Li
 
   -- a body line that is kept
   keeps_is : (r : Result ℕ Refusal) (out out' : List ℕ) (rg' : RegisterValues) → Expanded r Copy 0 line out out' rg' → is_closing line ≡ false → (d : Definition) (x : State)
-      → dealt_of p (kept_as r) out' (after rg' (Some d) x) ≡ deal p args line (before (Some d) x)
+      → dealt_of p (numbered (kept_as r)) out' (after rg' (Some d) x) ≡ deal p args line (before (Some d) x)
   unfolding deal
   keeps_is (Ok n) out out' rg' a e d x =
       ap (λ (v : rules.Scanned). on_scan v (before (Some d) x) (keep_body p d)) a.is ∙ sym (ap (λ (b : Bool). body_line p b d args line (before (Some d) x)) e)
@@ -83,7 +83,7 @@ module _ (p : Printer) (y : Layout) (g : Page) (ts : List Text) (args : List (Li
   control_is : (q : Bool) (k : Name) (rest : List ℕ) (w : Meaning) (m : Mode) (u : lines.Meaning) (r : Result ℕ Refusal) (out out' : List ℕ) (rg' : RegisterValues) → Expanded r m (prefix_of k) rest out out' rg'
       → line_of line ≡ control q k rest → text_meaning (text_of k ts) k ≡ w
       → ((s : State) → control_line p w args q k rest s ≡ on_scan (control-lines.expand p args m (prefix_of k) rest s) s (obey p w false q k)) → (x : State)
-      → dealt_of p (control_as r q k u) out' (after rg' None x) ≡ deal p args line (before None x)
+      → dealt_of p (numbered (control_as r q k u)) out' (after rg' None x) ≡ deal p args line (before None x)
   unfolding deal
   control_is q k rest w m u (Ok n) out out' rg' a e f h x =
       ap (λ (v : Meaning). obey p v false q k (take n out') (after rg' None x)) f
@@ -94,15 +94,15 @@ module _ (p : Printer) (y : Layout) (g : Page) (ts : List Text) (args : List (Li
       ∙ sym (h (before None x)) ∙ sym (ap (λ (v : Meaning). control_line p v args q k rest (before None x)) f) ∙ sym (ap (λ (l : Line). fresh_line p l args (before None x)) e)
 
   -- what an expansion is within
-  words_sound : (r : Result ℕ Refusal) (m : Mode) (k : ℕ) (l out out' : List ℕ) (rg' : RegisterValues) → Expanded r m k l out out' rg' → DealtInvariant false ts (words_as r)
+  words_sound : (r : Result ℕ Refusal) (m : Mode) (k : ℕ) (l out out' : List ℕ) (rg' : RegisterValues) → Expanded r m k l out out' rg' → DealtInvariant false ts (numbered (words_as r))
   words_sound (Ok n) m k l out out' rg' a = a.kept.0
   words_sound (Err i) m k l out out' rg' a = tt
 
-  keeps_sound : (r : Result ℕ Refusal) (m : Mode) (k : ℕ) (l out out' : List ℕ) (rg' : RegisterValues) → Expanded r m k l out out' rg' → DealtInvariant true ts (kept_as r)
+  keeps_sound : (r : Result ℕ Refusal) (m : Mode) (k : ℕ) (l out out' : List ℕ) (rg' : RegisterValues) → Expanded r m k l out out' rg' → DealtInvariant true ts (numbered (kept_as r))
   keeps_sound (Ok n) m k l out out' rg' a = a.kept.0
   keeps_sound (Err i) m k l out out' rg' a = tt
 
-  control_sound : (r : Result ℕ Refusal) (m : Mode) (j : ℕ) (l out out' : List ℕ) (rg' : RegisterValues) (q : Bool) (k : Name) (u : lines.Meaning) → Expanded r m j l out out' rg' → MeaningIs ts k (Some u) → DealtInvariant false ts (control_as r q k u)
+  control_sound : (r : Result ℕ Refusal) (m : Mode) (j : ℕ) (l out out' : List ℕ) (rg' : RegisterValues) (q : Bool) (k : Name) (u : lines.Meaning) → Expanded r m j l out out' rg' → MeaningIs ts k (Some u) → DealtInvariant false ts (numbered (control_as r q k u))
   control_sound (Ok n) m j l out out' rg' q k u a h = (a.kept.0, h)
   control_sound (Err i) m j l out out' rg' q k u a h = tt
 
@@ -110,20 +110,20 @@ module _ (p : Printer) (y : Layout) (g : Page) (ts : List Text) (args : List (Li
   Deals r b out' rg' = DealRefines r p y g ts b args line rg rg' out'
 
   -- a line where no definition is open
-  closed_dealt : (r : Result Dealt Refusal) (out' : List ℕ) (rg' : RegisterValues) → OnlyValues rg rg' → length out' ≡ 512 → DealtInvariant false ts r
-      → ((x : State) → dealt_of p r out' (after rg' None x) ≡ deal p args line (before None x)) → Deals r false out' rg'
+  closed_dealt : (r : Result Dealt Refusal) (out' : List ℕ) (rg' : RegisterValues) → OnlyValues rg rg' → length out' ≡ 512 → DealtInvariant false ts (numbered r)
+      → ((x : State) → dealt_of p (numbered r) out' (after rg' None x) ≡ deal p args line (before None x)) → Deals r false out' rg'
   closed_dealt r out' rg' t l s h = record { is = go; rest = t; long = l; sound = s }
     where
-      go : (o : Option Definition) → is_there o ≡ false → (x : State) → dealt_of p r out' (after rg' o x) ≡ deal p args line (before o x)
+      go : (o : Option Definition) → is_there o ≡ false → (x : State) → dealt_of p (numbered r) out' (after rg' o x) ≡ deal p args line (before o x)
       go None e x = h x
       go (Some d) e x = let z : ◌≡◌ {A = ℕ} 0 1 = cc in absurd (omega arith)
 
   -- and where one is
-  open_dealt : (r : Result Dealt Refusal) (out' : List ℕ) (rg' : RegisterValues) → OnlyValues rg rg' → length out' ≡ 512 → DealtInvariant true ts r
-      → ((d : Definition) (x : State) → dealt_of p r out' (after rg' (Some d) x) ≡ deal p args line (before (Some d) x)) → Deals r true out' rg'
+  open_dealt : (r : Result Dealt Refusal) (out' : List ℕ) (rg' : RegisterValues) → OnlyValues rg rg' → length out' ≡ 512 → DealtInvariant true ts (numbered r)
+      → ((d : Definition) (x : State) → dealt_of p (numbered r) out' (after rg' (Some d) x) ≡ deal p args line (before (Some d) x)) → Deals r true out' rg'
   open_dealt r out' rg' t l s h = record { is = go; rest = t; long = l; sound = s }
     where
-      go : (o : Option Definition) → is_there o ≡ true → (x : State) → dealt_of p r out' (after rg' o x) ≡ deal p args line (before o x)
+      go : (o : Option Definition) → is_there o ≡ true → (x : State) → dealt_of p (numbered r) out' (after rg' o x) ≡ deal p args line (before o x)
       go None e x = let z : ◌≡◌ {A = ℕ} 0 1 = cc in absurd (omega arith)
       go (Some d) e x = h d x
 

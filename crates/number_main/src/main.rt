@@ -1,32 +1,32 @@
 #![tactic(auto)]
 
 // Reads arguments of requests, one to a line, and writes for each its value in units, in cells and in rows, or that it is refused.
-use report::read_full;
+use report::{read_full, text};
 use rules::Refusal;
 use std::io;
 
-// A value, or that there is none.
+// A value, or that there is none. Each piece is written as it is: by print! a short line takes half as many instructions again.
 fn show(rt: &impl Print, value: Result<i32, Refusal>) -> io::Result<()> {
     match value {
-        Ok(n) => print!(rt; "{n}"),
-        Err(_) => print!(rt; "refused"),
+        Ok(n) => rt.print(n),
+        Err(_) => text(rt, b"refused"),
     }
 }
 
 fn answer(rt: &impl Print, argument: &[u8]) -> io::Result<()> {
     let pitch = measure::ten_pitch();
     show(rt, number::scales::units(argument, pitch))?;
-    print!(rt; " ")?;
+    text(rt, b" ")?;
     show(
         rt,
         number::scales::cells(argument, pitch).map(|cells| cells.0),
     )?;
-    print!(rt; " ")?;
+    text(rt, b" ")?;
     show(rt, number::scales::rows(argument, pitch).map(|rows| rows.0))?;
     if number::scales::signed(argument) {
-        print!(rt; " a change")?;
+        text(rt, b" a change")?;
     }
-    println!(rt)
+    text(rt, b"\n")
 }
 
 fn answer_all(rt: &impl Print, s: &[u8]) -> io::Result<()> {

@@ -21,7 +21,8 @@ use traps::table::Planted;
 pub enum Way {
     On,
     Done,
-    Refused(Refusal),
+    // the refusal's number, any that a caller has
+    Refused(u8),
 }
 
 // Where a move down the page leads.
@@ -117,7 +118,7 @@ fn land_called(called: Result<Stack, Refusal>, page: Page, stack: Stack) -> Land
             stack: over,
         },
         Err(refusal) => Landed {
-            way: Way::Refused(refusal),
+            way: Way::Refused(refusal.number()),
             page,
             stack,
         },
@@ -162,7 +163,7 @@ fn land(
             stack,
         },
         Err(refusal) => Landed {
-            way: Way::Refused(refusal),
+            way: Way::Refused(refusal.number()),
             page,
             stack,
         },

@@ -175,7 +175,7 @@ module _ (pl : RecordCore) (g cs row bs ps tf ts ks ls fs ss : List ℕ) (vs us 
           refl))
 
       -- a byte is refused
-      pub refused_taken : (n : Refusal) → got.why ≡ why.Refused n → (p : RecordCore) → p ≡ core_after pl.status got.source (way.Refused n) 0
+      pub refused_taken : (n : Refusal) → got.why ≡ why.Refused n → (p : RecordCore) → p ≡ core_after pl.status got.source (way.Refused (refusal_number n)) 0
           → (t' : ℕ) → t' ≡ t + got.taken → InputRefines block (with pl g) st t (with p g') st t'
       refused_taken n e p f =
           let l = h.formed in

@@ -5,7 +5,6 @@ use Rattle.stream.specs.Answers.{reply_of}
 use Rattle.stream.specs.Machine.{works, stop, call_from}
 use Rattle.rules.specs.Printers.{ten_to_the_inch}
 use Rattle.rules.specs.State.{State}
-use Rattle.rules.specs.Results.{refusal_number}
 use Rattle.rules.specs.Rows.{Next}
 use Rattle.rules.specs.Session.{step}
 use Rattle.rules.specs.Load.{load, byte_load, formatter}
@@ -78,7 +77,7 @@ core_in t = core_of t.status t.source t.waiting t.closing
 abbrev pub closing_of : Way → ℕ → Closing
 closing_of way.On l = Open
 closing_of way.Done l = Done
-closing_of (way.Refused n) l = Refused (refusal_number n) l
+closing_of (way.Refused n) l = Refused n l
 
 -- after a piece of work so many bytes of the row wait
 abbrev pub core_after : Status → Source → Way → ℕ → RecordCore

@@ -104,7 +104,7 @@ fn closing_of(way: Way, line: u32) -> Closing
     match way {
         Way::On => Closing::Open,
         Way::Done => Closing::Done,
-        Way::Refused(refusal) => Closing::Refused(refusal.number(), line),
+        Way::Refused(number) => Closing::Refused(number, line),
     }
 }
 

@@ -70,7 +70,7 @@ page_refines rule q w written d' row' s v = record {
 -- how an answer of a table leads on
 abbrev pub way_of : {A : Type 0} → Result A Refusal → Way
 way_of (Ok a) = On
-way_of (Err e) = Refused e
+way_of (Err e) = Refused (refusal_number e)
 
 -- nr
 pub assign_refines : (act : State → Judged State) (q : WholeState) (r : Result ℕ Refusal) (fs' ss' : List ℕ) (vs' ts' : List ℤ) (row : List ℕ) → StateInvariant q → q.page_state.stack.depth ≤ 16 → length row ≡ 872
@@ -274,6 +274,33 @@ module _ (act : State → Judged State) (q : WholeState) (st' fs' ss' ks' ls' ro
       opened_same (Err k)
       (λ x. let e = a.changes.kept in
       rw (e.0, e.1, e.2, e.3, e.4) (ap (λ (j : Judged State). settles j (state_in q x)) (a.changes.is q.page_state.arena (state_in q x)))) a
+
+-- the definition of a name is open, unless it was refused
+abbrev pub opened_with : Result (Option ℕ) Refusal → Name → Result (Option Opened) Refusal
+opened_with (Ok (Some n)) k = Ok (Some (record { texts = n; opening = record { there = true; name = k; length = 0 } }))
+opened_with (Ok None) k = Ok None
+opened_with (Err e) k = Err e
+
+pub opening_with : (r : Result (Option ℕ) Refusal) (k : Name) → OpeningIs (one k) (opened_with r k)
+opening_with (Ok (Some n)) k = refl
+opening_with (Ok None) k = tt
+opening_with (Err e) k = tt
+
+-- where it was refused, or nothing was done, the open one is the one before
+abbrev pub OpeningLeft : Result (Option ℕ) Refusal → (o o' : Opening) → Type 0
+OpeningLeft (Ok (Some n)) o o' = Unit
+OpeningLeft (Ok None) o o' = o' ≡ o
+OpeningLeft (Err e) o o' = o' ≡ o
+
+pub opening_left : (r : Result (Option ℕ) Refusal) (k : Name) (o : Opening) → OpeningLeft r o (opening_after (opened_with r k) o)
+opening_left (Ok (Some n)) k o = tt
+opening_left (Ok None) k o = refl
+opening_left (Err e) k o = refl
+
+pub changed_with : (r : Result (Option ℕ) Refusal) (k : Name) → texts_opened (opened_with r k) ≡ r
+changed_with (Ok (Some n)) k = refl
+changed_with (Ok None) k = refl
+changed_with (Err e) k = refl
 
 -- de without a name does nothing, and one of a name too long is refused
 module _ (st fs ss ks ls : List ℕ) (n : ℕ) (k : Stack) (ps l : List ℕ) (h : TextsInvariant st fs ss ks ls n) where

@@ -5,6 +5,7 @@ use Rattle.measure.specs.declared.Cells.{Cells}
 use Rattle.measure.specs.Counts.{across_of, down_of, cells_across}
 use Rattle.stream.specs.Machine.{works}
 use Rattle.rules.specs.declared.Refusal.{Refusal}
+use Rattle.rules.specs.Results.{refusal_number}
 use Rattle.rules.specs.declared.Trap.{Trap}
 use Rattle.rules.specs.Filling as rule
 use Rattle.rules.specs.Texts.{Text}
@@ -45,7 +46,7 @@ page_stayed w y g c s = record { way = w; layout = y; page = g; collected = c; s
 -- a new layout, or "6: number malformed" and "7: value out of range"
 abbrev pub settled_by : Result Layout Refusal → Layout → Page → Collected → Stack → PageOutcome
 settled_by (Ok z) y g c s = page_stayed On z g c s
-settled_by (Err r) y g c s = page_stayed (Refused r) y g c s
+settled_by (Err r) y g c s = page_stayed (Refused (refusal_number r)) y g c s
 
 -- what is written, and where the move down after it leads
 abbrev pub outcome_of : Layout → Collected → Landed → (written : ℕ) → PageOutcome

@@ -7,7 +7,6 @@ use Rattle.stream.specs.Machine.{works}
 use Rattle.stream.specs.Answers.{Closing}
 use Rattle.rules.specs.declared.Name.{Name}
 use Rattle.rules.specs.declared.Refusal.{Refusal}
-use Rattle.rules.specs.declared.Refusal.TheVariants.{OpenMacro}
 use Rattle.rules.specs.Bytes.{is_there}
 use Rattle.rules.specs.Printers.{Printer}
 use Rattle.rules.specs.Texts.{Text, text_of}
@@ -37,7 +36,7 @@ use Rattle.state.specs.declared.Opening.{Opening}
 use Rattle.line_expansion.specs.declared.Dealt.{Dealt}
 use Rattle.state.specs.Whole.{Texts, WholeState, register_columns, whole_state, texts_in, opened_if, state_in, StateInvariant, KeptStore, StateRefines, ShownRanges}
 use Rattle.state.specs.WholeLaws.{stay_refines}
-use Rattle.line_expansion.specs.Dealing.{dealt_of, DealRefines}
+use Rattle.line_expansion.specs.Dealing.{numbered, dealt_of, DealRefines}
 use Rattle.settings.specs.Layout.Layouts.{layout_of}
 use Rattle.page.specs.Position.Landing.{page_of}
 use Rattle.formatter.specs.StoredLines.Works.{left_by, resumed, StepRefines}
@@ -74,16 +73,16 @@ module _ (q : WholeState) (rg rg' : RegisterValues) {fs ss : List ℕ} {vs us : 
   -- A line that is read, and then acted on, is dealt with.
   pub read_refines : (p : Printer) (args args₀ : List (List ℕ)) (line line₀ out' : List ℕ) (r : Result Dealt Refusal) → args₀ ≡ args → line₀ ≡ line
       → DealRefines r p (layout_of q.page_state.layout) (page_of q.page_state.page) (texts_in q.texts) q.opening.there args₀ line₀ rg rg' out'
-      → (w : Way) (written : ℕ) (q' : WholeState) (row' : List ℕ) → StateRefines (dealt_of p r out') (registered fs ss vs us rg.count q) w written q' row'
+      → (w : Way) (written : ℕ) (q' : WholeState) (row' : List ℕ) → StateRefines (dealt_of p (numbered r) out') (registered fs ss vs us rg.count q) w written q' row'
       → fs ≡ rg'.firsts.now → ss ≡ rg'.seconds.now → vs ≡ rg'.values.now → us ≡ rg'.steps.now
       → StateRefines (deal p args line) (lent rg rg.count q) w written q' row'
   read_refines p args args₀ line line₀ out' r a b e w written q' row' d f g h i = record {
     is = λ x.
-        d.is x ∙ ap (λ (l : List ℕ). dealt_of p r out' (state_in (registered l ss vs us rg.count q) x)) f
-        ∙ ap (λ (l : List ℕ). dealt_of p r out' (state_in (registered rg'.firsts.now l vs us rg.count q) x)) g
-        ∙ ap (λ (l : List ℤ). dealt_of p r out' (state_in (registered rg'.firsts.now rg'.seconds.now l us rg.count q) x)) h
-        ∙ ap (λ (l : List ℤ). dealt_of p r out' (state_in (registered rg'.firsts.now rg'.seconds.now rg'.values.now l rg.count q) x)) i
-        ∙ ap (λ (k : ℕ). dealt_of p r out' (state_in (lent rg' k q) x)) (sym e.rest.count)
+        d.is x ∙ ap (λ (l : List ℕ). dealt_of p (numbered r) out' (state_in (registered l ss vs us rg.count q) x)) f
+        ∙ ap (λ (l : List ℕ). dealt_of p (numbered r) out' (state_in (registered rg'.firsts.now l vs us rg.count q) x)) g
+        ∙ ap (λ (l : List ℤ). dealt_of p (numbered r) out' (state_in (registered rg'.firsts.now rg'.seconds.now l us rg.count q) x)) h
+        ∙ ap (λ (l : List ℤ). dealt_of p (numbered r) out' (state_in (registered rg'.firsts.now rg'.seconds.now rg'.values.now l rg.count q) x)) i
+        ∙ ap (λ (k : ℕ). dealt_of p (numbered r) out' (state_in (lent rg' k q) x)) (sym e.rest.count)
         ∙ e.is (opened_if q.opening.there q.opening q.texts) (there_if q.opening.there q.opening q.texts) (state_in q x)
         ∙ ap (λ (v : List (List ℕ)). deal p v line₀ (state_in (lent rg rg.count q) x)) a ∙ ap (λ (l : List ℕ). deal p args l (state_in (lent rg rg.count q) x)) b;
     sound = d.sound;
@@ -275,7 +274,7 @@ leave_refines q row s d l =
     stay_refines (λ v. leave v.tables.opened v) q (left_by q.opening.there) row s d l (λ x. left_is q.opening.there q.opening q.texts (state_in q x))
 
 -- the end with a definition open, and without one
-pub idle_open : (p : Printer) (q : WholeState) (x : State) → q.opening.there ≡ true → works [] (close_by (Refused OpenMacro) (state_in q x)) ≡ idle p true (state_in q x).tables.opened (state_in q x)
+pub idle_open : (p : Printer) (q : WholeState) (x : State) → q.opening.there ≡ true → works [] (close_by (Refused 8) (state_in q x)) ≡ idle p true (state_in q x).tables.opened (state_in q x)
 idle_open p q x e = sym (ap (λ (b : Bool). idle p true (opened_if b q.opening q.texts) (state_in q x)) e)
 
 pub idle_none : (p : Printer) (q : WholeState) (x : State) → q.opening.there ≡ false → work_end (state_in q x).page.last (state_in q x) ≡ idle p true (state_in q x).tables.opened (state_in q x)

@@ -14,7 +14,6 @@ use Rattle.rules.specs.TextLines.{text_line, fill}
 use Rattle.rules.specs.Acts.{act}
 use Rattle.rules.specs.ControlLines.{meaning_of, obey}
 use Rattle.rules.specs.Session.{step}
-use Rattle.rules.specs.declared.Refusal.TheVariants.{OpenMacro}
 use Rattle.texts.specs.declared.table.Spot.{Spot}
 use Rattle.texts.specs.declared.lines.Top.{Top}
 use Rattle.texts.specs.Table.Places.{text_found}
@@ -58,7 +57,7 @@ FoundIs r st f place = (n : Name) → UnreadIs r st (text_found st n f) place
 
 -- "8: a macro definition not ended when its input ends"
 abbrev pub left_by : (opened : Bool) → Way
-left_by true = Refused OpenMacro
+left_by true = Refused 8
 left_by false = On
 
 abbrev pub leaves : Status → WorkOutcome

@@ -1,5 +1,6 @@
 -- What the answer of a request that changes a table makes of a status. Assumes nothing.
-use Rattle.std.specs.Prelude.{ℕ, Option, Result}
+use Rattle.std.specs.Prelude.{Bool, true, false, ℕ, Option, Result, Ok, Err}
+use Rattle.page.specs.declared.springs.Way.TheVariants.{On, Refused}
 use Rattle.rules.specs.declared.Refusal.{Refusal}
 use Rattle.traps.specs.declared.table.Planted.{Planted}
 use Rattle.state.specs.declared.Opened.{Opened}
@@ -18,7 +19,13 @@ assigned_to r s = stayed (way_of r) (with_register_count (register_count_after r
 abbrev pub planted_to : Result Planted Refusal → Status → WorkOutcome
 planted_to r s = stayed (way_of r) (with_planted (planted_after r s.planted) s)
 
--- after ds and rm
+-- after ds and rm, by whether anything was done, with so many texts then, or by the number of a refusal
+abbrev pub changed_by : Result Bool ℕ → (texts : ℕ) → Status → WorkOutcome
+changed_by (Ok true) n s = stayed On (with_text_count n s.opening s)
+changed_by (Ok false) n s = stayed On s
+changed_by (Err k) n s = stayed (Refused k) s
+
+-- the same by their count, or by the refusal
 abbrev pub changed_to : Result (Option ℕ) Refusal → Status → WorkOutcome
 changed_to r s = stayed (way_of r) (with_text_count (count_changed r s.texts) s.opening s)
 

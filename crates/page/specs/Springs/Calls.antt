@@ -34,12 +34,12 @@ use Rattle.page.specs.Springs.Held.{held_of, StackFits}
 abbrev pub close_by : Way → State → State
 close_by On s = s
 close_by Done s = close done s
-close_by (Refused r) s = refuse (refusal_number r) s
+close_by (Refused n) s = refuse n s
 
 -- a call that is refused closes the session
 abbrev pub way_of : Result Stack Refusal → Way
 way_of (Ok r) = On
-way_of (Err e) = Refused e
+way_of (Err e) = Refused (refusal_number e)
 
 -- the stack after a call; one that is refused leaves it as it was
 abbrev pub stack_after : Stack → Result Stack Refusal → Stack

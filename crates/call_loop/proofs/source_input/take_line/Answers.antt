@@ -25,7 +25,7 @@ pub returns-in-Refused : goal.returns-in-Refused
 returns-in-Refused c =
     let a = c.args in
     let d = c.gather-got in
-    let e = c.turn_after-in-Refused.ensures in (
+    let e = rw c.number.ensures at c.turn_after-in-Refused.ensures in (
       refused_taken (resting a.status a.source) a.gathered.now a.cells.now a.row.now a.arena.now a.ends.now a.text_firsts.now a.text_seconds.now a.kinds.now a.lengths.now a.firsts.now a.seconds.now a.values.now a.steps.now a.store.now c.requires.0 a.block.now a.taken d.result _ d.ensures _ c.in-Refused.is
           (core_in c.turn_after-in-Refused.result) (ap core_in e) _ (ap (λ t. t.taken) e),
       ap (λ t. t.stop) e,

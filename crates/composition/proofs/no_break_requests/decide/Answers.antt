@@ -38,6 +38,6 @@ returns-in-Err c =
     let a = c.args in let b = c.requires.0 in
     let d = page_state a.layout a.page a.collected a.cells.now a.stack a.arena.now a.ends.now in
     let p = c.condition_at-places in
-    rw c.stay-in-Err.ensures
+    rw (c.stay-in-Err.ensures, c.number.ensures)
     (stays a.firsts.now a.seconds.now a.texts a.planted d _ a.page _ a.row.now b.sound b.items b.long
     (λ ts x. if_holds a.printer a.line.now _ p.ensures _ (Err c.in-Err.refusal) (rw c.in-Err.is at c.holds.ensures) (omega (arith, p.ensures.order, c.if-places.false))))

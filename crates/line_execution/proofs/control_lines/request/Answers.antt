@@ -17,7 +17,7 @@ pub returns-in-Lays : goal.returns-in-Lays
 returns-in-Lays c = let a = c.args in let b = c.requires.0 in let r = c.in-Lays.setting in let h = c.set_page-new.ensures in rw (c.in-Lays.is, c.moved-in-Lays.ensures, c.settle-outcome.ensures) (page_refines (λ ts s. lay (printer_of a.printer) r a.line.now s) (whole_of a.status a.cells.now a.arena.now a.ends.now a.store.now a.text_firsts.now a.text_seconds.now a.kinds.now a.lengths.now a.firsts.now a.seconds.now a.values.now a.steps.now) _ _ _ _ b.sound (settle_works a.text_firsts.now a.text_seconds.now a.status.texts a.status.planted (page_state a.status.layout a.status.page a.status.collected a.cells.now a.status.stack a.arena.now a.ends.now) a.row.now b.sound.page_state b.items b.long (λ x. set_page (printer_of a.printer) r x.page.used (argument_at 0 a.line.now) x.layout) c.set_page-new.result (λ ts x. h.is) h.limits (h.above b.sound.page_state.above)))
 
 pub returns-in-Ds : goal.returns-in-Ds
-returns-in-Ds c = let a = c.args in let b = c.requires.0 in rw (c.in-Ds.is, c.changed.ensures) (texts_moved (search rules) (search rules) (search rules) (search rules) (search rules) (changed_refines a.status a.cells.now a.arena.now a.ends.now a.store.now a.text_firsts.now a.text_seconds.now a.kinds.now a.lengths.now a.firsts.now a.seconds.now a.values.now a.steps.now a.line.now a.row.now a.printer b c.requires.1 _ _ _ _ _ (defines a.after_if a.line.now) _ c.define-answer.ensures.defines.changes))
+returns-in-Ds c = let a = c.args in let b = c.requires.0 in rw (c.in-Ds.is, c.texts_changed.ensures) (texts_moved (search rules) (search rules) (search rules) (search rules) (search rules) (changed_refines a.status a.cells.now a.arena.now a.ends.now a.store.now a.text_firsts.now a.text_seconds.now a.kinds.now a.lengths.now a.firsts.now a.seconds.now a.values.now a.steps.now a.line.now a.row.now a.printer b c.requires.1 _ _ _ _ _ (defines a.after_if a.line.now) _ c.define-answer.ensures.defines.changes))
 
 pub returns-in-If : goal.returns-in-If
 returns-in-If c = let a = c.args in let b = c.requires.0 in rw (c.in-If.is, c.moved-in-If.ensures) (page_refines (λ ts s. settles (decide (printer_of a.printer) a.line.now s) s) (whole_of a.status a.cells.now a.arena.now a.ends.now a.store.now a.text_firsts.now a.text_seconds.now a.kinds.now a.lengths.now a.firsts.now a.seconds.now a.values.now a.steps.now) _ _ _ _ b.sound c.decide-outcome.ensures)

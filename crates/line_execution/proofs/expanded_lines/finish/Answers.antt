@@ -9,7 +9,6 @@ use Rattle.fill.proofs.words.Parts.{part_zero}
 use Rattle.state.specs.Whole.{WholeState, texts_in, state_in}
 use Rattle.state.specs.WholeLaws.{page_refines, refines_as}
 use Rattle.std.specs.Prelude.{Result, Ok}
-use Rattle.rules.specs.declared.Refusal.{Refusal}
 use Rattle.line_expansion.specs.declared.Dealt.{Dealt}
 use Rattle.line_expansion.specs.declared.Dealt.TheVariants as dealt
 use Rattle.line_expansion.specs.Dealing.{keeps_in, dealt_of, DealtInvariant}
@@ -24,7 +23,7 @@ abbrev q : Start → WholeState
 q y = whole_of y.args.status y.args.cells.now y.args.arena.now y.args.ends.now y.args.store.now y.args.text_firsts.now y.args.text_seconds.now y.args.kinds.now y.args.lengths.now y.args.firsts.now y.args.seconds.now y.args.values.now y.args.steps.now
 
 -- what is known of each line
-abbrev Known : Start → Result Dealt Refusal → Type 0
+abbrev Known : Start → Result Dealt ℕ → Type 0
 Known y d = DealtInvariant y.args.status.opening.there (texts_in (q y).texts) d
 
 pub returns-in-Closes : goal.returns-in-Closes

@@ -14,7 +14,7 @@ pub returns-in-Wh : goal.returns-in-Wh
 returns-in-Wh c = let a = c.args in let b = c.requires.0 in rw (c.in-Wh.is, c.trapped.ensures) (planted_refines a.status a.cells.now a.arena.now a.ends.now a.store.now a.text_firsts.now a.text_seconds.now a.kinds.now a.lengths.now a.firsts.now a.seconds.now a.values.now a.steps.now a.line.now a.row.now a.printer b (λ s. change (printer_of a.printer) Wh a.line.now s) _ c.plant-answer.ensures)
 
 pub returns-in-Rm : goal.returns-in-Rm
-returns-in-Rm c = let a = c.args in let b = c.requires.0 in rw (c.in-Rm.is, c.changed.ensures) (texts_moved (search rules) (search rules) (search rules) (search rules) (search rules) (changed_refines a.status a.cells.now a.arena.now a.ends.now a.store.now a.text_firsts.now a.text_seconds.now a.kinds.now a.lengths.now a.firsts.now a.seconds.now a.values.now a.steps.now a.line.now a.row.now a.printer b c.requires.1 _ _ _ _ _ (λ s. change (printer_of a.printer) Rm a.line.now s) _ c.remove-answer.ensures.changes))
+returns-in-Rm c = let a = c.args in let b = c.requires.0 in rw (c.in-Rm.is, c.texts_changed.ensures) (texts_moved (search rules) (search rules) (search rules) (search rules) (search rules) (changed_refines a.status a.cells.now a.arena.now a.ends.now a.store.now a.text_firsts.now a.text_seconds.now a.kinds.now a.lengths.now a.firsts.now a.seconds.now a.values.now a.steps.now a.line.now a.row.now a.printer b c.requires.1 _ _ _ _ _ (λ s. change (printer_of a.printer) Rm a.line.now s) _ c.remove-answer.ensures.changes))
 
 pub returns-in-De : goal.returns-in-De
 returns-in-De c = let a = c.args in let b = c.requires.0 in rw (c.in-De.is, c.opened.ensures) (texts_moved (search rules) (search rules) (search rules) (search rules) (search rules) (opened_refines a.status a.cells.now a.arena.now a.ends.now a.store.now a.text_firsts.now a.text_seconds.now a.kinds.now a.lengths.now a.firsts.now a.seconds.now a.values.now a.steps.now a.line.now a.row.now a.printer b c.requires.1 _ _ _ _ _ (λ s. change (printer_of a.printer) De a.line.now s) _ _ c.open-answer.ensures.opens c.open-answer.ensures.opening))
