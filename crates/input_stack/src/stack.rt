@@ -10,6 +10,7 @@ use rules::arrays::{
     ARGUMENT_COUNT, ArgumentEnds, ITEM_HEAD, ITEM_WORDS, LINE_SIZE, LineBytes, StackBytes,
     StackEnds,
 };
+use texts::definitions::copy_in;
 
 // What a frame is, and how many bytes it has.
 #[derive(Clone, Copy, Debug, PartialEq, Eq)]
@@ -56,11 +57,10 @@ pub fn push(
     ensures { PushedTo stack arena.old ends.old what bytes.now given.now result arena.new ends.new }
 {
     let depth = stack.depth;
-    let from = depth * LINE_SIZE;
-    arena[from..from + bytes.len()].copy_from_slice(bytes);
+    copy_in(&mut *arena, depth * LINE_SIZE, bytes);
     let at = depth * ITEM_WORDS;
     put_entry(&mut *ends, at, what, bytes.len() as u16);
-    ends[at + ITEM_HEAD..at + ITEM_WORDS].copy_from_slice(given);
+    copy_in(&mut *ends, at + ITEM_HEAD, given);
     Stack { depth: depth + 1 }
 }
 
@@ -102,7 +102,7 @@ pub fn load(stack: Stack, arena: &StackBytes, ends: &StackEnds, out: &mut LineBy
     ensures { LoadedTo stack arena.now ends.now result out.new }
 {
     let bytes = top_bytes(stack, arena, ends);
-    out[..bytes.len()].copy_from_slice(bytes);
+    copy_in(&mut *out, 0, bytes);
     bytes.len()
 }
 
@@ -112,7 +112,7 @@ pub fn load_ends(stack: Stack, ends: &StackEnds, out: &mut ArgumentEnds)
     ensures { out.new ≡ top_ends stack ends.now }
 {
     let from = (stack.depth - 1) * ITEM_WORDS + ITEM_HEAD;
-    out.copy_from_slice(&ends[from..from + ARGUMENT_COUNT]);
+    copy_in(&mut *out, 0, &ends[from..from + ARGUMENT_COUNT]);
 }
 
 // The stack without the frame on top.

@@ -56,9 +56,8 @@ pub fn copy_bytes(
     if limit - written < bytes.len() {
         return Err(Refusal::LongLine);
     }
-    let end = written + bytes.len();
-    out[written..end].copy_from_slice(bytes);
-    Ok(end)
+    texts::definitions::copy_in(&mut *out, written, bytes);
+    Ok(written + bytes.len())
 }
 
 // "There \$, and ds after an if, write backslash, mark and fixed blank as \e, \& and backslash-space"

@@ -7,7 +7,7 @@ use native.Mathlib.Numerals.{add-one}
 use native.Mathlib.Omega.{arith}
 use lib.Dec.{leb, eqb}
 use lib.ListN.{length, take, drop, get_or, set, length-drop, drop_of_length-le}
-use lib.Seq.{drop-cons, take-suc-set, length-take-le}
+use lib.Seq.{drop-cons, take-suc-set, length-take-le, get_or-drop, paste, paste-suc}
 use borrow.Author.Tests.{eq-eqb, ne_eqb, le-leb, lt-leb}
 use Rattle.rules.specs.declared.Refusal.{Refusal}
 use Rattle.rules.specs.declared.Refusal.TheVariants.{BadByte, LongLine, LongDocument}
@@ -48,6 +48,12 @@ module _ (block : List ℕ) (i : ℕ) (g : List ℕ) (here : i < length block) w
 -- one more byte in the array is one more byte of the line
 pub line_put : (line : List ℕ) (n b : ℕ) → n < length line → take n line ++ b ∷ [] ≡ take (n + 1) (set line n b)
 line_put line n b h = sym (rw (add-one n) (take-suc-set line n b h))
+
+-- one more byte is copied
+pub copy_step : (d : List ℕ) (at : ℕ) (row : List ℕ) (from j : ℕ) → at + j < length d → from + j < length row
+    → set (paste d at (drop from row) j) (at + j) (get_or row (from + j) 0) ≡ paste d at (drop from row) (j + 1)
+copy_step d at row from j h k =
+    rw (← get_or-drop from row j 0, add-one j) (paste-suc d at (drop from row) j 0 h (rw (length-drop from row) (omega arith)))
 
 -- what is gathered lies behind the place where that began
 pub reach_behind : (block : List ℕ) (from : ℕ) (line : List ℕ) (start : ℕ) (r : Reach) (line' : List ℕ) → ReachedTo block from line start r line' → from ≤ r.to

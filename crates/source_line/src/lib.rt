@@ -140,12 +140,15 @@ pub fn is_inside(block: &[u8], start: usize) -> bool
     start > 0 && start <= LINE_SIZE && block.len() <= LINE_SIZE - start && are_plain(block)
 }
 
-// A block goes behind the bytes that a line has.
+// A block goes behind the bytes that a line has. This loop and the next: `copy_from_slice` would call memmove, which the C archive is
+// not to ask for.
 pub fn append(block: &[u8], line: &mut LineBytes, start: usize)
     requires { Appends block.now line.old start }
     ensures { line.new ≡ paste line.old start block.now (length block.now) }
 {
-    line[start..start + block.len()].copy_from_slice(block);
+    for (j, byte) in block.iter().enumerate() {
+        line[start + j] = *byte;
+    }
 }
 
 // As many of the waiting bytes as fit are written; how many those are.
@@ -154,6 +157,8 @@ pub fn write(row: &RowBytes, at: usize, end: usize, out: &mut [u8], from: usize)
     ensures { WrittenTo row.now at end out.old from result out.new }
 {
     let n = (end - at).min(out.len() - from);
-    out[from..from + n].copy_from_slice(&row[at..at + n]);
+    for j in 0..n {
+        out[from + j] = row[at + j];
+    }
     n
 }

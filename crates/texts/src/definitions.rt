@@ -9,12 +9,14 @@ use super::columns::Texts;
 use rules::arrays::{ByteColumn, LengthColumn, TABLE_SIZE};
 use rules::{Kind, Name, Refusal};
 
-// `text` is written at a place.
-pub fn copy_in(store: &mut [u8], at: usize, text: &[u8])
+// `text` is written at a place. A loop: `copy_from_slice` would call memmove, which the C archive is not to ask for.
+pub fn copy_in<T: Copy>(store: &mut [T], at: usize, text: &[T])
     requires { at + length text.now ≤ length store.old }
     ensures { store.new ≡ paste store.old at text.now (length text.now) }
 {
-    store[at..at + text.len()].copy_from_slice(text);
+    for (j, item) in text.iter().enumerate() {
+        store[at + j] = *item;
+    }
 }
 
 // Whether so many bytes more do not fit behind those that are used.

@@ -69,7 +69,10 @@ pub fn remove(p: Planted, place: Rows) -> Planted
     };
     let mut traps = p.traps;
     let count = p.count - 1;
-    traps[at..count].copy_from_slice(&p.traps[at + 1..p.count]);
+    // a loop: `copy_from_slice` would call memmove, which the C archive is not to ask for
+    for j in 0..count - at {
+        traps[at + j] = p.traps[at + 1 + j];
+    }
     Planted { traps, count }
 }
 

@@ -5,8 +5,8 @@ use Prim.Native.Nat.{ℕ, zero, suc, ◌+◌, ◌-◌, ◌≤◌, ◌<◌}
 use native.Mathlib.Nat.{add_assoc, zero-add}
 use native.Mathlib.Numerals.{add-one}
 use native.Mathlib.Omega.{arith}
-use lib.ListN.{length, take, drop, get_or}
-use lib.Seq.{take-add, take-take, take-nil, drop-drop, take_at, drop_at, length-take-le, paste, take-paste, drop-paste}
+use lib.ListN.{length, take, drop, get_or, set}
+use lib.Seq.{take-add, take-take, take-nil, drop-drop, take_at, drop_at, length-take-le, paste, paste-suc, take-paste, drop-paste}
 use Rattle.std.specs.List.{sum}
 use Rattle.std.proofs.lemmas.List.Sums.{sum_by-cons}
 use Rattle.texts.specs.Table.Table.{zip_with, total_length}
@@ -113,7 +113,9 @@ module _ {A : Type 0} where
     pub paste_past : (m : ℕ) → at + n ≤ m → drop m (paste d at s n) ≡ drop m d
     paste_past m l = drop_more (paste d at s n) d (at + n) m (drop-paste d at s n h k) l
 
--- bytes that are copied down
+-- one more is copied
+pub copy_step : {A : Type 0} (d : List A) (at : ℕ) (s : List A) (j : ℕ) (x : A) → at + j < length d → j < length s → x ≡ get_or s j x → set (paste d at s j) (at + j) x ≡ paste d at s (j + 1)
+copy_step d at s j x h k e = ap (set (paste d at s j) (at + j)) e ∙ paste-suc d at s j x h k ∙ ap (paste d at s) (sym (add-one j))
 
 -- sums
 
