@@ -89,11 +89,9 @@ fn is_gathered(gathered: &LineBytes, count: usize) -> bool
     if LINE_SIZE < count {
         return false;
     }
-    let odd = gathered[..count]
+    !gathered[..count]
         .iter()
-        .filter(|&&byte| odd_byte(byte))
-        .count();
-    odd == 0
+        .fold(false, |odd, &byte| odd | odd_byte(byte))
 }
 
 // Whether each item that is no text lies on a text, or at the bottom.

