@@ -136,7 +136,13 @@ pub fn take_line(
     let to = taken + got.taken;
     match got.why {
         Why::More => record::turn_after(status, after, Way::On, 0, to),
-        Why::Refused(refusal) => record::turn_after(status, after, Way::Refused(refusal.number()), 0, to),
+        Why::Refused(refusal) => record::turn_after(
+            status,
+            after,
+            Way::Refused(refusal.number()),
+            0,
+            to,
+        ),
         Why::Ended => deal_line(
             fill::words::slice(gathered, 0, after.length),
             to,

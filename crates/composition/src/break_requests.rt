@@ -41,7 +41,13 @@ fn space(
             count, layout, page, collected, planted, cells, row, stack, arena, ends, firsts,
             seconds, texts,
         ),
-        Err(refusal) => stay(Way::Refused(refusal.number()), layout, page, collected, stack),
+        Err(refusal) => stay(
+            Way::Refused(refusal.number()),
+            layout,
+            page,
+            collected,
+            stack,
+        ),
     }
 }
 

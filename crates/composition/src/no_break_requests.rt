@@ -90,6 +90,12 @@ pub fn decide(
             stay(Way::On, layout, page, collected, over)
         }
         Ok(false) => stay(Way::On, layout, page, collected, stack),
-        Err(refusal) => stay(Way::Refused(refusal.number()), layout, page, collected, stack),
+        Err(refusal) => stay(
+            Way::Refused(refusal.number()),
+            layout,
+            page,
+            collected,
+            stack,
+        ),
     }
 }

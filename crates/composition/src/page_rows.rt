@@ -77,7 +77,13 @@ pub fn settle(
 {
     match new {
         Ok(other) => stay(Way::On, other, page, collected, stack),
-        Err(refusal) => stay(Way::Refused(refusal.number()), layout, page, collected, stack),
+        Err(refusal) => stay(
+            Way::Refused(refusal.number()),
+            layout,
+            page,
+            collected,
+            stack,
+        ),
     }
 }
 

@@ -26,7 +26,13 @@ fn land(
 {
     match called {
         Ok(over) => stay(Way::On, layout, page, collected, over),
-        Err(refusal) => stay(Way::Refused(refusal.number()), layout, page, collected, stack),
+        Err(refusal) => stay(
+            Way::Refused(refusal.number()),
+            layout,
+            page,
+            collected,
+            stack,
+        ),
     }
 }
 

@@ -192,7 +192,10 @@ pub fn work(
     let opening = status.opening;
     if stack.depth == 0 {
         if opening.there {
-            return stored_lines::counted(stay(Way::Refused(Refusal::OpenMacro.number()), status), stored);
+            return stored_lines::counted(
+                stay(Way::Refused(Refusal::OpenMacro.number()), status),
+                stored,
+            );
         }
         let outcome = work_end(
             status,

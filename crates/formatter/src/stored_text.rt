@@ -163,7 +163,10 @@ pub fn read_text(
                 );
                 return super::stored_lines::counted(step, stored + 1);
             }
-            super::stored_lines::counted(stay(Way::Refused(Refusal::DeepStack.number()), status), stored)
+            super::stored_lines::counted(
+                stay(Way::Refused(Refusal::DeepStack.number()), status),
+                stored,
+            )
         }
         None => super::stored_lines::counted(
             super::stored_lines::leave(state::with_stack(status, input_stack::stack::pop(stack))),

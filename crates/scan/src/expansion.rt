@@ -124,7 +124,12 @@ fn show_register(
 const DEPTH_LIMIT: usize = 8;
 
 // A string that is named: its bytes are to be read next. "9: .. a macro named as a string".
-fn enter_string(texts: &TextsRef, name: Name, depth: usize, written: usize) -> Result<Acted, Refusal>
+fn enter_string(
+    texts: &TextsRef,
+    name: Name,
+    depth: usize,
+    written: usize,
+) -> Result<Acted, Refusal>
     ensures { EnteredTo result texts.now name depth written }
 {
     let found = texts::table::look_up(texts, name);

@@ -10,7 +10,7 @@ use Rattle.texts.specs.declared.columns.TextsRef.{TextsRef}
 use Rattle.texts.specs.declared.table.Spot.{Spot}
 use Rattle.texts.specs.Table.Table.{texts_of}
 use Rattle.texts.specs.Table.Places.{LookedUp}
-use Rattle.texts.specs.Table.Changes.{TakenOut, Appended, RemovedTo, DefinedTo, Opens, OpenedTo, KeptTo, ClosedTo}
+use Rattle.texts.specs.Table.Changes.{TakenOut, Appended, RemovedTo, DefinedTo, OpenedTo}
 
 -- the texts, as a list
 abbrev pub texts_in : Texts → List Text
@@ -84,24 +84,4 @@ pub record DefinedIn (t : Texts) (name : Name) (bytes : List ℕ) (r : Result Un
 pub record OpenedIn (t : Texts) (name : Name) (r : Result Unit Refusal) (t' : Texts) : Type 0 where
   pub opened : OpenedTo t.store.now t.firsts.now t.seconds.now t.kinds.now t.lengths.now t.count name (counted r t'.count) t'.store.now t'.firsts.now t'.seconds.now t'.kinds.now t'.lengths.now
   pub refused : OnErr r (t'.count ≡ t.count)
-  pub loans : SameLoans t t'
-
--- a body of so many bytes is open behind them
-abbrev pub OpensIn : Texts → (opened : ℕ) → Type 0
-OpensIn t o = Opens t.store.now t.lengths.now t.count o
-
--- a line is kept, and only the store is written
-pub record KeptIn (t : Texts) (opened : ℕ) (line : List ℕ) (r : Result ℕ Refusal) (t' : Texts) : Type 0 where
-  pub kept : KeptTo t.store.now t.lengths.now t.count opened line r t'.store.now
-  pub firsts : t'.firsts.now ≡ t.firsts.now
-  pub seconds : t'.seconds.now ≡ t.seconds.now
-  pub kinds : t'.kinds.now ≡ t.kinds.now
-  pub lengths : t'.lengths.now ≡ t.lengths.now
-  pub count : t'.count ≡ t.count
-  pub loans : SameLoans t t'
-
--- a macro is closed, and the store stays as it is
-pub record ClosedIn (t : Texts) (opened : ℕ) (name : Name) (t' : Texts) : Type 0 where
-  pub closed : ClosedTo t.store.now t.firsts.now t.seconds.now t.kinds.now t.lengths.now t.count opened name t'.count t'.firsts.now t'.seconds.now t'.kinds.now t'.lengths.now
-  pub store : t'.store.now ≡ t.store.now
   pub loans : SameLoans t t'
