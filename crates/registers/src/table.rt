@@ -14,15 +14,18 @@ use rules::arrays::{ByteColumn, TABLE_SIZE};
 use rules::{Name, Refusal, Register, Turn};
 use std::cmp::Ordering;
 
-// How a name stands to the one in a row. The second byte is looked at only where the first is the same, and by an `if`:
-// a search runs this for each row, and a chain by `then_with` takes twice as long there.
+// How a name stands to the one in a row. The second byte is looked at only where the first is the same, and the first by
+// two tests: a search runs this for each row, and a chain by `then_with` takes twice as long there.
 pub fn order_at(firsts: &ByteColumn, seconds: &ByteColumn, i: usize, name: Name) -> Ordering
     requires { i < 64 }
     ensures { order_of result ≡ order_at firsts.now seconds.now i name }
 {
     let first = firsts[i];
-    if name.first != first {
-        return name.first.cmp(&first);
+    if name.first < first {
+        return Ordering::Less;
+    }
+    if first < name.first {
+        return Ordering::Greater;
     }
     name.second.cmp(&seconds[i])
 }
