@@ -18,13 +18,14 @@ use traps::table::Planted;
 
 // The collected line, if there is one: its first `length` cells lie in an array of their own.
 // A flag and no Option: the C interface has words for all five fields, whether or not a line is there.
+// The length comes last, so that no bytes are left between the fields: a status, of which this is a part, is copied for each line.
 #[derive(Clone, Copy)]
 pub struct Collected {
     pub there: bool,
     pub indent: Cells,
     pub room: Cells,
-    pub length: usize,
     pub next: Cells,
+    pub length: usize,
 }
 
 // What a piece of work leads to: so many bytes of the row are to be written, then the session goes on or is closed.
