@@ -32,7 +32,7 @@ fn is_within(n: i32) -> bool
     (-1000000000..=1000000000).contains(&n)
 }
 
-// Whether the first rows of lent columns hold values and steps within ±1,000,000,000.
+// Whether the first rows of lent columns hold values and steps within ±1,000,000,000. All are looked at, so that many are at once.
 pub fn is_bounded(values: &NumberColumn, steps: &NumberColumn, count: usize) -> bool
     requires { NumberColumns values.now steps.now }
     ensures { result ≡ is_bounded values.now steps.now count }
@@ -40,10 +40,9 @@ pub fn is_bounded(values: &NumberColumn, steps: &NumberColumn, count: usize) -> 
     if TABLE_SIZE < count {
         return false;
     }
+    let mut within = true;
     for i in 0..count {
-        if !is_within(values[i]) || !is_within(steps[i]) {
-            return false;
-        }
+        within &= is_within(values[i]) & is_within(steps[i]);
     }
-    true
+    within
 }

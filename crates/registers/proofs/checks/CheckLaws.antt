@@ -1,6 +1,6 @@
 -- How the checks of lent columns go on at a row. Assumes nothing.
 use mathlib.Core.Path.{◌≡◌, refl, sym, ap, ◌∙◌}
-use mathlib.Core.Bool.{true, false, ◌&&◌}
+use mathlib.Core.Bool.{Bool, true, false, ◌&&◌}
 use mathlib.Core.List.{List, [], ◌∷◌}
 use Prim.Native.Nat.{ℕ, suc, ◌+◌, ◌-◌, ◌≤◌, ◌<◌}
 use native.Mathlib.Numerals.{add-one}
@@ -95,19 +95,22 @@ module _ (vs ts : List ℤ) (n : ℕ) (h : NumberColumns vs ts) (k : n ≤ 64) w
       ∙ ap (λ (x : ℤ × ℤ). in_bounds x.0 && in_bounds x.1 && all_within (drop (suc i) (pairs_of vs ts n))) (pairs_at i j)
       ∙ ap (λ m. in_bounds (get_or vs i (pos 0)) && in_bounds (get_or ts i (pos 0)) && all_within (drop m (pairs_of vs ts n))) (sym (add-one i))
 
-  pub within_on : (i : ℕ) → i < n → in_bounds (get_or vs i (pos 0)) ≡ true → in_bounds (get_or ts i (pos 0)) ≡ true
-      → all_within (drop i (pairs_of vs ts n)) ≡ all_within (drop (i + 1) (pairs_of vs ts n))
-  within_on i j a b = within_at i j ∙ (rw (a, b))
-
-  pub value_stop : (i : ℕ) → i < n → in_bounds (get_or vs i (pos 0)) ≡ false → all_within (drop i (pairs_of vs ts n)) ≡ false
-  value_stop i j a = within_at i j ∙ (rw a)
-
-  pub step_stop : (i : ℕ) → i < n → in_bounds (get_or vs i (pos 0)) ≡ true → in_bounds (get_or ts i (pos 0)) ≡ false → all_within (drop i (pairs_of vs ts n)) ≡ false
-  step_stop i j a b = within_at i j ∙ (rw (a, b))
+  -- the rows from i on pass, with those before, if the row at i and those behind it do
+  pub within_on : (w v t : Bool) (i : ℕ) → i < n → v ≡ in_bounds (get_or vs i (pos 0)) → t ≡ in_bounds (get_or ts i (pos 0))
+      → (w && all_within (drop i (pairs_of vs ts n))) ≡ ((w && (v && t)) && all_within (drop (i + 1) (pairs_of vs ts n)))
+  within_on w v t i j e f = ap (λ b. w && b) (within_at i j) ∙ rw (e, f) (go w (in_bounds (get_or vs i (pos 0))) (in_bounds (get_or ts i (pos 0))) (all_within (drop (i + 1) (pairs_of vs ts n))))
+    where
+      go : (w a b r : Bool) → (w && (a && b && r)) ≡ ((w && (a && b)) && r)
+      go true a b r = refl
+      go false a b r = refl
 
   pub within_end : (i : ℕ) → n ≤ i → all_within (drop i (pairs_of vs ts n)) ≡ true
   unfolding all_within
   within_end i j = let e : length (pairs_of vs ts n) ≤ i = omega (arith, pairs_length) in rw (drop_of_length-le (pairs_of vs ts n) e)
+
+pub and_nothing : (w : Bool) → (w && true) ≡ w
+and_nothing true = refl
+and_nothing false = refl
 
 pub bounded_many : (vs ts : List ℤ) (n : ℕ) → 64 < n → is_bounded vs ts n ≡ false
 bounded_many vs ts n h = rw (lt-leb n 64 h)
