@@ -319,9 +319,11 @@ fn expand_text(
     let mut n = written;
     // no `for`: the place, what may be scanned and what is written move by what an escape gave
     loop {
-        match next_escape(text, i, rest, mode, &mut *out, n, limit)? {
-            NextEscape::Over(over, filled) => return Ok(Progress::Over(over, filled)),
-            NextEscape::Escape(end, after, filled, what) => {
+        // no `?`: one match says what the escape is and that there was none
+        match next_escape(text, i, rest, mode, &mut *out, n, limit) {
+            Err(refusal) => return Err(refusal),
+            Ok(NextEscape::Over(over, filled)) => return Ok(Progress::Over(over, filled)),
+            Ok(NextEscape::Escape(end, after, filled, what)) => {
                 match carry_out(
                     what,
                     depth,

@@ -10,10 +10,10 @@ decreases-carry_out l = 2 * (8 - l.depth)
 abbrev pub decreases-expand_text : goal.decreases-expand_text
 decreases-expand_text l = 2 * (8 - l.depth) + 1
 
-abbrev pub invariant-expand_text-loop-over : goal.invariant-expand_text-loop-over
-invariant-expand_text-loop-over l =
+abbrev pub invariant-expand_text-loop-refusal : goal.invariant-expand_text-loop-refusal
+invariant-expand_text-loop-refusal l =
     Going (around l.shown l.texts l.arguments l.ends l.given) l.mode l.text l.depth l.left
     l.initial.out l.written l.limit l.initial.registers l.registers l.i l.rest l.n l.out
 
-abbrev pub decreases-expand_text-loop-over : goal.decreases-expand_text-loop-over
-decreases-expand_text-loop-over l = length l.text - l.i
+abbrev pub decreases-expand_text-loop-refusal : goal.decreases-expand_text-loop-refusal
+decreases-expand_text-loop-refusal l = length l.text - l.i
