@@ -10,12 +10,13 @@ use rules::{FIXED_BLANK, MARK, Mode, Name, Turn};
 
 // What an escape leads to: a byte is written, or a backslash and a byte; a register is shown, a string is read, an
 // argument is given, counted from 0; the line ends; or the escape is not listed, or cut short. That one is no error yet:
-// its bytes are counted first, and may be too many.
+// its bytes are counted first, and may be too many. A name stands first in both variants that have one: with one
+// place for its two bytes, what was read stays in registers.
 #[derive(Clone, Copy)]
 pub enum EscapeAction {
     Writes(u8),
     Keeps(u8),
-    Number(Turn, Name),
+    Number(Name, Turn),
     Text(Name),
     Gives(usize),
     Ends,
@@ -79,7 +80,7 @@ fn number_at(text: &[u8], at: usize, turn: Turn) -> Reading
     Reading {
         end: naming.end,
         what: match naming.name {
-            Some(name) => EscapeAction::Number(turn, name),
+            Some(name) => EscapeAction::Number(name, turn),
             None => EscapeAction::Bad,
         },
     }

@@ -28,11 +28,12 @@ fn copy_plain(
     requires { (at ≤ length text.now) × Room out.old written limit }
     ensures { CopiedTo result text.now at left written limit out.old out.new }
 {
+    let mut i = at;
     let mut rest = left;
     let mut n = written;
-    for i in at..text.len() {
-        let byte = text[i];
-        if byte == b'\\' {
+    // no `for`: the compiler makes one count of a range and of what moves with it, and takes that apart at each escape
+    while let Some(byte) = text.get(i) {
+        if *byte == b'\\' {
             return Ok(Copied {
                 at: i,
                 left: rest,
@@ -45,12 +46,13 @@ fn copy_plain(
         if limit <= n {
             return Err(Refusal::LongLine);
         }
-        out[n] = byte;
+        out[n] = *byte;
+        i += 1;
         rest -= 1;
         n += 1;
     }
     Ok(Copied {
-        at: text.len(),
+        at: i,
         left: rest,
         written: n,
     })
@@ -207,7 +209,7 @@ fn act(
             let n = super::output::put_kept(byte, &mut *out, written, limit)?;
             Ok(Acted::Wrote(n))
         }
-        EscapeAction::Number(turn, name) => show_register(
+        EscapeAction::Number(name, turn) => show_register(
             &mut *registers,
             shown,
             turn,

@@ -37,7 +37,7 @@ escape_of m e cut (b ∷ l) = read_on m (action_of m e b) (λ f c. escape_of m f
 abbrev pub action_in : EscapeAction → Action
 action_in (Writes b) = writes (b ∷ [])
 action_in (Keeps b) = writes (backslash ∷ b ∷ [])
-action_in (Number t n) = wants (number t) n
+action_in (Number n t) = wants (number t) n
 action_in (Text n) = wants a_string n
 action_in (Gives k) = gives k
 action_in Ends = ends
