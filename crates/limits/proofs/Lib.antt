@@ -13,3 +13,5 @@ pub mod Requests
 -- lines; one piece of work
 pub mod Lines
 pub mod Steps
+-- the numbers of refusals, in any state
+pub mod RefusalNumbers

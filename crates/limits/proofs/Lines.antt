@@ -40,7 +40,7 @@ scan_kept : (x : Scanned) (s : State) (k : List ℕ → State → Next) → With
 scan_kept (scanned l rs) s k h r b f = f l rs b
 scan_kept (scan_refused n rs) s k h r b f = refuse_kept (with_registers rs s) n r (registers_kept s h rs b)
 
-keep_numbered : (ts : List Text) (body l : List ℕ) → Numbered (keep_line ts body l)
+pub keep_numbered : (ts : List Text) (body l : List ℕ) → Numbered (keep_line ts body l)
 unfolding keep_line_in
 keep_numbered ts body l = search (judge_numbered, is_11)
 

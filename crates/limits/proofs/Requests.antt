@@ -89,7 +89,7 @@ module _ (p : Printer) where
   old_step None h = omega arith
   old_step (Some r) h = h.1
 
-  set_numbered : (n : Name) (v u : ℤ) (rs : List Register) → Numbered (set_value n v u rs)
+  pub set_numbered : (n : Name) (v u : ℤ) (rs : List Register) → Numbered (set_value n v u rs)
   unfolding set_value
   set_numbered n v u rs = search (judge_numbered, is_11)
 
@@ -120,7 +120,7 @@ module _ (p : Printer) where
   holds_if_numbered true page b l = after_numbered (simply_holds p page l) _ (simply_numbered page l) (λ v. tt)
   holds_if_numbered false page b l = simply_numbered page (b ∷ l)
 
-  holds_numbered : (page : ℕ) (l : List ℕ) → Numbered (holds p page l)
+  pub holds_numbered : (page : ℕ) (l : List ℕ) → Numbered (holds p page l)
   unfolding holds
   holds_numbered page [] = is_6
   holds_numbered page (b ∷ l) = holds_if_numbered (eqb b (byte "!")) page b l

@@ -17,7 +17,7 @@ use Rattle.limits.proofs.Numbered.{cells_numbered, rows_numbered, units_numbered
 use Rattle.limits.proofs.Fair.{Fair, fine, refusal, fair, fair_any, fair_of, fair_judge}
 
 -- a value in a range is between its ends
-range_fair : (low high : ℕ) (z : ℤ) → Fair (λ n. (low ≤ n) × (n ≤ high)) (in_range low high z)
+pub range_fair : (low high : ℕ) (z : ℤ) → Fair (λ n. (low ≤ n) × (n ≤ high)) (in_range low high z)
 range_fair low high (pos n) =
     fair_judge (leb low n && leb n high) 7 n is_7 (λ h. let t = both (leb low n) (leb n high) h in (leb-true low n t.0, leb-true n high t.1))
 range_fair low high (negsuc n) = refusal is_7

@@ -8,3 +8,5 @@ pub mod Turns
 pub mod Refusing
 -- a call that takes its block into the source line that is being taken, and does no more
 pub mod Inside
+-- a way that is refused has the number of one of the twelve
+pub mod Ways
